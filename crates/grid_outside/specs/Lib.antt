@@ -1,0 +1,9 @@
+pub mod Ambient
+pub mod Device
+pub mod Disk
+pub mod DiskModel
+pub mod Fault
+pub mod Files
+pub mod Sink
+pub mod Source
+pub mod StoreModel

@@ -1,0 +1,14 @@
+-- What a source has left.
+use Rattle.std.specs.Prelude.{◌≡◌, ◌⊎◌, ℕ, Bool, List, [], ◌++◌, length, take}
+
+pub record SourceState : Type 0 where
+  -- how often it has failed
+  pub faults : ℕ
+  -- whether it tells what is left, and what is left where it tells
+  pub tells : Bool
+  pub left : List ℕ
+
+-- A read took a first part of what was left, and nothing only at the end or for an empty buffer.
+pub record Takes (old : List ℕ) (count : ℕ) (buf new : List ℕ) : Type 0 where
+  pub split : old ≡ take count buf ++ new
+  pub at_end : count ≡ 0 → (old ≡ []) ⊎ (length buf ≡ 0)
