@@ -1,0 +1,93 @@
+-- The definitions of requests, replies and the catalogue on worked examples.
+use Rattle.std.proofs.Common.{◌≡◌, true, false, List, [], ◌∷◌, ◌++◌, Some, None, Ok, Err, refl}
+use Rattle.std.specs.Prelude.{codes}
+use Rattle.grid_model.specs.Names.{Text, Path}
+use Rattle.grid_model.specs.Grid.{start, home_of}
+use Rattle.grid_model.specs.Lines.{lines, whole_lines, requests, whole_requests}
+use Rattle.grid_model.specs.Commands.{State, Done, command}
+use Rattle.grid_model.specs.Replies.{print_answer}
+use Rattle.grid_model.specs.Catalogue.{first_line, path_line, kept_lines}
+use Rattle.grid_model.specs.declared.requests.Verb.TheVariants.{Login, MkDir}
+use Rattle.grid_model.specs.declared.replies.Refusal.TheVariants.{NotBuilt, NoUser, NoLogin, NoCollection, Exists}
+
+-- ---- lines
+
+-- an empty line is a line and no request
+two_requests : requests (codes "ab\n\nc\n") ≡ codes "ab" ∷ codes "c" ∷ []
+two_requests = refl
+
+-- the last line needs no newline
+an_unended_line : requests (codes "ab\nc") ≡ codes "ab" ∷ codes "c" ∷ []
+an_unended_line = refl
+
+-- but it is not whole without one
+a_whole_line : whole_requests (codes "ab\nc") ≡ codes "ab" ∷ []
+a_whole_line = refl
+
+no_lines : lines [] ≡ []
+no_lines = refl
+
+one_empty_line : lines (codes "\n") ≡ [] ∷ []
+one_empty_line = refl
+
+-- ---- commands, in the order of their refusals
+
+abbrev zone : Text
+zone = codes "tempZone"
+
+abbrev admin : Text
+admin = codes "rods"
+
+abbrev at_first : State
+at_first = record { grid = start zone admin; logged_in = false }
+
+abbrev logged_in : State
+logged_in = record { grid = start zone admin; logged_in = true }
+
+abbrev below_home : Path
+below_home = zone ∷ codes "home" ∷ admin ∷ codes "a" ∷ []
+
+abbrev too_deep : Path
+too_deep = zone ∷ codes "home" ∷ admin ∷ codes "b" ∷ codes "c" ∷ []
+
+nothing_built : (command at_first None).answer ≡ Err NotBuilt
+nothing_built = refl
+
+another_user : (command at_first (Some (Login zone))).answer ≡ Err NoUser
+another_user = refl
+
+the_admin : command at_first (Some (Login admin)) ≡ record { state = logged_in; made = None; answer = Ok tt }
+the_admin = refl
+
+nobody_logged_in : (command at_first (Some (MkDir below_home))).answer ≡ Err NoLogin
+nobody_logged_in = refl
+
+made : (command logged_in (Some (MkDir below_home))).made ≡ Some below_home
+made = refl
+
+-- it is there for the next request
+made_twice : (command (command logged_in (Some (MkDir below_home))).state (Some (MkDir below_home))).answer ≡ Err Exists
+made_twice = refl
+
+no_parent : (command logged_in (Some (MkDir too_deep))).answer ≡ Err NoCollection
+no_parent = refl
+
+-- the root has no parent, and is there
+the_root : (command logged_in (Some (MkDir []))).answer ≡ Err Exists
+the_root = refl
+
+-- ---- replies
+
+an_answer : print_answer (Ok tt) ≡ codes "ok"
+an_answer = refl
+
+a_refusal : print_answer (Err NoCollection) ≡ codes "err NoCollection"
+a_refusal = refl
+
+-- ---- the catalogue
+
+the_first_line : first_line zone admin ≡ codes "Z /tempZone/home/rods\n"
+the_first_line = refl
+
+a_kept_line : kept_lines (command at_first (Some (Login admin)) ∷ command logged_in (Some (MkDir below_home)) ∷ []) ≡ codes "C /tempZone/home/rods/a\n"
+a_kept_line = refl

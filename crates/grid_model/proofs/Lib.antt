@@ -1,0 +1,11 @@
+pub mod Below
+pub mod Comparing
+pub mod Fronts
+pub mod GridExamples
+pub mod MapLemmas
+pub mod NameSpelling
+pub mod PathExamples
+pub mod PathReading
+pub mod PathSpelling
+pub mod Refusals
+pub mod WordExamples

@@ -1,0 +1,11 @@
+pub mod Catalogue
+pub mod Commands
+pub mod Grid
+pub mod Limits
+pub mod Lines
+pub mod Maps
+pub mod Names
+pub mod Places
+pub mod Replies
+pub mod Requests
+pub mod Words

@@ -1,0 +1,40 @@
+-- Finite maps and sets as values that compute, and are equal wherever they answer alike.
+use Rattle.std.specs.Prelude.{◌≡◌, Bool, true, false, T, List, [], Option, is_some, refl, ⊤}
+use Rattle.std.specs.Bool.{passes}
+use Rattle.std.specs.declared.cmp.Ordering.{Ordering}
+use Rattle.std.specs.FinMap.{find, put as put_entry, is_sorted}
+
+-- entries whose keys strictly rise in the order R
+pub record Map {K : Type 0} (R : K → K → Ordering) (X : Type 0) : Type 0 where
+  pub entries : List (K × X)
+  pub sorted : T (is_sorted R entries)
+
+module _ {K X : Type 0} {R : K → K → Ordering} where
+  -- nothing at any key
+  abbrev pub empty : Map R X
+  empty = record { entries = []; sorted = tt }
+
+  -- the entries where they are in order, and else the map m
+  abbrev pub if_sorted : (es : List (K × X)) (b : Bool) → is_sorted R es ≡ b → Map R X → Map R X
+  if_sorted es true sorted m = record { entries = es; sorted = passes (is_sorted R es) sorted }
+  if_sorted es false unsorted m = m
+
+  -- the value at the key
+  abbrev pub get : Map R X → K → Option X
+  get m k = find R k m.entries
+
+  -- whether there is one
+  abbrev pub has : Map R X → K → Bool
+  has m k = is_some (get m k)
+
+  -- m with this value at the key
+  abbrev pub put : Map R X → K → X → Map R X
+  put m k x = if_sorted (put_entry R k x m.entries) (is_sorted R (put_entry R k x m.entries)) refl m
+
+-- a finite set
+abbrev pub Set : {K : Type 0} → (K → K → Ordering) → Type 0
+Set R = Map R ⊤
+
+-- the set with this element
+abbrev pub add : {K : Type 0} {R : K → K → Ordering} → Set R → K → Set R
+add s k = put s k tt
