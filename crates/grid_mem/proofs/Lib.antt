@@ -1,0 +1,13 @@
+pub mod DiskLeaving
+pub mod DiskRules
+pub mod FileLists
+pub mod Giving
+pub mod Knowing
+pub mod Outcomes
+pub mod Recording
+pub mod Replaying
+pub mod Settling
+pub mod SinkLeaving
+pub mod StoreLeaving
+pub mod StoreRules
+pub mod StoreTaking

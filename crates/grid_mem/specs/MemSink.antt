@@ -1,0 +1,22 @@
+-- What a sink in memory means, and what contracts see of it.
+use Rattle.std.specs.Prelude.{List, ℕ, Vec, true}
+use Rattle.std.specs.declared.alloc.Global.{Global}
+use Rattle.grid_outside.specs.Sink.{SinkState}
+use Rattle.grid_mem.specs.Calls.{History}
+use Rattle.grid_mem.specs.declared.mem_sink.MemSink.{MemSink}
+use Rattle.grid_mem.specs.declared.schedule.Schedule.{Schedule}
+use Rattle.grid_mem.specs.Recorded.{state_of}
+use Rattle.grid_mem.specs.SinkCalls.{sink_kind}
+use Rattle.grid_mem.specs.SinkLaws.{sink_laws}
+
+-- its meaning as a sink
+unfoldable pub sink_of : MemSink → SinkState
+sink_of s = state_of sink_kind sink_laws true s.faults s.last s.start.items s.bytes.items s.calls.items s.valid s.same
+
+-- the bytes at the start, and the puts since, each by its bytes
+abbrev pub history_of : MemSink → History (Vec ℕ Global) (List ℕ)
+history_of s = record { start = s.start.items; calls = s.calls.items }
+
+-- which calls fail
+abbrev pub schedule_of : MemSink → Schedule
+schedule_of s = s.schedule
