@@ -1,0 +1,4 @@
+pub mod LineReading
+pub mod OneReading
+pub mod QuotedWords
+pub mod Steps

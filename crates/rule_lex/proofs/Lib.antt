@@ -1,0 +1,11 @@
+pub mod Firsts
+pub mod KindLemmas
+pub mod Lifting
+pub mod SignLemmas
+pub mod WordLemmas
+pub mod NumberLemmas
+pub mod SkipLemmas
+pub mod QuoteLemmas
+pub mod LexLemmas
+pub mod OneReading
+pub mod SpanLemmas

@@ -1,0 +1,9 @@
+pub mod Bytes
+pub mod Fronts
+pub mod Places
+pub mod Quotes
+pub mod Seen
+pub mod Skipping
+pub mod Spans
+pub mod Symbols
+pub mod Tokens
