@@ -1,0 +1,5 @@
+pub mod Blocks
+pub mod Extent
+pub mod Log
+pub mod Records
+pub mod Steps
