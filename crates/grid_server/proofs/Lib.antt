@@ -1,0 +1,13 @@
+pub mod CatalogueLemmas
+pub mod CommandLemmas
+pub mod DoneLemmas
+pub mod HeldLemmas
+pub mod InputLemmas
+pub mod LineLemmas
+pub mod RequestLemmas
+pub mod RunLemmas
+pub mod ServedLemmas
+pub mod ServerLemmas
+pub mod StandsLemmas
+pub mod TaskLemmas
+pub mod TurnLemmas

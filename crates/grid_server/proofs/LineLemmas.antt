@@ -1,0 +1,198 @@
+-- Lines, and what is held of them.
+use Rattle.std.proofs.Common.{◌≡◌, ◌≢◌, ◌⊎◌, inl, inr, ℕ, suc, Option, Some, None, get_or, ◌+◌, ◌-◌, ◌<◌, ◌≤◌, min, List, [], ◌∷◌, ◌++◌, length, take, drop, arith, refl, sym, subst, ap, ◌∙◌, append_assoc, length-append, length-take, take-take, ◌^◌, IsTrue}
+use Rattle.std.proofs.lemmas.Bool.{cases_lt}
+use Rattle.std.proofs.lemmas.List.{take_all, drop-take, drop-drop, take-append-le, append-nil}
+use Rattle.std.proofs.Math.Seq.{take-append-add}
+use Rattle.std.proofs.lemmas.Bool.Decides.{nat_tests}
+use Rattle.std.specs.List.{position, position_or_len}
+use Rattle.grid_outside.proofs.Spans.{nat_cases}
+use Rattle.grid_model.specs.Lines.{IsLine}
+use Rattle.grid_outside.specs.Source.{SourceState}
+use Rattle.grid_server.specs.Reading.{is_newline, Reader, Took, TookAll, ReadsLine, ReadsPart}
+use Rattle.grid_server.specs.declared.line_reader.Ended.TheVariants as ended
+
+-- as many as there is room for, or all
+take-min : (n : ℕ) (xs : List ℕ) → take n xs ≡ take (min n (length xs)) xs
+take-min n xs = elim (cases_lt n (length xs)) [
+  | inl lt ↦ let e : n ≡ min n (length xs) = omega arith in ap (λ (k : ℕ). take k xs) e
+  | inr le ↦ let e : length xs ≡ min n (length xs) = omega arith in take_all n xs le ∙ sym (take_all (length xs) xs (omega arith)) ∙ ap (λ (k : ℕ). take k xs) e
+]
+
+-- what is held of a line, and more of it
+pub take-more : (n : ℕ) (xs ys : List ℕ) → length xs ≤ n → take n (xs ++ ys) ≡ xs ++ take (min (n - length xs) (length ys)) ys
+take-more n xs ys le =
+    let e : n ≡ length xs + (n - length xs) = omega arith in
+    ap (λ (k : ℕ). take k (xs ++ ys)) e ∙ take-append-add xs ys (n - length xs) ∙ ap (λ (zs : List ℕ). xs ++ zs) (take-min (n - length xs) ys)
+
+pub IsLine-append : (a b : List ℕ) → IsLine a → IsLine b → IsLine (a ++ b)
+IsLine-append [] b first second = second
+IsLine-append (x ∷ a) b first second = (first.0, IsLine-append a b first.1 second)
+
+-- ---- the first newline
+
+step_newline : (x : ℕ) (xs : List ℕ) → x ≡ 10 → position_or_len is_newline (x ∷ xs) ≡ 0
+step_newline x xs e = grind (arith, nat_tests)
+
+step_other : (x : ℕ) (xs : List ℕ) → x ≢ 10 → position_or_len is_newline (x ∷ xs) ≡ suc (position_or_len is_newline xs)
+step_other x xs other = let e : 1 + position_or_len is_newline xs ≡ suc (position_or_len is_newline xs) = omega arith in grind (arith, nat_tests)
+
+-- before the first newline there is none
+pub line_before : (bs : List ℕ) → IsLine (take (position_or_len is_newline bs) bs)
+line_before [] = tt
+line_before (x ∷ xs) =
+    let P : ℕ → Type 0 = λ n. IsLine (take n (x ∷ xs)) in
+    elim (nat_cases x 10) [
+      | inl e ↦ subst P (sym (step_newline x xs e)) tt
+      | inr other ↦ subst P (sym (step_other x xs other)) (other, line_before xs)
+    ]
+
+-- and behind it the rest begins
+pub newline_splits : (bs : List ℕ) → position_or_len is_newline bs < length bs → bs ≡ take (position_or_len is_newline bs) bs ++ 10 ∷ drop (suc (position_or_len is_newline bs)) bs
+newline_splits [] lt = absurd (omega arith)
+newline_splits (x ∷ xs) lt =
+    let P : ℕ → Type 0 = λ n. x ∷ xs ≡ take n (x ∷ xs) ++ 10 ∷ drop (suc n) (x ∷ xs) in
+    elim (nat_cases x 10) [
+      | inl e ↦ subst P (sym (step_newline x xs e)) (ap (λ (b : ℕ). b ∷ xs) e)
+      | inr other ↦
+          let shorter : position_or_len is_newline xs < length xs = omega (arith, step_other x xs other) in
+          subst P (sym (step_other x xs other)) (ap (λ (ys : List ℕ). x ∷ ys) (newline_splits xs shorter))
+    ]
+
+-- what a first newline found says
+pub found_newline : (bs : List ℕ) (n : ℕ) → position is_newline bs ≡ Some n → (position_or_len is_newline bs ≡ n) × (n < length bs)
+found_newline bs n e = elim (cases_lt (position_or_len is_newline bs) (length bs)) [
+  | inl lt ↦
+      let is : position is_newline bs ≡ Some (position_or_len is_newline bs) = grind (arith, nat_tests) in
+      let same : position_or_len is_newline bs ≡ n = cc in (same, omega arith)
+  | inr le ↦ let is : position is_newline bs ≡ None = grind (arith, nat_tests) in absurd (cc)
+]
+
+pub no_newline : (bs : List ℕ) → position is_newline bs ≡ None → IsLine bs
+no_newline bs e = elim (cases_lt (position_or_len is_newline bs) (length bs)) [
+  | inl lt ↦ let is : position is_newline bs ≡ Some (position_or_len is_newline bs) = grind (arith, nat_tests) in absurd (cc)
+  | inr le ↦ subst IsLine (take_all (position_or_len is_newline bs) bs le) (line_before bs)
+]
+
+pub line_found : (bs : List ℕ) (n : ℕ) → position is_newline bs ≡ Some n → IsLine (take n bs)
+line_found bs n e = let P : ℕ → Type 0 = λ k. IsLine (take k bs) in subst P (found_newline bs n e).0 (line_before bs)
+
+pub rest_found : (bs : List ℕ) (n : ℕ) → position is_newline bs ≡ Some n → bs ≡ take n bs ++ 10 ∷ drop (suc n) bs
+rest_found bs n e =
+    let found = found_newline bs n e in
+    let P : ℕ → Type 0 = λ k. bs ≡ take k bs ++ 10 ∷ drop (suc k) bs in
+    subst P found.0 (newline_splits bs (omega (arith, found.0, found.1)))
+
+pub found_rest : (bs : List ℕ) (n : ℕ) → position is_newline bs ≡ Some n → bs ≡ take n bs ++ 10 ∷ drop (n + 1) bs
+found_rest bs n e = let one : suc n ≡ n + 1 = omega arith in rest_found bs n e ∙ ap (λ (k : ℕ). take n bs ++ 10 ∷ drop k bs) one
+
+-- ---- one byte
+
+pub one_taken : (buf left new : List ℕ) (n : ℕ) → length buf ≡ 1 → n ≤ length buf → n ≢ 0 → left ≡ take n buf ++ new → left ≡ get_or buf 0 0 ∷ new
+one_taken [] left new n one le some e = absurd (omega arith)
+one_taken (b ∷ buf) left new n one le some e =
+    let is : n ≡ 1 = omega arith in
+    e ∙ ap (λ (k : ℕ). take k (b ∷ buf) ++ new) is
+
+-- what is left of a block behind a line of n bytes and its newline
+pub rest_behind : (s e n : ℕ) (xs : List ℕ) → s + (n + 1) ≤ e → drop (suc n) (take (e - s) (drop s xs)) ≡ take (e - (s + (n + 1))) (drop (s + (n + 1)) xs)
+rest_behind s e n xs le =
+    let size : e - s ≡ suc n + (e - (s + (n + 1))) = omega arith in
+    let places : s + (n + 1) ≡ s + suc n = omega arith in
+    ap (λ (k : ℕ). drop (suc n) (take k (drop s xs))) size ∙ drop-take (suc n) (e - (s + (n + 1))) (drop s xs)
+    ∙ ap (λ (ys : List ℕ). take (e - (s + (n + 1))) ys) (drop-drop (suc n) s xs ∙ ap (λ (k : ℕ). drop k xs) (sym places))
+
+-- ---- the reading of one line, part by part
+
+-- so far
+pub record PartRead (old now : Reader) (from to : SourceState) (holds : List ℕ) : Type 0 where
+  pub got : List ℕ
+  pub part : List ℕ
+  pub is : IsLine part
+  pub split : old.unread ++ got ≡ part ++ now.unread
+  pub held : holds ≡ take 4097 part
+  pub took : Took got from to
+  pub taken : now.taken ≡ old.taken + length got
+  pub most : now.taken ≤ 2 ^ 48
+
+pub none_read : (old : Reader) (from : SourceState) → old.taken ≤ 2 ^ 48 → PartRead old old from from []
+none_read old from most = record { got = []; part = []; is = tt; split = append-nil old.unread; held = refl; took = λ tells. refl; taken = omega arith; most = most }
+
+-- what is held of one part after another
+held_more : (n : ℕ) (xs ys : List ℕ) → take n (take n xs ++ ys) ≡ take n (xs ++ ys)
+held_more n xs ys = elim (cases_lt n (length xs)) [
+  | inl lt ↦
+      take-append-le n (take n xs) ys (omega (arith, length-take n xs)) ∙ take-take n n xs (omega arith) ∙ sym (take-append-le n xs ys (omega arith))
+  | inr le ↦ ap (λ (zs : List ℕ). take n (zs ++ ys)) (take_all n xs le)
+]
+
+module _ (old now : Reader) (from to : SourceState) (holds : List ℕ) (so_far : PartRead old now from to holds) where
+  -- the rest of the block, and a block more
+  pub more_read : (mid new : Reader) (last : SourceState) (held_now : List ℕ) → to.tells ≡ from.tells → IsLine now.unread → held_now ≡ take 4097 (holds ++ now.unread)
+      → mid.taken ≡ now.taken → Took new.unread to last → new.taken ≡ mid.taken + length new.unread → new.taken ≤ 2 ^ 48 → PartRead old new from last held_now
+  more_read mid new last held_now tells is held same took taken most = record {
+    got = so_far.got ++ new.unread;
+    part = so_far.part ++ now.unread;
+    is = IsLine-append so_far.part now.unread so_far.is is;
+    split = sym (append_assoc old.unread so_far.got new.unread) ∙ ap (λ (xs : List ℕ). xs ++ new.unread) so_far.split;
+    held = held ∙ ap (λ (xs : List ℕ). take 4097 (xs ++ now.unread)) so_far.held ∙ held_more 4097 so_far.part now.unread;
+    took = λ told. so_far.took told ∙ ap (λ (xs : List ℕ). so_far.got ++ xs) (took (subst IsTrue (sym tells) told)) ∙ sym (append_assoc so_far.got new.unread last.left);
+    taken = omega (arith, so_far.taken, same, taken, length-append so_far.got new.unread);
+    most = most;
+  }
+
+  -- a newline was found
+  pub line_read : (new : Reader) (line held_now : List ℕ) → IsLine line → now.unread ≡ line ++ 10 ∷ new.unread → held_now ≡ take 4097 (holds ++ line) → new.taken ≡ now.taken
+      → ReadsLine old ended.Line new from to held_now
+  line_read new line held_now is split held same = record {
+    got = so_far.got;
+    line = so_far.part ++ line;
+    is = IsLine-append so_far.part line so_far.is is;
+    held = held ∙ ap (λ (xs : List ℕ). take 4097 (xs ++ line)) so_far.held ∙ held_more 4097 so_far.part line;
+    ends = (
+      so_far.split ∙ ap (λ (xs : List ℕ). so_far.part ++ xs) split ∙ sym (append_assoc so_far.part line (10 ∷ new.unread)),
+      so_far.took,
+      omega (arith, so_far.taken, same),
+      omega (arith, so_far.most, same),
+    );
+  }
+
+  -- nothing was left behind the rest of the block
+  pub end_read : (mid new : Reader) (last : SourceState) (held_now : List ℕ) → to.tells ≡ from.tells → IsLine now.unread → held_now ≡ take 4097 (holds ++ now.unread)
+      → mid.taken ≡ now.taken → mid.unread ≡ [] → new ≡ mid → TookAll [] to last → ReadsLine old ended.End new from last held_now
+  end_read mid new last held_now tells is held same empty stays took = record {
+    got = so_far.got;
+    line = so_far.part ++ now.unread;
+    is = IsLine-append so_far.part now.unread so_far.is is;
+    held = held ∙ ap (λ (xs : List ℕ). take 4097 (xs ++ now.unread)) so_far.held ∙ held_more 4097 so_far.part now.unread;
+    ends = (
+      so_far.split,
+      ap (λ r. r.unread) stays ∙ empty,
+      (λ told. let all = took (subst IsTrue (sym tells) told) in (so_far.took told ∙ ap (λ (xs : List ℕ). so_far.got ++ xs) all.0 ∙ append-nil so_far.got, all.1)),
+      omega (arith, so_far.taken, same, ap (λ r. r.taken) stays),
+      omega (arith, so_far.most, same, ap (λ r. r.taken) stays),
+    );
+  }
+
+  -- a byte past the last that is read
+  pub past_read : (mid new : Reader) (last : SourceState) (held_now : List ℕ) (byte : ℕ) → to.tells ≡ from.tells → IsLine now.unread → held_now ≡ take 4097 (holds ++ now.unread)
+      → mid.taken ≡ now.taken → new.unread ≡ [] → Took (byte ∷ []) to last → mid.taken ≡ 2 ^ 48 → ReadsLine old ended.Long new from last held_now
+  past_read mid new last held_now byte tells is held same empty took full = record {
+    got = so_far.got;
+    line = so_far.part ++ now.unread;
+    is = IsLine-append so_far.part now.unread so_far.is is;
+    held = held ∙ ap (λ (xs : List ℕ). take 4097 (xs ++ now.unread)) so_far.held ∙ held_more 4097 so_far.part now.unread;
+    ends = (
+      so_far.split,
+      empty,
+      (byte, λ told. so_far.took told ∙ ap (λ (xs : List ℕ). so_far.got ++ xs) (took (subst IsTrue (sym tells) told)) ∙ sym (append_assoc so_far.got (byte ∷ []) last.left)),
+      omega (arith, so_far.taken, same, full),
+    );
+  }
+
+  -- the source failed behind the rest of the block
+  pub part_read : (last : SourceState) → to.tells ≡ from.tells → IsLine now.unread → (IsTrue to.tells → last.left ≡ to.left) → ReadsPart old from last
+  part_read last tells is stays = record {
+    got = so_far.got;
+    is = subst IsLine (sym so_far.split) (IsLine-append so_far.part now.unread so_far.is is);
+    took = λ told. so_far.took told ∙ ap (λ (xs : List ℕ). so_far.got ++ xs) (sym (stays (subst IsTrue (sym tells) told)));
+  }

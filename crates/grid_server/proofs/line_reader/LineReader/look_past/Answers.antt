@@ -1,0 +1,11 @@
+use Rattle.std.proofs.Common.{◌≡◌, ◌≢◌, ℕ, get_or, arith, ap, ◌∙◌, refl}
+use Rattle.grid_server.proofs.LineLemmas.{one_taken}
+use Rattle.grid_server.proofs.line_reader.LineReader.look_past.Goals as goal
+
+pub returns-clause-fills : goal.returns-clause-fills
+returns-clause-fills g c = (
+  ap (λ r. r.unread) c.self.view_is ∙ c.requires.empty,
+  (get_or c.read.new.buf 0 0, λ tells. one_taken c.read.new.buf _ _ c.in_ok-read.field-0 (omega (arith, c.read.auto.buf)) c.in_ok-read.ensures.count c.if-branch-eq0.false (c.in_ok-read.ensures.takes tells).split),
+  c.requires.most,
+  omega (arith, ap (λ r. r.taken) c.self.view_is, c.requires.most),
+)

@@ -1,0 +1,78 @@
+-- What the answering of one request leaves.
+use Rattle.std.specs.Prelude.{◌≡◌, ◌≢◌, ◌⊎◌, ℕ, ◌+◌, ◌<◌, ◌≤◌, List, ◌++◌, length, Option, Some, None, Result, Ok, Err, IsTrue, ⊤}
+use Rattle.grid_outside.specs.Device.{DeviceState}
+use Rattle.grid_outside.specs.Disk.{DiskState}
+use Rattle.grid_outside.specs.Sink.{SinkState}
+use Rattle.grid_model.specs.Names.{Text, Path}
+use Rattle.grid_model.specs.Commands.{State, Done, command, with_collection}
+use Rattle.grid_model.specs.Requests.{Asks}
+use Rattle.grid_model.specs.Replies.{reply, AddsFirst}
+use Rattle.grid_model.specs.Catalogue.{path_line, kept_line, longest_catalogue}
+use Rattle.grid_model.specs.declared.requests.Verb.{Verb}
+use Rattle.grid_server.specs.declared.server.Server.{Server}
+use Rattle.grid_server.specs.declared.server.Stop.{Stop}
+use Rattle.grid_server.specs.declared.server.Stop.TheVariants.{Disk, Sink, Memory, Worn}
+use Rattle.grid_server.specs.Held.{grid_of}
+
+abbrev pub state_of : Server → State
+state_of s = record { grid = grid_of s.grid; logged_in = s.logged_in }
+
+-- the device holds what it held, and this behind it
+abbrev pub Adds : Text → DeviceState (List ℕ) → DeviceState (List ℕ) → Type 0
+Adds text old new = IsTrue old.tells → new.holds ≡ old.holds ++ text
+
+-- the device holds what it held
+abbrev pub Stays : DeviceState (List ℕ) → DeviceState (List ℕ) → Type 0
+Stays old new = IsTrue old.tells → new.holds ≡ old.holds
+
+-- behind what was held are no more bytes than these, whatever they are
+pub record Trails (text old new : List ℕ) : Type 0 where
+  pub tail : List ℕ
+  pub short : length tail ≤ length text
+  pub is : new ≡ old ++ tail
+
+abbrev pub AddsTail : Text → DeviceState (List ℕ) → DeviceState (List ℕ) → Type 0
+AddsTail text old new = IsTrue old.tells → Trails text old.holds new.holds
+
+-- a collection was made, or why not
+abbrev pub Makes : Server → Path → DiskState → DiskState → Result ⊤ Stop → Server → Type 0
+Makes old p main_old main_new (Ok done) new = (state_of new ≡ record (state_of old) { grid = with_collection (grid_of old.grid) p })
+    × (new.size ≡ old.size + length (path_line p)) × (old.size ≤ longest_catalogue) × Adds (path_line p) main_old main_new
+Makes old p main_old main_new (Err Disk) new = (old.size ≤ longest_catalogue) × AddsTail (path_line p) main_old main_new
+Makes old p main_old main_new (Err Sink) new = ⊥
+Makes old p main_old main_new (Err Memory) new = Stays main_old main_new
+Makes old p main_old main_new (Err (Worn place)) new = (place ≡ old.size) × (longest_catalogue < place) × Stays main_old main_new
+
+-- what a request did is kept, or why not
+abbrev pub Keeps : Server → Done → DiskState → DiskState → Result ⊤ Stop → Server → Type 0
+Keeps old d main_old main_new (Ok done) new = (state_of new ≡ d.state) × (new.size ≡ old.size + length (kept_line d))
+    × ((d.made ≡ None) ⊎ (old.size ≤ longest_catalogue)) × Adds (kept_line d) main_old main_new
+Keeps old d main_old main_new (Err Disk) new = (d.made ≢ None) × (old.size ≤ longest_catalogue) × AddsTail (kept_line d) main_old main_new
+Keeps old d main_old main_new (Err Sink) new = ⊥
+Keeps old d main_old main_new (Err Memory) new = Stays main_old main_new
+Keeps old d main_old main_new (Err (Worn place)) new = (d.made ≢ None) × (place ≡ old.size) × (longest_catalogue < place) × Stays main_old main_new
+
+-- a line asked for something, and did this
+pub record Did (s : State) (line : Text) (d : Done) : Type 0 where
+  pub verb : Option Verb
+  pub asks : Asks line verb
+  pub is : d ≡ command s verb
+
+-- the request was done and kept
+pub record Kept (old : Server) (line : Text) (main_old main_new : DiskState) (new : Server) (d : Done) : Type 0 where
+  pub did : Did (state_of old) line d
+  pub state : state_of new ≡ d.state
+  pub size : new.size ≡ old.size + length (kept_line d)
+  pub room : (d.made ≡ None) ⊎ (old.size ≤ longest_catalogue)
+  pub main : Adds (kept_line d) main_old main_new
+
+-- A request was answered, or how far it came.
+abbrev pub Answers : Server → Text → ℕ → DiskState → DiskState → SinkState → SinkState → Result ⊤ Stop → Server → Type 0
+Answers old line n main_old main_new sink_old sink_new (Ok done) new = (d : Done) × Kept old line main_old main_new new d × Adds (reply n d.answer) sink_old sink_new
+Answers old line n main_old main_new sink_old sink_new (Err Sink) new = (d : Done) × Kept old line main_old main_new new d
+    × (IsTrue sink_old.tells → AddsFirst (reply n d.answer) sink_old.holds sink_new.holds)
+Answers old line n main_old main_new sink_old sink_new (Err Disk) new = (d : Done) × Did (state_of old) line d × (d.made ≢ None) × (old.size ≤ longest_catalogue)
+    × AddsTail (kept_line d) main_old main_new × Stays sink_old sink_new
+Answers old line n main_old main_new sink_old sink_new (Err Memory) new = Stays main_old main_new × Stays sink_old sink_new
+Answers old line n main_old main_new sink_old sink_new (Err (Worn place)) new = (d : Done) × Did (state_of old) line d × (d.made ≢ None) × (place ≡ old.size)
+    × (longest_catalogue < place) × Stays main_old main_new × Stays sink_old sink_new

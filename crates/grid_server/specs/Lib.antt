@@ -1,0 +1,11 @@
+pub mod Answering
+pub mod Asking
+pub mod Catalogue
+pub mod Held
+pub mod Reading
+pub mod Requests
+pub mod Running
+pub mod Serving
+pub mod Starting
+pub mod Tasks
+pub mod Turning
