@@ -1,0 +1,104 @@
+ghost use Rattle.std.specs.Io.{ReadsAtMost};
+
+use std::fs::{File, OpenOptions};
+use std::io;
+use std::os::unix::fs::FileExt;
+
+/// A file of the folder in which the program was started, which is opened when it is first needed, and made then if
+/// it is missing.
+///
+/// It is synced with its folder before its first use, so that nothing of an earlier run is pending. Where that
+/// fails, and after a sync that failed, every call fails.
+#[derive(Drop)]
+pub struct LazyFile {
+    rt: HostRuntime,
+    name: &'static str,
+    state: State,
+}
+
+#[derive(Drop)]
+enum State {
+    Unused,
+    Open(File),
+    Failed,
+}
+
+impl LazyFile {
+    /// Opens nothing yet.
+    pub fn new(rt: HostRuntime, name: &'static str) -> LazyFile {
+        LazyFile {
+            rt,
+            name,
+            state: State::Unused,
+        }
+    }
+
+    /// How many bytes the file has.
+    pub fn len(&mut self) -> io::Result<u64> {
+        Ok(self.file()?.metadata()?.len())
+    }
+
+    /// Fills the buffer from this place up to the end of the file, and answers how many bytes it gave.
+    pub fn read(&mut self, at: u64, buf: &mut [u8]) -> io::Result<usize>
+        ensures { ReadsAtMost result buf.new }
+    {
+        fill(self.file()?, at, buf)
+    }
+
+    /// Writes all the bytes from this place on.
+    pub fn write(&mut self, at: u64, bytes: &[u8]) -> io::Result<()> {
+        self.file()?.write_all_at(bytes, at)
+    }
+
+    /// Makes the file as long as this.
+    pub fn cut(&mut self, len: u64) -> io::Result<()> {
+        self.file()?.set_len(len)
+    }
+
+    /// Has the system write all that is pending.
+    pub fn sync(&mut self) -> io::Result<()> {
+        let done = self.file()?.sync_all();
+        if done.is_err() {
+            self.state = State::Failed;
+        }
+        done
+    }
+
+    fn file(&mut self) -> io::Result<&File> {
+        if matches!(&self.state, State::Unused) {
+            self.state = opened(&self.rt, self.name).map_or(State::Failed, State::Open);
+        }
+        match &self.state {
+            State::Open(file) => Ok(file),
+            State::Unused | State::Failed => Err(io::Error::from(io::ErrorKind::Other)),
+        }
+    }
+}
+
+// Opens or makes the file, and syncs it and its folder.
+fn opened(rt: &HostRuntime, name: &str) -> io::Result<File> {
+    let mut options = OpenOptions::new();
+    options.read(true).write(true).create(true);
+    let file = options.open(rt, name)?;
+    file.sync_all()?;
+    File::open(rt, ".")?.sync_all()?;
+    Ok(file)
+}
+
+fn fill(file: &File, at: u64, buf: &mut [u8]) -> io::Result<usize>
+    ensures { ReadsAtMost result buf.new }
+{
+    let mut done = 0;
+    for _ in 0..u64::MAX {
+        if done >= buf.len() {
+            break;
+        }
+        match file.read_at(&mut buf[done..], at.saturating_add(done as u64)) {
+            Ok(0) => break,
+            Ok(count) => done += count,
+            Err(error) if error.kind() == io::ErrorKind::Interrupted => {}
+            Err(error) => return Err(error),
+        }
+    }
+    Ok(done)
+}

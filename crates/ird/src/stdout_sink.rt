@@ -1,0 +1,45 @@
+ghost use Rattle.std.specs.Prelude.{◌≡◌};
+ghost use Rattle.ird.specs.Untold.{untold_sink};
+
+use grid_outside::{Sink, SinkFault};
+use std::io::Write;
+use std::rt::Stdout;
+
+/// Standard output as a sink. Nothing is kept back.
+#[derive(Drop)]
+pub struct StdoutSink {
+    stdout: Stdout,
+    last: u128,
+    faults: u64,
+}
+
+impl StdoutSink {
+    /// No moment was given to it yet.
+    pub fn new(rt: HostRuntime) -> StdoutSink
+        ensures last { result.last ≡ 0 }
+        ensures faults { result.faults ≡ 0 }
+    {
+        StdoutSink {
+            stdout: rt.stdout(),
+            last: 0,
+            faults: 0,
+        }
+    }
+}
+
+impl Sink for StdoutSink {
+    ghost use Rattle.grid_outside.specs.Fault.{HasCause};
+
+    ghost sink = { λ s. untold_sink s.faults s.last };
+
+    fn put(&mut self, moment: u128, bytes: &[u8]) -> Result<(), SinkFault> {
+        self.last = moment;
+        match self.stdout.write_all(bytes) {
+            Ok(()) => Ok(()),
+            Err(_) => {
+                self.faults = self.faults.saturating_add(1);
+                Err(SinkFault)
+            }
+        }
+    }
+}
