@@ -10,7 +10,7 @@ use Rattle.grid_model.specs.Lines.{requests}
 use Rattle.grid_model.specs.Catalogue.{Stands, kept_lines, HasRoom}
 use Rattle.grid_server.specs.declared.status.Status.{Status}
 use Rattle.grid_server.specs.declared.status.Status.TheVariants as status
-use Rattle.grid_server.specs.Serving.{DidAll, Whole, EndsDone, EndsBroken, EndsLong, EndsEarly, EndsWorn, EndsTorn, EndsMute, Serves}
+use Rattle.grid_server.specs.Serving.{IsServing, DidAll, Whole, EndsDone, EndsBroken, EndsLong, EndsEarly, EndsWorn, EndsTorn, EndsMute, Serves}
 use Rattle.grid_server.specs.Answering.{Stays}
 use Rattle.grid_server.specs.Starting.{NotEmpty, Begun, BegunInPart}
 use Rattle.grid_server.specs.Running.{Refuses, Inits, Says, IsComplete, RefusesStart}
@@ -170,3 +170,28 @@ complete_init zone admin main_old main_new spare sink_old sink_new s (inr (inl r
     absurd (both_empty main_old spare main_told spare_told main_empty spare_empty refused.0 refused.1 refused.2)
 complete_init zone admin main_old main_new spare sink_old sink_new s (inr (inr (inl failed))) main_told spare_told main_empty spare_empty disk sink = absurd (disk failed.0)
 complete_init zone admin main_old main_new spare sink_old sink_new s (inr (inr (inr memory))) main_told spare_told main_empty spare_empty disk sink = inr memory.0
+
+-- ---- where a catalogue is refused
+
+pub not_served : (side : Side) (place : ℕ) (s : Status) → IsServing s → s ≡ status.NotACatalogue side place → ⊥
+not_served side place s serving is = subst IsServing is serving
+
+-- the place is the one that was found wrong
+pub refused_at : (text : Text) (at place : ℕ) (side : Side) (s : Status) → Stands text (Err at) → (s ≡ status.NotACatalogue Main at) ⊎ (s ≡ status.Memory) ⊎ (s ≡ status.SinkFault)
+    → s ≡ status.NotACatalogue side place → (side ≡ Main) × Stands text (Err place)
+refused_at text at place side s stood (inl said) is = (cc, (let P : ℕ → Type 0 = λ n. Stands text (Err n) in subst P (let places : at ≡ place = cc in places) stood))
+refused_at text at place side s stood (inr (inl memory)) is = absurd (cc (memory, is))
+refused_at text at place side s stood (inr (inr sink)) is = absurd (cc (sink, is))
+
+says_another : (line : Text) (wanted s : Status) (old new : SinkState) (side : Side) (place : ℕ) → (wanted ≡ status.NotACatalogue side place → ⊥) → Says line wanted old new s → s ≡ status.NotACatalogue side place → ⊥
+says_another line wanted s old new side place other (inl ok) is = other (sym ok.0 ∙ is)
+says_another line wanted s old new side place other (inr bad) is = let no = sym bad.0 ∙ is in cc
+
+pub usage_says_none : (line : Text) (s : Status) (old new : SinkState) (side : Side) (place : ℕ) → Says line status.Usage old new s → s ≡ status.NotACatalogue side place → ⊥
+usage_says_none line s old new side place said is = says_another line status.Usage s old new side place (λ e. cc (e)) said is
+
+pub inits_none : (zone admin : Text) (main_old main_new spare : DiskState) (old new : SinkState) (s : Status) (side : Side) (place : ℕ) → Inits zone admin main_old main_new spare old new s → s ≡ status.NotACatalogue side place → ⊥
+inits_none zone admin main_old main_new spare old new s side place (inl began) is = says_another _ status.Done s old new side place (λ e. cc (e)) began.1 is
+inits_none zone admin main_old main_new spare old new s side place (inr (inl refused)) is = says_another _ (status.NotEmpty refused.0 refused.1) s old new side place (λ e. cc (e)) refused.4 is
+inits_none zone admin main_old main_new spare old new s side place (inr (inr (inl failed))) is = let no = sym failed.0 ∙ is in cc
+inits_none zone admin main_old main_new spare old new s side place (inr (inr (inr memory))) is = let no = sym memory.0 ∙ is in cc

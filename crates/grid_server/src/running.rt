@@ -55,6 +55,9 @@ pub fn run<D: Disk, S: Source, K: Sink, A: Ambient>(
     ensures refuses_source { (place : ℕ) → AsksFor words.now task.serve → IsTrue (D.disk outside.old.main).tells → Stands (D.disk outside.old.main).holds (Err place) →
         source.new ≡ source.old }
 
+    ensures not_a_catalogue { (side : Side) (place : ℕ) → result ≡ Status.NotACatalogue side place → IsTrue (D.disk outside.old.main).tells →
+        (side ≡ Side.Main) × Stands (D.disk outside.old.main).holds (Err place) }
+
     // A fault is answered only where that device failed.
     ensures disk_fault { result ≡ Status.DiskFault →
         Rose (D.disk outside.old.main).faults (D.disk outside.new.main).faults ⊎ Rose (D.disk outside.old.spare).faults (D.disk outside.new.spare).faults }
@@ -124,6 +127,7 @@ fn serve<D: Disk, S: Source, K: Sink>(
     ensures refuses { (place : ℕ) → IsTrue (D.disk main.old).tells → Stands (D.disk main.old).holds (Err place) → Refuses place (K.sink sink.old) (K.sink sink.new) result }
     ensures refuses_main { (place : ℕ) → IsTrue (D.disk main.old).tells → Stands (D.disk main.old).holds (Err place) → Stays (D.disk main.old) (D.disk main.new) }
     ensures refuses_source { (place : ℕ) → IsTrue (D.disk main.old).tells → Stands (D.disk main.old).holds (Err place) → source.new ≡ source.old }
+    ensures not_a_catalogue { (side : Side) (place : ℕ) → result ≡ Status.NotACatalogue side place → IsTrue (D.disk main.old).tells → (side ≡ Side.Main) × Stands (D.disk main.old).holds (Err place) }
     ensures disk { result ≡ Status.DiskFault → Rose (D.disk main.old).faults (D.disk main.new).faults }
     ensures source { result ≡ Status.SourceFault → Rose (S.source source.old).faults (S.source source.new).faults }
     ensures sink { result ≡ Status.SinkFault → Rose (K.sink sink.old).faults (K.sink sink.new).faults }

@@ -66,7 +66,16 @@ fn a_disk_that_is_not_empty(rt: HostRuntime) -> Result<(), Fail> {
         let refused = ends(Status::NotEmpty { side, len }, line, main);
         plays(&rt, alloc, INIT, &devices, &refused)?;
     }
-    Ok(())
+    // Spare is not asked where main is not empty.
+    let mut devices = over(b"Z", b"");
+    devices.spare_fails = &[1];
+    let side = Side::Main;
+    let refused = ends(
+        Status::NotEmpty { side, len: 1 },
+        b"err NotEmpty main 1\n",
+        b"Z",
+    );
+    plays(&rt, alloc, INIT, &devices, &refused)
 }
 
 #[test]

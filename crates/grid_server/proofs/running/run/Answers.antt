@@ -1,5 +1,5 @@
 use Rattle.std.proofs.Common.{◌≡◌, ◌⊎◌, inl, inr, refl}
-use Rattle.grid_server.proofs.RunLemmas.{serve_or_init, inits_so, complete, complete_init}
+use Rattle.grid_server.proofs.RunLemmas.{serve_or_init, inits_so, complete, complete_init, usage_says_none, inits_none}
 use Rattle.grid_server.proofs.running.run.Goals as goal
 
 pub returns-in-Serve-clause-init : goal.returns-in-Serve-clause-init
@@ -32,3 +32,11 @@ returns-in-Init-clause-refuses_main g c = λ place asks. absurd (serve_or_init a
 
 pub returns-in-Init-clause-serve_all : goal.returns-in-Init-clause-serve_all
 returns-in-Init-clause-serve_all g c = λ found asks. absurd (serve_or_init asks c.in-Init.ensures)
+
+pub returns-in-Init-clause-not_a_catalogue : goal.returns-in-Init-clause-not_a_catalogue
+returns-in-Init-clause-not_a_catalogue g c = λ side place is told.
+    absurd (inits_none c.in-Init.zone.now c.in-Init.admin.now (g.D.Disk.disk c.args.outside.now.main) (g.D.Disk.disk c.init.new.main) (g.D.Disk.disk c.args.outside.now.spare) (g.K.Sink.sink c.args.sink.now) (g.K.Sink.sink c.init.new.sink) c.init.result side place c.init.ensures.inits is)
+
+pub returns-in-Nothing-clause-not_a_catalogue : goal.returns-in-Nothing-clause-not_a_catalogue
+returns-in-Nothing-clause-not_a_catalogue g c = λ side place is told.
+    absurd (usage_says_none _ c.say.result (g.K.Sink.sink c.args.sink.now) (g.K.Sink.sink c.say.new.sink) side place c.say.ensures.says is)

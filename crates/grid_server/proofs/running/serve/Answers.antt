@@ -1,7 +1,7 @@
 use Rattle.std.proofs.Common.{◌≡◌, IsTrue, refl, subst, sym}
 use Rattle.grid_server.specs.Held.{grid_of}
 use Rattle.grid_server.specs.Turning.{HasNoGrid}
-use Rattle.grid_server.proofs.RunLemmas.{no_both, serves_found, early_at_once, torn_at_once, refuses_there}
+use Rattle.grid_server.proofs.RunLemmas.{no_both, serves_found, early_at_once, torn_at_once, refuses_there, not_served, refused_at}
 use Rattle.grid_server.proofs.running.serve.Goals as goal
 
 pub returns-in-Ok-clause-serve : goal.returns-in-Ok-clause-serve
@@ -30,3 +30,10 @@ returns-in-Err-Disk-clause-serve g c = λ found told source_told stood. torn_at_
 
 pub returns-in-Err-Memory-clause-serve : goal.returns-in-Err-Memory-clause-serve
 returns-in-Err-Memory-clause-serve g c = λ found told source_told stood. early_at_once found _ (g.D.Disk.disk c.open.new.main) (g.S.Source.source c.args.source.now) (g.K.Sink.sink c.args.sink.now) (c.open.ensures.looks.holds told) stood
+
+pub returns-in-Ok-clause-not_a_catalogue : goal.returns-in-Ok-clause-not_a_catalogue
+returns-in-Ok-clause-not_a_catalogue g c = λ side place is told. absurd (not_served side place c.serve_all.result c.serve_all.ensures.ends is)
+
+pub returns-in-Err-NotACatalogue-clause-not_a_catalogue : goal.returns-in-Err-NotACatalogue-clause-not_a_catalogue
+returns-in-Err-NotACatalogue-clause-not_a_catalogue g c = λ side place is told.
+    refused_at (g.D.Disk.disk c.args.main.now).holds c.in-Err-NotACatalogue.at place side c.refuse.result (subst (HasNoGrid _) c.in-Err-NotACatalogue.field-0-is (c.in-Err-NotACatalogue.ensures.refused told)) c.refuse.ensures.ends is
