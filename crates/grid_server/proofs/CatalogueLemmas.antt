@@ -3,10 +3,9 @@ use Rattle.std.proofs.Common.{◌≡◌, ◌≢◌, ℕ, ◌+◌, ◌<◌, ◌�
 use Rattle.std.proofs.lemmas.List.{append-nil, drop-drop, drop_all}
 use Rattle.std.specs.List.{list_all}
 use Rattle.std.specs.Prelude.{codes, MatchOption}
-use Rattle.std.proofs.lemmas.Bool.Decides.{nat_tests}
 use Rattle.grid_model.specs.Lines.{IsLine}
 use Rattle.grid_model.specs.Names.{Text, Path, is_name, is_name_byte, is_path, print_path, same_text, SpellsPath}
-use Rattle.grid_model.specs.Grid.{Grid, start, home, homes, home_of, everybody}
+use Rattle.grid_model.specs.Grid.{Grid, start, home, home_of, everybody}
 use Rattle.grid_model.specs.Maps.{has}
 use Rattle.grid_model.specs.Commands.{may_add, has_parent, with_collection}
 use Rattle.grid_model.specs.Catalogue.{is_admin, first_line, path_line, Adds, no_line, a_line, NoLine, Stands, stands, no_first_line, wrong_line}

@@ -1,14 +1,13 @@
 -- What a request that is accepted does.
-use Rattle.std.proofs.Common.{◌≡◌, ◌≢◌, ◌⊎◌, inl, inr, ℕ, ◌+◌, ◌≤◌, ◌^◌, Bool, true, false, List, [], ◌∷◌, ◌++◌, length, take, drop, take-append-drop, Option, Some, None, Result, Ok, Err, is_err, arith, refl, sym, subst, ap, ◌∙◌, length-append}
+use Rattle.std.proofs.Common.{◌≡◌, inr, ℕ, ◌≤◌, ◌^◌, Bool, true, false, List, [], ◌∷◌, ◌++◌, length, take, drop, take-append-drop, Option, Some, None, Result, Ok, Err, is_err, arith, refl, sym, subst, ap, ◌∙◌, length-append}
 use Rattle.std.specs.Prelude.{codes, ⊤}
-use Rattle.std.proofs.lemmas.List.{append-nil}
 use Rattle.grid_outside.specs.Disk.{DiskState}
 use Rattle.grid_outside.specs.Sink.{SinkState, AddsPart}
 use Rattle.grid_model.specs.Maps.{has}
 use Rattle.grid_model.specs.Names.{Text, Path, same_text, print_path, SpellsPath}
 use Rattle.grid_model.specs.Requests.{Asks, Spells, a_login, a_mkdir}
 use Rattle.grid_model.specs.Commands.{State, Done, command, make, refused, has_parent, with_collection}
-use Rattle.grid_model.specs.Catalogue.{kept_line, path_line, longest_catalogue}
+use Rattle.grid_model.specs.Catalogue.{kept_line, path_line}
 use Rattle.grid_model.specs.Replies.{AddsFirst}
 use Rattle.grid_model.specs.declared.requests.Verb.{Verb}
 use Rattle.grid_model.specs.declared.requests.Verb.TheVariants.{Login, MkDir}

@@ -1,6 +1,5 @@
 -- Requests that were done, and one more.
-use Rattle.std.proofs.Common.{◌≡◌, ◌≢◌, ◌⊎◌, inl, inr, ℕ, ◌+◌, ◌≤◌, Bool, true, false, not, ◌&&◌, List, [], ◌∷◌, ◌++◌, length, take, flat_map, Option, Some, None, Result, Ok, Err, is_err, IsTrue, arith, refl, sym, subst, ap, ◌∙◌, append_assoc, length-append, length-take}
-use Rattle.std.specs.Prelude.{⊤}
+use Rattle.std.proofs.Common.{◌≡◌, ◌≢◌, ◌⊎◌, inl, inr, ℕ, ◌+◌, ◌≤◌, Bool, true, false, not, ◌&&◌, List, [], ◌∷◌, ◌++◌, length, take, Option, Some, None, Ok, IsTrue, arith, refl, sym, subst, ap, ◌∙◌, append_assoc, length-append, length-take}
 use Rattle.std.proofs.lemmas.Bool.{cases_lt}
 use Rattle.std.proofs.lemmas.List.{append-nil, take_all, length-take-le}
 use Rattle.grid_model.specs.Maps.{has}
@@ -11,8 +10,7 @@ use Rattle.grid_model.specs.Commands.{State, Done, command, make, refused, has_p
 use Rattle.grid_model.specs.Replies.{reply, replies}
 use Rattle.grid_model.specs.Catalogue.{Stands, kept_line, kept_lines, path_line, HasRoom, longest_catalogue}
 use Rattle.grid_model.specs.declared.requests.Verb.{Verb}
-use Rattle.grid_model.specs.declared.requests.Verb.TheVariants.{Login, MkDir}
-use Rattle.grid_model.specs.declared.replies.Refusal.TheVariants.{NotBuilt, NoUser, NoLogin, NoCollection, Exists}
+use Rattle.grid_model.specs.declared.replies.Refusal.TheVariants.{NoUser, NoLogin, NoCollection, Exists}
 use Rattle.grid_server.specs.Answering.{Did}
 use Rattle.grid_server.specs.Serving.{DidAll, begins}
 use Rattle.grid_server.proofs.CommandLemmas.{made_one, kept-none, kept-some}

@@ -1,5 +1,5 @@
 -- Lines, and what is held of them.
-use Rattle.std.proofs.Common.{◌≡◌, ◌≢◌, ◌⊎◌, inl, inr, ℕ, suc, Option, Some, None, get_or, ◌+◌, ◌-◌, ◌<◌, ◌≤◌, min, List, [], ◌∷◌, ◌++◌, length, take, drop, arith, refl, sym, subst, ap, ◌∙◌, append_assoc, length-append, length-take, take-take, ◌^◌, IsTrue}
+use Rattle.std.proofs.Common.{◌≡◌, ◌≢◌, inl, inr, ℕ, suc, Some, None, get_or, ◌+◌, ◌-◌, ◌<◌, ◌≤◌, min, List, [], ◌∷◌, ◌++◌, length, take, drop, arith, refl, sym, subst, ap, ◌∙◌, append_assoc, length-append, length-take, take-take, ◌^◌, IsTrue}
 use Rattle.std.proofs.lemmas.Bool.{cases_lt}
 use Rattle.std.proofs.lemmas.List.{take_all, drop-take, drop-drop, take-append-le, append-nil}
 use Rattle.std.proofs.Math.Seq.{take-append-add}

@@ -1,5 +1,5 @@
 -- From the catalogue that was opened to the run over it.
-use Rattle.std.proofs.Common.{◌≡◌, ◌⊎◌, inl, inr, ℕ, ◌+◌, ◌^◌, ◌<◌, ◌≤◌, List, [], ◌∷◌, ◌++◌, length, length-append, Result, Ok, Err, IsTrue, arith, refl, sym, subst, ap, ◌∙◌}
+use Rattle.std.proofs.Common.{◌≡◌, ◌⊎◌, inl, inr, ℕ, ◌^◌, ◌≤◌, List, [], ◌++◌, length, length-append, Ok, Err, IsTrue, arith, refl, sym, subst, ap, ◌∙◌}
 use Rattle.std.proofs.lemmas.List.{append-nil}
 use Rattle.grid_outside.specs.Disk.{DiskState}
 use Rattle.grid_outside.specs.Sink.{SinkState}

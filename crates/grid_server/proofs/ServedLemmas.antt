@@ -1,11 +1,10 @@
 -- What was served so far, turn by turn, and how it ends.
-use Rattle.std.proofs.Common.{◌≡◌, ◌≢◌, ◌⊎◌, inl, inr, ℕ, ◌+◌, ◌^◌, ◌<◌, ◌≤◌, List, [], ◌∷◌, ◌++◌, length, take, filter, Option, Some, None, Result, Ok, Err, IsTrue, arith, refl, sym, subst, ap, ◌∙◌, append_assoc, length-append}
-use Rattle.std.specs.Prelude.{⊤, false}
+use Rattle.std.proofs.Common.{◌≡◌, ◌≢◌, ◌⊎◌, inl, inr, ℕ, ◌+◌, ◌^◌, ◌≤◌, List, [], ◌∷◌, ◌++◌, length, take, filter, Option, Some, None, Result, Ok, Err, IsTrue, arith, refl, sym, subst, ap, ◌∙◌, append_assoc, length-append}
+use Rattle.std.specs.Prelude.{⊤}
 use Rattle.std.proofs.lemmas.List.{append-nil, take_at}
 use Rattle.grid_outside.specs.Disk.{DiskState}
 use Rattle.grid_outside.specs.Sink.{SinkState}
 use Rattle.grid_outside.specs.Source.{SourceState}
-use Rattle.grid_outside.specs.declared.outside.Wear.TheVariants.{Log}
 use Rattle.grid_model.specs.Names.{Text}
 use Rattle.grid_model.specs.Grid.{Grid}
 use Rattle.grid_model.specs.Lines.{IsLine, is_request, requests, whole_requests}
@@ -20,11 +19,10 @@ use Rattle.grid_server.specs.declared.server.Server.{Server}
 use Rattle.grid_server.specs.declared.serving.Service.{Service}
 use Rattle.grid_server.specs.declared.line_reader.Ended.{Ended}
 use Rattle.grid_server.specs.declared.line_reader.Ended.TheVariants as ended
-use Rattle.grid_server.specs.Held.{grid_of}
-use Rattle.grid_server.specs.Reading.{Reader, ReadsLine, ReadsPart}
-use Rattle.grid_server.specs.Answering.{Answers, Kept, Did, Stays, state_of, Trails}
-use Rattle.grid_server.specs.Turning.{Turns, TurnsLine, of_line, too_long, broken, no_memory, Handles, Handled, Skips, outcome, status_of}
-use Rattle.grid_server.specs.Serving.{DidAll, Whole, EndsDone, EndsBroken, EndsLong, EndsEarly, EndsWorn, EndsTorn, EndsMute, Serves, begins}
+use Rattle.grid_server.specs.Reading.{ReadsLine, ReadsPart}
+use Rattle.grid_server.specs.Answering.{Answers, Kept, Did, Stays, state_of}
+use Rattle.grid_server.specs.Turning.{Turns, TurnsLine, of_line, too_long, broken, no_memory, Handled, Skips, status_of}
+use Rattle.grid_server.specs.Serving.{DidAll, Whole, EndsDone, EndsBroken, EndsLong, EndsEarly, Serves, begins}
 use Rattle.grid_server.proofs.InputLemmas.{joined, AreLines, AreLines-push, joined-push, length-joined-push, requests-joined, whole_requests-joined, requests-line, requests-last, requests-push, requests-push_none}
 use Rattle.grid_server.proofs.DoneLemmas.{done_none, done_more, did_held, held_some, held_none, kept_lines-push, replies-push}
 

@@ -1,5 +1,5 @@
 -- What a write at the end of a disk leaves.
-use Rattle.std.proofs.Common.{◌≡◌, ℕ, ◌+◌, List, [], ◌++◌, length, take, drop, arith, sym, ap, ◌∙◌, append_assoc, length-drop, take-append-drop, Result, OnErr, Ok, Err}
+use Rattle.std.proofs.Common.{◌≡◌, ℕ, ◌+◌, List, ◌++◌, length, take, drop, arith, sym, ap, ◌∙◌, length-drop, take-append-drop, Result, OnErr, Ok, Err}
 use Rattle.std.proofs.lemmas.List.{append-nil, take_all, drop_all}
 use Rattle.grid_outside.specs.Disk.{Torn}
 use Rattle.grid_server.specs.Answering.{Trails}

@@ -1,9 +1,8 @@
 -- What bytes stand for is one thing, and goes on with each line.
-use Rattle.std.proofs.Common.{◌≡◌, ◌≢◌, ℕ, ◌+◌, List, [], ◌∷◌, ◌++◌, length, IsTrue, Result, Ok, Err, arith, refl, sym, subst, ap, ◌∙◌, append_assoc, length-append}
-use Rattle.std.proofs.lemmas.List.{append-nil}
+use Rattle.std.proofs.Common.{◌≡◌, ◌≢◌, ℕ, ◌+◌, [], ◌∷◌, ◌++◌, length, IsTrue, Result, Ok, Err, arith, refl, sym, subst, ap, ◌∙◌, append_assoc, length-append}
 use Rattle.std.specs.Prelude.{codes}
 use Rattle.grid_model.specs.Names.{Text, Path, is_name, print_path, SpellsPath}
-use Rattle.grid_model.specs.Grid.{Grid, start, home, home_of}
+use Rattle.grid_model.specs.Grid.{Grid, start, home_of}
 use Rattle.grid_model.specs.Commands.{may_add, with_collection}
 use Rattle.grid_model.specs.Catalogue.{is_admin, first_line, path_line, Adds, no_line, a_line, NoLine, Stands, stands, no_first_line, wrong_line}
 use Rattle.grid_model.proofs.PathSpelling.{SpellsPath-unique}

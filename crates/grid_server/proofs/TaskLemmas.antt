@@ -3,7 +3,7 @@ use Rattle.std.proofs.Common.{◌≡◌, ◌≢◌, Bool, true, false, not, [], 
 use Rattle.std.specs.Prelude.{codes}
 use Rattle.grid_model.specs.Names.{Text}
 use Rattle.grid_model.specs.Grid.{everybody}
-use Rattle.grid_server.specs.Tasks.{AsksFor, Task, to_serve, to_init, init, serve, IsWord}
+use Rattle.grid_server.specs.Tasks.{AsksFor, to_serve, to_init, init, serve, IsWord}
 
 pub serve_asked : (word : Text) → AsksFor (word ∷ []) serve → word ≡ codes "serve"
 serve_asked word (to_serve e) = cc

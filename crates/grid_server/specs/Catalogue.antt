@@ -1,5 +1,5 @@
 -- What the reading of one line of the catalogue gives.
-use Rattle.std.specs.Prelude.{◌≡◌, ◌≢◌, ℕ, List, [], ◌∷◌, ◌++◌, IsTrue, Err}
+use Rattle.std.specs.Prelude.{◌≡◌, ◌≢◌, [], ◌∷◌, ◌++◌, IsTrue, Err}
 use Rattle.grid_model.specs.Names.{Text, Path, is_name, SpellsPath, print_path}
 use Rattle.grid_model.specs.Grid.{start, home_of}
 use Rattle.grid_model.specs.Commands.{may_add, with_collection}

@@ -1,17 +1,15 @@
 -- How a run ends, by its words and its status.
-use Rattle.std.specs.Prelude.{◌≡◌, ◌⊎◌, ℕ, List, IsTrue}
+use Rattle.std.specs.Prelude.{◌≡◌, ◌⊎◌, ℕ, IsTrue}
 use Rattle.grid_outside.specs.Disk.{DiskState}
 use Rattle.grid_outside.specs.Sink.{SinkState}
-use Rattle.grid_outside.specs.Source.{SourceState}
 use Rattle.grid_model.specs.Names.{Text}
-use Rattle.grid_model.specs.Grid.{Grid}
 use Rattle.grid_model.specs.Replies.{AddsFirst}
 use Rattle.grid_model.specs.declared.grid.Side.{Side}
 use Rattle.grid_model.specs.declared.grid.Side.TheVariants.{Main}
 use Rattle.grid_server.specs.declared.status.Status.{Status}
 use Rattle.grid_server.specs.declared.status.Status.TheVariants as status
 use Rattle.grid_server.specs.Answering.{Adds, Stays}
-use Rattle.grid_server.specs.Starting.{Begun, BegunInPart, NotEmpty, ok_line, usage_line, not_empty_line, not_a_catalogue_line}
+use Rattle.grid_server.specs.Starting.{Begun, BegunInPart, NotEmpty, ok_line, not_empty_line, not_a_catalogue_line}
 
 -- the sink got this line, or a first part of it and failed
 abbrev pub Says : Text → Status → SinkState → SinkState → Status → Type 0

@@ -1,15 +1,13 @@
 -- What a run of `serve` did over a grid, and what it left.
-use Rattle.std.specs.Prelude.{◌≡◌, ◌≢◌, ◌⊎◌, ℕ, ◌+◌, ◌^◌, ◌<◌, ◌≤◌, false, List, [], ◌∷◌, ◌++◌, length, take, Option, None, Ok, IsTrue}
+use Rattle.std.specs.Prelude.{◌≡◌, ◌≢◌, ◌⊎◌, ℕ, ◌+◌, ◌^◌, ◌<◌, ◌≤◌, false, List, [], ◌∷◌, ◌++◌, length, take, None, Ok, IsTrue}
 use Rattle.grid_outside.specs.Disk.{DiskState}
 use Rattle.grid_outside.specs.Sink.{SinkState}
 use Rattle.grid_outside.specs.Source.{SourceState}
-use Rattle.grid_outside.specs.declared.outside.Wear.{Wear}
 use Rattle.grid_outside.specs.declared.outside.Wear.TheVariants.{Log}
 use Rattle.grid_model.specs.Names.{Text}
 use Rattle.grid_model.specs.Grid.{Grid}
 use Rattle.grid_model.specs.Lines.{requests, whole_requests}
-use Rattle.grid_model.specs.Requests.{Asks}
-use Rattle.grid_model.specs.Commands.{State, Done, command, After}
+use Rattle.grid_model.specs.Commands.{State, Done, After}
 use Rattle.grid_model.specs.Replies.{reply, replies, AddsFirst}
 use Rattle.grid_model.specs.Catalogue.{Stands, kept_line, kept_lines, HasRoom, longest_catalogue}
 use Rattle.grid_server.specs.declared.status.Status.{Status}

@@ -1,19 +1,14 @@
 -- What a run of `init` did, and what a run does whose words ask for nothing or whose disks do not allow what they ask.
-use Rattle.std.specs.Prelude.{◌≡◌, ◌≢◌, ◌⊎◌, ℕ, ◌<◌, ◌≤◌, List, [], ◌∷◌, ◌++◌, length, Result, Ok, Err, ⊤, IsTrue, codes, decimal}
+use Rattle.std.specs.Prelude.{◌≡◌, ◌≢◌, ℕ, [], ◌∷◌, ◌++◌, length, Result, Ok, Err, ⊤, IsTrue, codes, decimal}
 use Rattle.grid_outside.specs.Device.{IsSettled}
 use Rattle.grid_outside.specs.Disk.{DiskState}
-use Rattle.grid_outside.specs.Sink.{SinkState}
 use Rattle.grid_model.specs.Names.{Text}
-use Rattle.grid_model.specs.Catalogue.{Stands, first_line}
-use Rattle.grid_model.specs.Replies.{AddsFirst}
+use Rattle.grid_model.specs.Catalogue.{first_line}
 use Rattle.grid_model.specs.declared.grid.Side.{Side}
 use Rattle.grid_model.specs.declared.grid.Side.TheVariants.{Main, Spare}
-use Rattle.grid_server.specs.declared.status.Status.{Status}
-use Rattle.grid_server.specs.declared.status.Status.TheVariants as status
 use Rattle.grid_server.specs.declared.start.StartError.{StartError}
 use Rattle.grid_server.specs.declared.start.StartError.TheVariants as starting
-use Rattle.grid_server.specs.Answering.{Adds, Stays, AddsTail}
-use Rattle.grid_server.specs.Tasks.{Task, AsksFor}
+use Rattle.grid_server.specs.Answering.{Stays, AddsTail}
 
 -- ---- the lines that a run writes beside replies
 

@@ -1,5 +1,5 @@
 -- What the words of the program ask for.
-use Rattle.std.specs.Prelude.{◌≡◌, ◌≢◌, ℕ, List, [], ◌∷◌, IsTrue, codes}
+use Rattle.std.specs.Prelude.{◌≡◌, ◌≢◌, List, [], ◌∷◌, IsTrue, codes}
 use Rattle.std.specs.Str.{IsUtf8}
 use Rattle.grid_model.specs.Names.{Text, is_name}
 use Rattle.grid_model.specs.Grid.{everybody}

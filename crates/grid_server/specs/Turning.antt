@@ -18,7 +18,7 @@ use Rattle.grid_server.specs.declared.serving.Service.{Service}
 use Rattle.grid_server.specs.declared.line_reader.Ended.{Ended}
 use Rattle.grid_server.specs.declared.line_reader.Ended.TheVariants as ended
 use Rattle.grid_server.specs.Reading.{ReadsLine, ReadsPart}
-use Rattle.grid_server.specs.Answering.{Answers, Stays, state_of}
+use Rattle.grid_server.specs.Answering.{Answers, Stays}
 
 abbrev pub open_error_of : CatalogueError → OpenError
 open_error_of (catalogue.BadLine place) = opening.NotACatalogue place

@@ -1,4 +1,4 @@
-use Rattle.std.proofs.Common.{◌≡◌, ℕ, get_or, arith, sym, subst}
+use Rattle.std.proofs.Common.{◌≡◌, get_or, arith, sym, subst}
 use Rattle.grid_model.specs.Names.{Text}
 use Rattle.grid_server.proofs.CatalogueLemmas.{is_home}
 use Rattle.grid_server.proofs.catalogue.begin_grid.Goals as goal

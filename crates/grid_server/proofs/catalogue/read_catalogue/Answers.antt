@@ -1,4 +1,4 @@
-use Rattle.std.proofs.Common.{◌≡◌, ℕ, ◌+◌, ◌-◌, ◌≤◌, List, ◌∷◌, ◌++◌, Some, None, Option, length, take, drop, arith, sym, subst, ap, ◌∙◌, length-take, length-drop}
+use Rattle.std.proofs.Common.{◌≡◌, ◌+◌, ◌≤◌, Some, None, length, take, drop, arith, sym, subst, ap, ◌∙◌}
 use Rattle.std.proofs.lemmas.List.{take_rest, length-take-le}
 use Rattle.std.specs.List.{position}
 use Rattle.grid_model.specs.Names.{Text}

@@ -1,4 +1,4 @@
-use Rattle.std.proofs.Common.{arith, sym, ◌∙◌}
+use Rattle.std.proofs.Common.{arith}
 use Rattle.std.proofs.lemmas.Grind.{common_steps}
 use Rattle.grid_server.proofs.LineLemmas.{take-more}
 use Rattle.grid_server.proofs.line_reader.add_held.Goals as goal

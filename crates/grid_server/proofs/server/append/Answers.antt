@@ -1,4 +1,4 @@
-use Rattle.std.proofs.Common.{◌≡◌, ℕ, List, arith, sym, ap, ◌∙◌, subst, IsTrue}
+use Rattle.std.proofs.Common.{sym, ◌∙◌, subst, IsTrue}
 use Rattle.grid_server.specs.Answering.{AddsTail}
 use Rattle.grid_server.proofs.ServerLemmas.{on_err, torn_trails, whole_trails, written_behind}
 use Rattle.grid_server.proofs.server.append.Goals as goal

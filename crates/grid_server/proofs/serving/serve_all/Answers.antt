@@ -1,4 +1,4 @@
-use Rattle.std.proofs.Common.{◌≡◌, ◌+◌, ◌*◌, ◌≤◌, length, IsTrue, arith, refl, sym, subst, ap, ◌∙◌}
+use Rattle.std.proofs.Common.{◌≡◌, length, IsTrue, arith, refl, sym, subst, ap, ◌∙◌}
 use Rattle.grid_server.specs.Held.{grid_of}
 use Rattle.grid_server.specs.Answering.{state_of}
 use Rattle.grid_server.specs.Serving.{begins}

@@ -1,4 +1,4 @@
-use Rattle.std.proofs.Common.{[], ◌∷◌, ap, ◌∙◌}
+use Rattle.std.proofs.Common.{[], ◌∷◌, ap}
 use Rattle.grid_model.specs.Names.{Text}
 use Rattle.grid_server.specs.Tasks.{to_serve}
 use Rattle.grid_server.proofs.TaskLemmas.{serve_asked}

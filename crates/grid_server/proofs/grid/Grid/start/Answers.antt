@@ -1,4 +1,4 @@
-use Rattle.std.proofs.Common.{◌≡◌, ℕ, List, [], ◌∷◌, ◌++◌, ap, ◌∙◌}
+use Rattle.std.proofs.Common.{◌≡◌, [], ◌∷◌, ◌++◌, ap, ◌∙◌}
 use Rattle.grid_model.specs.Names.{Text, Path}
 use Rattle.grid_model.specs.Grid.{home}
 use Rattle.grid_server.proofs.HeldLemmas.{start-held}

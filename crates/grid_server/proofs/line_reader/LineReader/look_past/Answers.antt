@@ -1,4 +1,4 @@
-use Rattle.std.proofs.Common.{◌≡◌, ◌≢◌, ℕ, get_or, arith, ap, ◌∙◌, refl}
+use Rattle.std.proofs.Common.{get_or, arith, ap, ◌∙◌}
 use Rattle.grid_server.proofs.LineLemmas.{one_taken}
 use Rattle.grid_server.proofs.line_reader.LineReader.look_past.Goals as goal
 

@@ -1,5 +1,5 @@
-use Rattle.std.proofs.Common.{◌≡◌, ℕ, arith, subst, ap, sym, ◌∙◌, length-take, ◌+◌, length, ◌≤◌}
-use Rattle.grid_server.proofs.LineLemmas.{PartRead, none_read, more_read, line_read, end_read, past_read, part_read}
+use Rattle.std.proofs.Common.{arith, ap, ◌∙◌, length-take, length}
+use Rattle.grid_server.proofs.LineLemmas.{more_read, line_read, end_read, past_read, part_read}
 use Rattle.grid_server.proofs.line_reader.LineReader.read_line.Goals as goal
 
 pub take_line-requires : goal.take_line-requires

@@ -1,5 +1,4 @@
-use Rattle.std.proofs.Common.{◌≡◌, ℕ, ◌+◌, ◌-◌, ◌≤◌, List, ◌∷◌, ◌++◌, length, take, drop, arith, ap, sym, subst, ◌∙◌, length-take, length-drop}
-use Rattle.std.proofs.lemmas.Grind.{common_steps}
+use Rattle.std.proofs.Common.{◌≡◌, ℕ, ◌+◌, ◌-◌, ◌≤◌, List, ◌∷◌, ◌++◌, take, drop, arith, ap, sym, subst, ◌∙◌, length-take}
 use Rattle.grid_model.specs.Lines.{IsLine}
 use Rattle.grid_server.proofs.LineLemmas.{line_found, rest_found, rest_behind, no_newline}
 use Rattle.grid_server.proofs.line_reader.LineReader.take_line.Goals as goal

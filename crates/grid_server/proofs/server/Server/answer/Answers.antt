@@ -1,4 +1,4 @@
-use Rattle.std.proofs.Common.{◌≡◌, ℕ, List, ◌++◌, Ok, ap, ◌∙◌, refl}
+use Rattle.std.proofs.Common.{◌≡◌, ◌++◌, ap, ◌∙◌, refl}
 use Rattle.grid_model.specs.Names.{Text}
 use Rattle.grid_model.specs.Commands.{command}
 use Rattle.grid_model.specs.Replies.{reply}

@@ -1,4 +1,4 @@
-use Rattle.std.proofs.Common.{◌≡◌, ◌≢◌, Ok, Err, Some, sym, subst, refl, rules}
+use Rattle.std.proofs.Common.{Ok, Err, Some, sym, subst, refl, rules}
 use Rattle.grid_server.specs.Reading.{Reader, ReadsLine}
 use Rattle.grid_server.specs.Turning.{Turns, of_line, too_long, broken, no_memory}
 use Rattle.grid_server.specs.declared.status.Status.{Status}
