@@ -1,6 +1,5 @@
-ghost use Rattle.std.specs.Prelude.{◌≡◌, ◌≢◌, ◌∷◌, ◌++◌, [], List, ℕ, IsTrue, IfOk, OnErr, Ok, Err, MatchResult, MatchOption};
+ghost use Rattle.std.specs.Prelude.{◌≡◌, IfOk, Ok, Err, MatchResult, MatchOption};
 ghost use Rattle.std.specs.Bool.{MatchBool};
-ghost use Rattle.grid_model.specs.Names.{is_name};
 ghost use Rattle.grid_model.specs.Catalogue.{first_line as first_line_of, path_line as path_line_of, Stands};
 ghost use Rattle.grid_server.specs.declared.catalogue.CatalogueError.TheVariants.{BadLine, Memory as NoMemory};
 ghost use Rattle.grid_server.specs.Held.{grid_of};

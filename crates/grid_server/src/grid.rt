@@ -1,4 +1,4 @@
-ghost use Rattle.std.specs.Prelude.{◌≡◌, ◌∷◌, [], IsTrue, IfOk, OnOk, OnErr, Some, None};
+ghost use Rattle.std.specs.Prelude.{◌≡◌, IsTrue, IfOk, OnOk, OnErr, Some, None};
 ghost use Rattle.grid_model.specs.Names.{is_name};
 ghost use Rattle.grid_model.specs.Maps.{has};
 ghost use Rattle.grid_model.specs.Grid.{start as start_of};

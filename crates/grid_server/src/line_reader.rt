@@ -1,7 +1,6 @@
-ghost use Rattle.std.specs.Prelude.{◌≡◌, ℕ, ◌+◌, ◌^◌, ◌<◌, ◌≤◌, [], ◌∷◌, ◌++◌, length, take, drop, IsTrue, IfOk, OnOk, OnErr, IsErrOf};
+ghost use Rattle.std.specs.Prelude.{◌≡◌, ◌+◌, ◌^◌, ◌<◌, ◌≤◌, [], ◌++◌, length, take, drop, IsTrue, IfOk, OnOk, OnErr, IsErrOf};
 ghost use Rattle.std.specs.Bool.{MatchBool};
 ghost use Rattle.grid_outside.specs.Fault.{HasCause, Rose};
-ghost use Rattle.grid_model.specs.Lines.{IsLine};
 ghost use Rattle.grid_server.specs.declared.line_reader.ReadError.TheVariants.{Memory as NoMemory, Source as Fault};
 ghost use Rattle.grid_server.specs.Reading.{TakesLine, TakesRest, Fills, ReadsLine, ReadsPart, Took, TookAll};
 

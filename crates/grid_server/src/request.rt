@@ -1,4 +1,4 @@
-ghost use Rattle.std.specs.Prelude.{◌≡◌, ◌≢◌, ◌++◌, List, ℕ, IsTrue, IfOk, MatchOption, length, ◌≤◌, codes};
+ghost use Rattle.std.specs.Prelude.{◌≡◌, ◌++◌, IsTrue, IfOk, MatchOption, length, ◌≤◌, codes};
 ghost use Rattle.grid_model.specs.Limits.{longest_line};
 ghost use Rattle.std.specs.List.{list_all};
 ghost use Rattle.grid_model.specs.Words.{is_bare, is_bare_byte};

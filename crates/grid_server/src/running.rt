@@ -3,11 +3,10 @@ ghost use Rattle.grid_outside.specs.Device.{Looks};
 ghost use Rattle.grid_outside.specs.Fault.{Rose};
 ghost use Rattle.grid_model.specs.Grid.{Grid};
 ghost use Rattle.grid_model.specs.Catalogue.{Stands};
-ghost use Rattle.grid_model.specs.Replies.{AddsFirst};
-ghost use Rattle.grid_server.specs.Answering.{Adds, Stays};
-ghost use Rattle.grid_server.specs.Starting.{usage_line as usage_text, ok_line as ok_text, not_empty_line as not_empty_text, not_a_catalogue_line as not_a_catalogue_text};
+ghost use Rattle.grid_server.specs.Answering.{Stays};
+ghost use Rattle.grid_server.specs.Starting.{usage_line as usage_text, not_empty_line as not_empty_text, not_a_catalogue_line as not_a_catalogue_text};
 ghost use Rattle.grid_server.specs.Running.{Says, Refuses, Inits, IsComplete};
-ghost use Rattle.grid_server.specs.Serving.{Serves, IsServing};
+ghost use Rattle.grid_server.specs.Serving.{Serves};
 ghost use Rattle.grid_server.specs.Tasks as task;
 ghost use Rattle.grid_server.specs.Tasks.{AsksFor, AsksNothing};
 
@@ -54,7 +53,7 @@ pub fn run<D: Disk, S: Source, K: Sink, A: Ambient>(
         Stays (D.disk outside.old.main) (D.disk outside.new.main) }
     ensures refuses_source { (place : ℕ) → AsksFor words.now task.serve → IsTrue (D.disk outside.old.main).tells → Stands (D.disk outside.old.main).holds (Err place) →
         source.new ≡ source.old }
-
+    // It is said only of bytes that are none.
     ensures not_a_catalogue { (side : Side) (place : ℕ) → result ≡ Status.NotACatalogue side place → IsTrue (D.disk outside.old.main).tells →
         (side ≡ Side.Main) × Stands (D.disk outside.old.main).holds (Err place) }
 

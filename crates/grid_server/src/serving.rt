@@ -1,9 +1,8 @@
-ghost use Rattle.std.specs.Prelude.{◌≡◌, ◌+◌, ◌-◌, ◌*◌, ◌^◌, ◌<◌, ◌≤◌, ◌⊎◌, [], length, IsTrue, IsErrOf, IfOk, IfErr, OnErr, Some, Ok, Err, false};
-ghost use Rattle.grid_outside.specs.Fault.{HasCause, Rose};
+ghost use Rattle.std.specs.Prelude.{◌≡◌, ◌+◌, ◌-◌, ◌^◌, ◌<◌, ◌≤◌, ◌⊎◌, [], length, IsTrue, IsErrOf, IfOk, IfErr, Some, Ok, Err, false};
+ghost use Rattle.grid_outside.specs.Fault.{Rose};
 ghost use Rattle.grid_outside.specs.Device.{Looks};
 ghost use Rattle.grid_model.specs.Catalogue.{Stands};
-ghost use Rattle.grid_model.specs.Grid.{Grid};
-ghost use Rattle.grid_server.specs.declared.serving.OpenError.TheVariants.{Disk as OpenDisk, Memory as OpenMemory, NotACatalogue as NoCatalogue};
+ghost use Rattle.grid_server.specs.declared.serving.OpenError.TheVariants.{Disk as OpenDisk, Memory as OpenMemory};
 ghost use Rattle.grid_server.specs.Held.{grid_of};
 ghost use Rattle.grid_server.specs.Serving.{Serves, IsServing};
 ghost use Rattle.grid_server.specs.Turning.{status_of, HasNoGrid};
@@ -12,7 +11,6 @@ use crate::Status;
 use crate::catalogue::{CatalogueError, read_catalogue};
 use crate::line_reader::{Ended, HELD, LineReader, MOST, ReadError};
 use crate::server::{Server, Stop};
-use grid_model::Side;
 use grid_outside::{Disk, DiskFault, Moments, Sink, Source, Wear};
 use std::alloc::{AllocError, Global};
 

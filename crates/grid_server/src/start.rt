@@ -1,4 +1,4 @@
-ghost use Rattle.std.specs.Prelude.{◌≡◌, ◌⊎◌, ◌+◌, ◌^◌, ◌<◌, ◌≤◌, ◌≢◌, [], length, IsTrue, IsErrOf, IfOk, OnErr};
+ghost use Rattle.std.specs.Prelude.{◌≡◌, ◌⊎◌, ◌+◌, ◌^◌, ◌<◌, ◌≤◌, IsErrOf};
 ghost use Rattle.grid_outside.specs.Fault.{Rose};
 ghost use Rattle.grid_outside.specs.Device.{Looks};
 ghost use Rattle.grid_server.specs.declared.start.StartError.TheVariants.{Disk as StartDisk, Memory as StartMemory};
