@@ -59,6 +59,13 @@ impl MemDisk {
         &self.bytes
     }
 
+    /// Its calls with a moment, in order.
+    pub fn calls(&self) -> &[Call<DiskDeed>]
+        ensures { result.now ≡ (history_of self.now).calls }
+    {
+        &self.calls
+    }
+
     /// A law, which does nothing: a stop at a moment may leave exactly what the rules of a disk allow after the calls
     /// up to that moment.
     pub fn leaves(&self)

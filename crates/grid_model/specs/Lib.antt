@@ -1,5 +1,6 @@
 pub mod Catalogue
 pub mod Commands
+pub mod Digests
 pub mod Grid
 pub mod Limits
 pub mod Lines

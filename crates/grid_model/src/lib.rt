@@ -1,9 +1,15 @@
 //! The plain types of the grid. Its mathematics stands in `specs/`.
 #![tactic(auto)]
 
+mod calls;
+mod deltas;
+mod digest;
 mod grid;
+mod items;
+mod marks;
 mod name;
 mod path;
+mod plans;
 mod replies;
 mod requests;
 #[cfg(test)]
@@ -11,10 +17,19 @@ mod tests;
 mod text;
 mod texts;
 
-pub use grid::Side;
+pub use calls::{Call, Calls};
+pub use deltas::{
+    CollectionRow, Delta, Deltas, EntryRow, Item, MemberRow, Numbers, ObjectRow, OrphanRow,
+    Pending, ReplicaRow, ResourceRow, TripleRow, UserRow,
+};
+pub use digest::Digest;
+pub use grid::{ItemKind, Level, Mode, ResourceKind, Side, UserKind};
+pub use items::Items;
+pub use marks::{BadReplica, BadReplicas, Mark, Marks};
 pub use name::{BadName, check_name};
 pub use path::{Path, PathError};
-pub use replies::Refusal;
+pub use plans::{NewFile, NewFiles, OldFile, OldFiles, Plan, PlanError};
+pub use replies::{End, Failure, Passed, Passeds, Refusal, Reply, Rows};
 pub use requests::Verb;
 pub use text::{Bytes, Text};
 pub use texts::Texts;

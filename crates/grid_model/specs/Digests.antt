@@ -1,0 +1,18 @@
+-- Digests (SHA-256, FIPS 180-4) and how they are printed.
+use Rattle.std.specs.Prelude.{◌≡◌, ℕ, ◌<◌, true, List, ◌++◌, codes, length, slice_index}
+use Rattle.base64.specs.Rfc4648.{encode}
+use Rattle.base64.specs.Alphabets.{standard}
+use Rattle.grid_model.specs.Names.{Text}
+
+-- what SHA-256 gives of some bytes
+abbrev pub Digest : Type 0
+Digest = List ℕ
+
+-- it has 32 bytes
+pub record IsDigest (d : Digest) : Type 0 where
+  pub length_is : length d ≡ 32
+  pub bytes : (i : ℕ) → slice_index d i < 256
+
+-- `sha2:` and the padded base64 of the digest, in the standard alphabet (RFC 4648, section 4)
+abbrev pub checksum : Digest → Text
+checksum d = codes "sha2:" ++ encode standard.symbols 0x3D true d

@@ -1,0 +1,65 @@
+ghost use Rattle.std.specs.Prelude.{◌≡◌, ◌≢◌, IfOk, IfSome, IfNone};
+ghost use Rattle.sha2.specs.Sha256.{sha256};
+ghost use Rattle.grid_model.specs.Digests.{IsDigest, checksum};
+
+use crate::Text;
+use base64::DecodeAllocError;
+use base64::engine::general_purpose::STANDARD;
+use sha2::{Digest as Hash, Sha256};
+use std::alloc::{AllocError, Global};
+use std::marker::Model;
+
+/// How a printed digest begins.
+const PREFIX: &str = "sha2:";
+
+/// The SHA-256 of some bytes (FIPS 180-4). Contracts see its 32 bytes.
+#[derive(Clone, Copy, Debug, PartialEq, Eq)]
+pub struct Digest {
+    bytes: [u8; 32],
+}
+
+impl Model for Digest {
+    ghost use Rattle.std.specs.Prelude.{ℕ, List};
+
+    ghost Value = { List ℕ };
+
+    ghost view = { λ d. d.bytes };
+
+    ghost inverse = { λ v. record { bytes = v } };
+}
+
+impl Digest {
+    /// The digest of these bytes.
+    pub fn of(bytes: &[u8]) -> Digest
+        ensures { result ≡ sha256 bytes.now }
+    {
+        let mut hasher = Sha256::new();
+        hasher.update(bytes);
+        Digest {
+            bytes: hasher.finalize(),
+        }
+    }
+
+    /// The digest with these bytes.
+    pub fn from_bytes(bytes: [u8; 32]) -> Digest
+        ensures { result ≡ bytes }
+    {
+        Digest { bytes }
+    }
+
+    /// Its bytes.
+    pub fn to_bytes(self) -> [u8; 32]
+        ensures { result ≡ self }
+    {
+        self.bytes
+    }
+
+    /// It is a digest.
+    pub fn print(&self, alloc: Global) -> Result<Text, AllocError>
+        ensures { IfOk result (λ text. text ≡ checksum self.now) }
+    {
+        let mut text = String::from_str(alloc, PREFIX)?;
+        STANDARD.encode_string(&self.bytes, &mut text)?;
+        Ok(Text::from_vec(text.into_bytes()))
+    }
+}
