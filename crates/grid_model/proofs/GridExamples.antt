@@ -1,14 +1,20 @@
 -- The definitions of requests, replies and the catalogue on worked examples.
 use Rattle.std.proofs.Common.{◌≡◌, true, false, List, [], ◌∷◌, ◌++◌, Some, None, Ok, Err, refl}
-use Rattle.std.specs.Prelude.{codes}
+use Rattle.std.specs.Prelude.{codes, decimal, map}
 use Rattle.grid_model.specs.Names.{Text, Path}
 use Rattle.grid_model.specs.Grid.{start, home_of}
 use Rattle.grid_model.specs.Lines.{lines, whole_lines, requests, whole_requests}
 use Rattle.grid_model.specs.Commands.{State, Done, command}
-use Rattle.grid_model.specs.Replies.{print_answer}
+use Rattle.grid_model.specs.Printing.{spaced, line, print_refusal}
+use Rattle.grid_model.specs.DataLines.{data_lines}
+use Rattle.grid_model.specs.Replies.{end_of, end_words}
+use Rattle.grid_model.specs.Words.{quoted_word}
 use Rattle.grid_model.specs.Catalogue.{first_line, path_line, kept_lines}
 use Rattle.grid_model.specs.declared.requests.Verb.TheVariants.{Login, MkDir}
-use Rattle.grid_model.specs.declared.replies.Refusal.TheVariants.{NotBuilt, NoUser, NoLogin, NoCollection, Exists}
+use Rattle.grid_model.specs.declared.refusal.Refusal.TheVariants.{NotBuilt, NoUser, NoLogin, NoCollection, Exists, NoReplica, BadRule}
+use Rattle.grid_model.specs.declared.refusal.RuleCause.TheVariants.{Unknown}
+use Rattle.grid_model.specs.declared.refusal.Failure.TheVariants.{Refused}
+use Rattle.grid_model.specs.declared.replies.End.TheVariants.{PreFailed}
 
 -- ---- lines
 
@@ -78,11 +84,29 @@ the_root = refl
 
 -- ---- replies
 
-an_answer : print_answer (Ok tt) ≡ codes "ok"
+an_answer : spaced (end_words (end_of (Ok tt))) ≡ codes "ok"
 an_answer = refl
 
-a_refusal : print_answer (Err NoCollection) ≡ codes "err NoCollection"
+a_refusal : spaced (end_words (end_of (Err NoCollection))) ≡ codes "err NoCollection"
 a_refusal = refl
+
+two_causes : print_refusal (BadRule 0 Unknown) ≡ codes "BadRule " ++ decimal 0 ++ codes " Unknown"
+two_causes = refl
+
+a_refused_step : spaced (end_words (PreFailed (Refused NoReplica))) ≡ codes "err PreFailed NoReplica"
+a_refused_step = refl
+
+an_empty_word : spaced (map quoted_word (codes "kept" ∷ codes "alone" ∷ [] ∷ [])) ≡ codes "kept alone \"\""
+an_empty_word = refl
+
+a_quoted_failure : spaced (map quoted_word (codes "nop" ∷ codes "Fault 1" ∷ [])) ≡ codes "nop \"Fault 1\""
+a_quoted_failure = refl
+
+no_bytes_no_line : data_lines 3 [] ≡ []
+no_bytes_no_line = refl
+
+one_part : data_lines 3 (codes "abc") ≡ line 3 (codes "data" ∷ decimal 3 ∷ []) ++ codes "abc\n"
+one_part = refl
 
 -- ---- the catalogue
 

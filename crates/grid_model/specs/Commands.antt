@@ -6,8 +6,8 @@ use Rattle.grid_model.specs.Grid.{Grid}
 use Rattle.grid_model.specs.Requests.{Asks}
 use Rattle.grid_model.specs.declared.requests.Verb.{Verb}
 use Rattle.grid_model.specs.declared.requests.Verb.TheVariants.{Login, MkDir}
-use Rattle.grid_model.specs.declared.replies.Refusal.{Refusal}
-use Rattle.grid_model.specs.declared.replies.Refusal.TheVariants.{NotBuilt, NoUser, NoLogin, NoCollection, Exists}
+use Rattle.grid_model.specs.declared.refusal.Refusal.{Refusal}
+use Rattle.grid_model.specs.declared.refusal.Refusal.TheVariants.{NotBuilt, NoUser, NoLogin, NoCollection, Exists}
 
 -- the collection in which something at this path would lie is there
 abbrev pub has_parent : Grid → Path → Bool

@@ -1,5 +1,6 @@
 pub mod Catalogue
 pub mod Commands
+pub mod DataLines
 pub mod Digests
 pub mod Grid
 pub mod Limits
@@ -7,6 +8,7 @@ pub mod Lines
 pub mod Maps
 pub mod Names
 pub mod Places
+pub mod Printing
 pub mod Replies
 pub mod Requests
 pub mod Words

@@ -10,6 +10,7 @@ mod marks;
 mod name;
 mod path;
 mod plans;
+mod refusal;
 mod replies;
 mod requests;
 #[cfg(test)]
@@ -29,7 +30,8 @@ pub use marks::{BadReplica, BadReplicas, Mark, Marks};
 pub use name::{BadName, check_name};
 pub use path::{Path, PathError};
 pub use plans::{NewFile, NewFiles, OldFile, OldFiles, Plan, PlanError};
-pub use replies::{End, Failure, Passed, Passeds, Refusal, Reply, Rows};
+pub use refusal::{Failure, Refusal, RuleCause, TreeCause, What};
+pub use replies::{End, Passed, Passeds, Reply, Rows};
 pub use requests::Verb;
 pub use text::{Bytes, Text};
 pub use texts::Texts;

@@ -1,38 +1,4 @@
-use crate::{Call, Items, Marks, Text, Texts};
-
-/// Why a request was not done. A refused request changed nothing.
-#[derive(Clone, Copy, Debug, PartialEq, Eq)]
-pub enum Refusal {
-    /// The line is none of what is built.
-    NotBuilt,
-    /// There is no user of this name.
-    NoUser,
-    /// The session is nobody's yet.
-    NoLogin,
-    /// The collection that it should lie in is not there.
-    NoCollection,
-    /// Something is there already.
-    Exists,
-}
-
-/// Why a step of a rule failed.
-#[derive(Clone, Copy, Debug, PartialEq, Eq)]
-pub enum Failure {
-    /// Its micro-service refused.
-    Refused(Refusal),
-    /// The rule itself failed, with this number.
-    Code(i64),
-    /// No rule of the name was applicable.
-    NoRule,
-    /// The rule call would be too deep.
-    Depth,
-    /// The command has had all its steps.
-    Spent,
-    /// A computed argument is too long.
-    LongText,
-    /// The server stopped in it.
-    Stopped,
-}
+use crate::{Call, Failure, Items, Marks, Refusal, Text, Texts};
 
 /// A recovery that was refused, and its failure as it is printed.
 #[derive(Debug, Drop)]
