@@ -5,8 +5,8 @@ use Rattle.grid_model.specs.Names.{Text, Path}
 use Rattle.grid_model.specs.Grid.{start, home_of}
 use Rattle.grid_model.specs.Lines.{lines, whole_lines, requests, whole_requests}
 use Rattle.grid_model.specs.Commands.{State, Done, command}
-use Rattle.grid_model.specs.Printing.{spaced, line, print_refusal}
-use Rattle.grid_model.specs.DataLines.{data_lines}
+use Rattle.grid_model.specs.Printing.{spaced, print_refusal}
+use Rattle.grid_model.specs.DataLines.{data_lines, parts_within}
 use Rattle.grid_model.specs.Replies.{end_of, end_words}
 use Rattle.grid_model.specs.Words.{quoted_word}
 use Rattle.grid_model.specs.Catalogue.{first_line, path_line, kept_lines}
@@ -105,7 +105,7 @@ a_quoted_failure = refl
 no_bytes_no_line : data_lines 3 [] ≡ []
 no_bytes_no_line = refl
 
-one_part : data_lines 3 (codes "abc") ≡ line 3 (codes "data" ∷ decimal 3 ∷ []) ++ codes "abc\n"
+one_part : parts_within 3 (codes "abc") ≡ codes "abc" ∷ []
 one_part = refl
 
 -- ---- the catalogue
