@@ -1,3 +1,5 @@
+mod images;
+
 use crate::{FrameLog, LogError, Record};
 use grid_mem::MemDisk;
 use grid_outside::Moments;
