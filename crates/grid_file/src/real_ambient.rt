@@ -1,4 +1,4 @@
-ghost use Rattle.ird.specs.Untold.{untold_ambient};
+ghost use Rattle.grid_file.specs.Untold.{untold_ambient};
 
 use grid_outside::Ambient;
 use rand_core::SeedableRng;

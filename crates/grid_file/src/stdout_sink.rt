@@ -1,5 +1,5 @@
 ghost use Rattle.std.specs.Prelude.{◌≡◌};
-ghost use Rattle.ird.specs.Untold.{untold_sink};
+ghost use Rattle.grid_file.specs.Untold.{untold_sink};
 
 use grid_outside::{Sink, SinkFault};
 use std::io::Write;

@@ -1,6 +1,6 @@
 -- The reading stays within the buffer.
 use Rattle.std.proofs.Common.{◌≡◌, ◌≤◌, length}
-use Rattle.ird.proofs.lazy_file.fill.Given as goal
+use Rattle.grid_file.proofs.reading.fill.Given as goal
 
 abbrev pub invariant-loop : goal.invariant-loop
 invariant-loop l = (length l.buf ≡ length l.initial.buf) × (l.done ≤ length l.buf)

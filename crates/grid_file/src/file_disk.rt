@@ -1,6 +1,6 @@
 ghost use Rattle.std.specs.Prelude.{◌≡◌, ◌≤◌};
 ghost use Rattle.grid_outside.specs.Fault.{Rose};
-ghost use Rattle.ird.specs.Untold.{untold_disk};
+ghost use Rattle.grid_file.specs.Untold.{untold_disk};
 
 use crate::lazy_file::LazyFile;
 use grid_outside::{Disk, DiskFault};

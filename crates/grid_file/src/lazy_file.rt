@@ -1,5 +1,6 @@
 ghost use Rattle.std.specs.Io.{ReadsAtMost};
 
+use crate::reading::fill;
 use std::fs::{File, OpenOptions};
 use std::io;
 use std::os::unix::fs::FileExt;
@@ -83,22 +84,4 @@ fn opened(rt: &HostRuntime, name: &str) -> io::Result<File> {
     file.sync_all()?;
     File::open(rt, ".")?.sync_all()?;
     Ok(file)
-}
-
-fn fill(file: &File, at: u64, buf: &mut [u8]) -> io::Result<usize>
-    ensures { ReadsAtMost result buf.new }
-{
-    let mut done = 0;
-    for _ in 0..u64::MAX {
-        if done >= buf.len() {
-            break;
-        }
-        match file.read_at(&mut buf[done..], at.saturating_add(done as u64)) {
-            Ok(0) => break,
-            Ok(count) => done += count,
-            Err(error) if error.kind() == io::ErrorKind::Interrupted => {}
-            Err(error) => return Err(error),
-        }
-    }
-    Ok(done)
 }

@@ -1,9 +1,11 @@
 -- What a device means whose contents lie outside: it counts its faults and the moments that it was given, and tells
 -- nothing else.
 use Rattle.std.specs.Prelude.{◌≡◌, ℕ, true, false, []}
+use Rattle.std.specs.FinMap.{empty}
 use Rattle.grid_outside.specs.Ambient.{AmbientState}
 use Rattle.grid_outside.specs.Device.{DeviceState}
 use Rattle.grid_outside.specs.Disk.{DiskState}
+use Rattle.grid_outside.specs.Files.{StoreState}
 use Rattle.grid_outside.specs.Sink.{SinkState}
 use Rattle.grid_outside.specs.Source.{SourceState}
 
@@ -26,6 +28,9 @@ untold nothing faults last = record {
 
 abbrev pub untold_disk : ℕ → ℕ → DiskState
 untold_disk faults last = untold [] faults last
+
+abbrev pub untold_store : ℕ → ℕ → StoreState
+untold_store faults last = untold empty faults last
 
 abbrev pub untold_sink : ℕ → ℕ → SinkState
 untold_sink faults last = untold [] faults last

@@ -1,5 +1,5 @@
 ghost use Rattle.std.specs.Prelude.{◌≡◌, ◌≤◌, length, IfSome};
-ghost use Rattle.ird.specs.Untold.{untold_source};
+ghost use Rattle.grid_file.specs.Untold.{untold_source};
 
 use grid_outside::{Source, SourceFault};
 use std::io::{ErrorKind, Read};
