@@ -36,6 +36,10 @@ no_lines = refl
 one_empty_line : lines (codes "\n") ≡ [] ∷ []
 one_empty_line = refl
 
+-- a line of spaces is no request
+a_blank_line : requests (codes " \n  a\n\n") ≡ codes "  a" ∷ []
+a_blank_line = refl
+
 -- ---- commands, in the order of their refusals
 
 abbrev zone : Text
@@ -56,30 +60,30 @@ below_home = zone ∷ codes "home" ∷ admin ∷ codes "a" ∷ []
 abbrev too_deep : Path
 too_deep = zone ∷ codes "home" ∷ admin ∷ codes "b" ∷ codes "c" ∷ []
 
-nothing_built : (command at_first None).answer ≡ Err NotBuilt
+nothing_built : (command at_first (Err NotBuilt)).answer ≡ Err NotBuilt
 nothing_built = refl
 
-another_user : (command at_first (Some (Login zone))).answer ≡ Err NoUser
+another_user : (command at_first (Ok (Login zone))).answer ≡ Err NoUser
 another_user = refl
 
-the_admin : command at_first (Some (Login admin)) ≡ record { state = logged_in; made = None; answer = Ok tt }
+the_admin : command at_first (Ok (Login admin)) ≡ record { state = logged_in; made = None; answer = Ok tt }
 the_admin = refl
 
-nobody_logged_in : (command at_first (Some (MkDir below_home))).answer ≡ Err NoLogin
+nobody_logged_in : (command at_first (Ok (MkDir below_home))).answer ≡ Err NoLogin
 nobody_logged_in = refl
 
-made : (command logged_in (Some (MkDir below_home))).made ≡ Some below_home
+made : (command logged_in (Ok (MkDir below_home))).made ≡ Some below_home
 made = refl
 
 -- it is there for the next request
-made_twice : (command (command logged_in (Some (MkDir below_home))).state (Some (MkDir below_home))).answer ≡ Err Exists
+made_twice : (command (command logged_in (Ok (MkDir below_home))).state (Ok (MkDir below_home))).answer ≡ Err Exists
 made_twice = refl
 
-no_parent : (command logged_in (Some (MkDir too_deep))).answer ≡ Err NoCollection
+no_parent : (command logged_in (Ok (MkDir too_deep))).answer ≡ Err NoCollection
 no_parent = refl
 
 -- the root has no parent, and is there
-the_root : (command logged_in (Some (MkDir []))).answer ≡ Err Exists
+the_root : (command logged_in (Ok (MkDir []))).answer ≡ Err Exists
 the_root = refl
 
 -- ---- replies
@@ -113,5 +117,5 @@ one_part = refl
 the_first_line : first_line zone admin ≡ codes "Z /tempZone/home/rods\n"
 the_first_line = refl
 
-a_kept_line : kept_lines (command at_first (Some (Login admin)) ∷ command logged_in (Some (MkDir below_home)) ∷ []) ≡ codes "C /tempZone/home/rods/a\n"
+a_kept_line : kept_lines (command at_first (Ok (Login admin)) ∷ command logged_in (Ok (MkDir below_home)) ∷ []) ≡ codes "C /tempZone/home/rods/a\n"
 a_kept_line = refl

@@ -7,7 +7,7 @@ use Rattle.grid_model.specs.Requests.{Asks}
 use Rattle.grid_model.specs.declared.requests.Verb.{Verb}
 use Rattle.grid_model.specs.declared.requests.Verb.TheVariants.{Login, MkDir}
 use Rattle.grid_model.specs.declared.refusal.Refusal.{Refusal}
-use Rattle.grid_model.specs.declared.refusal.Refusal.TheVariants.{NotBuilt, NoUser, NoLogin, NoCollection, Exists}
+use Rattle.grid_model.specs.declared.refusal.Refusal.TheVariants.{NoUser, NoLogin, NoCollection, Exists}
 
 -- the collection in which something at this path would lie is there
 abbrev pub has_parent : Grid → Path → Bool
@@ -44,17 +44,17 @@ make s p = elim (has s.grid.collections p) [
   ]
 ]
 
--- what is asked for, or none of what is built
-abbrev pub command : State → Option Verb → Done
-command s None = refused s NotBuilt
-command s (Some (Login user)) = elim (same_text user s.grid.admin) [
+-- what is asked for is done, or refused as the line already was
+abbrev pub command : State → Result Verb Refusal → Done
+command s (Err refusal) = refused s refusal
+command s (Ok (Login user)) = elim (same_text user s.grid.admin) [
   | true ↦ record { state = record s { logged_in = true }; made = None; answer = Ok tt }
   | false ↦ refused s NoUser
 ]
-command s (Some (MkDir path)) = elim s.logged_in [ true ↦ make s path | false ↦ refused s NoLogin ]
+command s (Ok (MkDir path)) = elim s.logged_in [ true ↦ make s path | false ↦ refused s NoLogin ]
 
 -- These lines, one after another from this state on, did this and left that state.
 pub data After : State → List Text → List Done → State → Type 0 where
   none : {s : State} → After s [] [] s
-  next : {s end : State} {line : Text} {lines : List Text} {d : Done} {ds : List Done} (verb : Option Verb)
-      → Asks line verb → d ≡ command s verb → After d.state lines ds end → After s (line ∷ lines) (d ∷ ds) end
+  next : {s end : State} {line : Text} {lines : List Text} {d : Done} {ds : List Done} (asked : Result Verb Refusal)
+      → Asks line asked → d ≡ command s asked → After d.state lines ds end → After s (line ∷ lines) (d ∷ ds) end

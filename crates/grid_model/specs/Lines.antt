@@ -1,6 +1,8 @@
 -- The lines of an input.
-use Rattle.std.specs.Prelude.{◌≢◌, ℕ, Bool, List, [], ◌∷◌, ◌++◌, length, filter, nat_lt, ◌==◌, if◌then◌else◌}
+use Rattle.std.specs.Prelude.{◌≢◌, ℕ, Bool, not, ◌||◌, List, [], ◌∷◌, ◌++◌, length, filter, nat_lt, ◌==◌, if◌then◌else◌}
+use Rattle.std.specs.List.{list_all}
 use Rattle.grid_model.specs.Names.{Text}
+use Rattle.grid_model.specs.Limits.{longest_line}
 
 -- a byte in front of the first line
 abbrev pub onto : ℕ → List Text → List Text
@@ -27,9 +29,13 @@ abbrev pub IsLine : Text → Type 0
 IsLine [] = Unit {0}
 IsLine (byte ∷ bytes) = (byte ≢ 0x0A) × IsLine bytes
 
--- a line that is not empty is a request
+-- nothing but spaces, and so without words
+abbrev pub is_blank : Text → Bool
+is_blank line = list_all (λ b. b == 0x20) line
+
+-- a line with words is a request, and so is one that is too long to look for words
 abbrev pub is_request : Text → Bool
-is_request line = nat_lt 0 (length line)
+is_request line = not (is_blank line) || nat_lt longest_line (length line)
 
 -- the requests of an input, one after another
 abbrev pub requests : Text → List Text

@@ -5,17 +5,19 @@ use Rattle.grid_outside.specs.Disk.{DiskState}
 use Rattle.grid_outside.specs.Sink.{SinkState, AddsPart}
 use Rattle.grid_model.specs.Maps.{has}
 use Rattle.grid_model.specs.Names.{Text, Path, same_text, print_path, SpellsPath}
-use Rattle.grid_model.specs.Requests.{Asks, Spells, a_login, a_mkdir}
+use Rattle.grid_model.specs.Words.{SpellsLine}
+use Rattle.grid_model.specs.Requests.{Asks, asks_for, not_built, too_long, no_words, SpellsVerb, a_login, a_mkdir}
 use Rattle.grid_model.specs.Commands.{State, Done, command, make, refused, has_parent, with_collection}
 use Rattle.grid_model.specs.Catalogue.{kept_line, path_line}
 use Rattle.grid_model.specs.Replies.{AddsFirst}
 use Rattle.grid_model.specs.declared.requests.Verb.{Verb}
 use Rattle.grid_model.specs.declared.requests.Verb.TheVariants.{Login, MkDir}
-use Rattle.grid_model.specs.declared.replies.Refusal.{Refusal}
-use Rattle.grid_model.specs.declared.replies.Refusal.TheVariants.{NotBuilt, NoUser, NoLogin, NoCollection, Exists}
+use Rattle.grid_model.specs.declared.refusal.Refusal.{Refusal}
+use Rattle.grid_model.specs.declared.refusal.Refusal.TheVariants.{NotBuilt, TooLong, Syntax, NoUser, NoLogin, NoCollection, Exists}
 use Rattle.grid_server.specs.declared.server.Server.{Server}
 use Rattle.grid_server.specs.declared.server.Stop.{Stop}
 use Rattle.grid_server.specs.declared.server.Stop.TheVariants.{Disk, Sink, Memory, Worn}
+use Rattle.grid_server.proofs.RequestLemmas.{total, words_short}
 use Rattle.grid_server.specs.Answering.{state_of, Makes, Keeps, Kept, Did, Answers}
 
 -- a request that is refused changes nothing
@@ -46,24 +48,24 @@ make_either s p =
       ]
     ]
 
-pub makes_one : (s : State) (p : Path) → (command s (Some (MkDir p))).answer ≡ Ok tt → command s (Some (MkDir p)) ≡ made_one s p
+pub makes_one : (s : State) (p : Path) → (command s (Ok (MkDir p))).answer ≡ Ok tt → command s (Ok (MkDir p)) ≡ made_one s p
 makes_one s p =
     let pick : Bool → Done = λ on. elim on [ true ↦ make s p | false ↦ refused s NoLogin ] in
     elim s.logged_in as (λ on. (pick on).answer ≡ Ok tt → pick on ≡ made_one s p) [ true ↦ (make_either s p).0 | false ↦ λ e. absurd (cc) ]
 
-pub logs_in : (s : State) (user : Text) → (command s (Some (Login user))).answer ≡ Ok tt → (let after : Done = record { state = record s { logged_in = true }; made = None; answer = Ok tt } in command s (Some (Login user)) ≡ after)
+pub logs_in : (s : State) (user : Text) → (command s (Ok (Login user))).answer ≡ Ok tt → (let after : Done = record { state = record s { logged_in = true }; made = None; answer = Ok tt } in command s (Ok (Login user)) ≡ after)
 logs_in s user =
     let after : Done = record { state = record s { logged_in = true }; made = None; answer = Ok tt } in
     let pick : Bool → Done = λ same. elim same [ true ↦ after | false ↦ refused s NoUser ] in
     elim (same_text user s.grid.admin) as (λ same. (pick same).answer ≡ Ok tt → pick same ≡ after) [ true ↦ λ e. refl | false ↦ λ e. absurd (cc) ]
 
-pub nothing_done : (s : State) (verb : Option Verb) → is_err (command s verb).answer ≡ true → Nothing s (command s verb)
-nothing_done s None e = refused_nothing s NotBuilt
-nothing_done s (Some (Login user)) e =
+pub nothing_done : (s : State) (asked : Result Verb Refusal) → is_err (command s asked).answer ≡ true → Nothing s (command s asked)
+nothing_done s (Err refusal) e = refused_nothing s refusal
+nothing_done s (Ok (Login user)) e =
     let after : Done = record { state = record s { logged_in = true }; made = None; answer = Ok tt } in
     let pick : Bool → Done = λ same. elim same [ true ↦ after | false ↦ refused s NoUser ] in
     (elim (same_text user s.grid.admin) as (λ same. is_err (pick same).answer ≡ true → Nothing s (pick same)) [ true ↦ λ f. absurd (cc) | false ↦ λ f. refused_nothing s NoUser ]) e
-nothing_done s (Some (MkDir p)) e =
+nothing_done s (Ok (MkDir p)) e =
     let pick : Bool → Done = λ on. elim on [ true ↦ make s p | false ↦ refused s NoLogin ] in
     (elim s.logged_in as (λ on. is_err (pick on).answer ≡ true → Nothing s (pick on)) [ true ↦ (make_either s p).1 | false ↦ λ f. refused_nothing s NoLogin ]) e
 
@@ -95,38 +97,44 @@ pub kept-some : (d : Done) (p : Path) → d.made ≡ Some p → kept_line d ≡ 
 kept-some d p some = ap (λ (m : Option Path). elim m as (λ x. Text) [ None ↦ [] | Some q ↦ path_line q ]) some
 
 -- a line of a request is short, since the request is
-word_short : (line word : Text) (p : Path) → length line ≤ 4096 → line ≡ codes "0 mkdir " ++ word → SpellsPath word p → length (path_line p) ≤ 2 ^ 62
-word_short line word p le split spells =
-    omega (arith, le, ap length split, length-append (codes "0 mkdir ") word, ap length spells.text_is, length-append (codes "C " ++ print_path p) (0x0A ∷ []), length-append (codes "C ") (print_path p))
+word_short : (line word : Text) (words : List Text) (p : Path) → length line ≤ 4096 → SpellsLine line words → words ≡ codes "0" ∷ codes "mkdir" ∷ word ∷ [] → SpellsPath word p
+    → length (path_line p) ≤ 2 ^ 62
+word_short line word words p le is split spells =
+    omega (arith, le, words_short is, ap total split, ap length spells.text_is, length-append (codes "C " ++ print_path p) (0x0A ∷ []), length-append (codes "C ") (print_path p))
 
-by_answer : (s : State) (p : Path) (r : Result ⊤ Refusal) → (command s (Some (MkDir p))).answer ≡ r → length (path_line p) ≤ 2 ^ 62 → length (kept_line (command s (Some (MkDir p)))) ≤ 2 ^ 62
-by_answer s p (Ok done) e le = omega (arith, le, ap length (kept-some (command s (Some (MkDir p))) p (ap (λ (d : Done). d.made) (makes_one s p e))))
-by_answer s p (Err refusal) e le = omega (arith, ap length (kept-none (command s (Some (MkDir p))) (nothing_done s (Some (MkDir p)) (ap is_err e)).made))
+by_answer : (s : State) (p : Path) (r : Result ⊤ Refusal) → (command s (Ok (MkDir p))).answer ≡ r → length (path_line p) ≤ 2 ^ 62 → length (kept_line (command s (Ok (MkDir p)))) ≤ 2 ^ 62
+by_answer s p (Ok done) e le = omega (arith, le, ap length (kept-some (command s (Ok (MkDir p))) p (ap (λ (d : Done). d.made) (makes_one s p e))))
+by_answer s p (Err refusal) e le = omega (arith, ap length (kept-none (command s (Ok (MkDir p))) (nothing_done s (Ok (MkDir p)) (ap is_err e)).made))
 
-login_none : (s : State) (user : Text) → (command s (Some (Login user))).made ≡ None
+login_none : (s : State) (user : Text) → (command s (Ok (Login user))).made ≡ None
 login_none s user =
     let after : Done = record { state = record s { logged_in = true }; made = None; answer = Ok tt } in
     let pick : Bool → Done = λ same. elim same [ true ↦ after | false ↦ refused s NoUser ] in
     elim (same_text user s.grid.admin) as (λ same. (pick same).made ≡ None) [ true ↦ refl | false ↦ refl ]
 
-pub asked_short : (s : State) (line : Text) (verb : Option Verb) → Asks line verb → length (kept_line (command s verb)) ≤ 2 ^ 62
-asked_short s line None asks = omega (arith, ap length (kept-none (command s None) refl))
-asked_short s line (Some verb) asks = by_spelling verb asks.0 asks.1
+refused_short : (s : State) (r : Refusal) → length (kept_line (command s (Err r))) ≤ 2 ^ 62
+refused_short s r = omega (arith, ap length (kept-none (command s (Err r)) refl))
+
+pub asked_short : (s : State) (line : Text) (asked : Result Verb Refusal) → Asks line asked → length (kept_line (command s asked)) ≤ 2 ^ 62
+asked_short s line asked (not_built le is none) = refused_short s NotBuilt
+asked_short s line asked (too_long lt) = refused_short s TooLong
+asked_short s line asked (no_words {place = place} le is) = refused_short s (Syntax place)
+asked_short s line asked (asks_for {words = words} {verb = verb} le is spells) = by_spelling verb spells
   where
-    by_spelling : (v : Verb) → length line ≤ 4096 → Spells line v → length (kept_line (command s (Some v))) ≤ 2 ^ 62
-    by_spelling v le (a_login {user = user} e bare) = omega (arith, ap length (kept-none (command s (Some (Login user))) (login_none s user)))
-    by_spelling v le (a_mkdir {word = word} {path = p} e bare spells) = by_answer s p (command s (Some (MkDir p))).answer refl (word_short line word p le e spells)
+    by_spelling : (v : Verb) → SpellsVerb words v → length (kept_line (command s (Ok v))) ≤ 2 ^ 62
+    by_spelling v (a_login {user = user} e) = omega (arith, ap length (kept-none (command s (Ok (Login user))) (login_none s user)))
+    by_spelling v (a_mkdir {word = word} {path = p} e of_path) = by_answer s p (command s (Ok (MkDir p))).answer refl (word_short line word words p le is e of_path)
 
 -- ---- a collection is asked for and not refused
 
-module _ (s : State) (verb : Option Verb) (p : Path) (r : Result ⊤ Refusal) (is : verb ≡ Some (MkDir p)) (judged : r ≡ (command s verb).answer) (fine : is_err r ≡ false) where
-  pub asked_one : command s verb ≡ made_one s p
+module _ (s : State) (asked : Result Verb Refusal) (p : Path) (r : Result ⊤ Refusal) (is : asked ≡ Ok (MkDir p)) (judged : r ≡ (command s asked).answer) (fine : is_err r ≡ false) where
+  pub asked_one : command s asked ≡ made_one s p
   asked_one =
-      let same : command s verb ≡ command s (Some (MkDir p)) = ap (λ (v : Option Verb). command s v) is in
+      let same : command s asked ≡ command s (Ok (MkDir p)) = ap (λ (v : Result Verb Refusal). command s v) is in
       same ∙ makes_one s p (sym (ap (λ (d : Done). d.answer) same) ∙ sym judged ∙ is_fine r fine)
 
-  pub kept_short : length (kept_line (command s verb)) ≤ 2 ^ 62 → length (path_line p) ≤ 2 ^ 62
-  kept_short le = omega (arith, le, ap length (kept-some (command s verb) p (ap (λ (d : Done). d.made) asked_one)))
+  pub kept_short : length (kept_line (command s asked)) ≤ 2 ^ 62 → length (path_line p) ≤ 2 ^ 62
+  kept_short le = omega (arith, le, ap length (kept-some (command s asked) p (ap (λ (d : Done). d.made) asked_one)))
 
 -- ---- the answering of a request
 

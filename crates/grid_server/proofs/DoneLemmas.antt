@@ -1,25 +1,26 @@
 -- Requests that were done, and one more.
-use Rattle.std.proofs.Common.{◌≡◌, ◌≢◌, ◌⊎◌, inl, inr, ℕ, ◌+◌, ◌≤◌, Bool, true, false, not, ◌&&◌, List, [], ◌∷◌, ◌++◌, length, take, Option, Some, None, Ok, IsTrue, arith, refl, sym, subst, ap, ◌∙◌, append_assoc, length-append, length-take}
-use Rattle.std.proofs.lemmas.Bool.{cases_lt}
-use Rattle.std.proofs.lemmas.List.{append-nil, take_all, length-take-le}
+use Rattle.std.proofs.Common.{◌≡◌, ◌≢◌, ◌⊎◌, inl, inr, ℕ, ◌+◌, ◌≤◌, Bool, true, false, not, ◌&&◌, List, [], ◌∷◌, ◌++◌, length, take, Option, Some, None, Result, Ok, IsTrue, arith, refl, sym, subst, ap, ◌∙◌, append_assoc, length-append}
+use Rattle.std.proofs.lemmas.List.{append-nil}
 use Rattle.grid_model.specs.Maps.{has}
 use Rattle.grid_model.specs.Names.{Text, Path, same_text, print_path, SpellsPath}
 use Rattle.grid_model.specs.Grid.{Grid}
-use Rattle.grid_model.specs.Requests.{Asks, Spells, a_login, a_mkdir}
+use Rattle.grid_model.specs.Requests.{Asks, asks_for, not_built, too_long, no_words, SpellsVerb, a_login, a_mkdir}
+use Rattle.grid_model.specs.declared.refusal.Refusal.{Refusal}
 use Rattle.grid_model.specs.Commands.{State, Done, command, make, refused, has_parent, may_add, with_collection, After, none, next}
 use Rattle.grid_model.specs.Replies.{reply, replies}
 use Rattle.grid_model.specs.Catalogue.{Stands, kept_line, kept_lines, path_line, HasRoom, longest_catalogue}
 use Rattle.grid_model.specs.declared.requests.Verb.{Verb}
-use Rattle.grid_model.specs.declared.replies.Refusal.TheVariants.{NoUser, NoLogin, NoCollection, Exists}
+use Rattle.grid_model.specs.declared.refusal.Refusal.TheVariants.{NoUser, NoLogin, NoCollection, Exists}
 use Rattle.grid_server.specs.Answering.{Did}
 use Rattle.grid_server.specs.Serving.{DidAll, begins}
 use Rattle.grid_server.proofs.CommandLemmas.{made_one, kept-none, kept-some}
+use Rattle.grid_server.proofs.RequestLemmas.{asks_held}
 use Rattle.grid_server.proofs.StandsLemmas.{Stands-push}
 
 -- ---- lists that go on
 
 pub After-push : {s mid : State} {asked : List Text} {done : List Done} (line : Text) (d : Done) → After s asked done mid → Did mid line d → After s (asked ++ line ∷ []) (done ++ d ∷ []) d.state
-After-push line d none did = next did.verb did.asks did.is none
+After-push line d none did = next did.asked did.asks did.is none
 After-push line d (next verb asks is more) did = next verb asks is (After-push line d more did)
 
 pub HasRoom-push : (size : ℕ) (done : List Done) (d : Done) → HasRoom size done → (d.made ≡ None) ⊎ (size + length (kept_lines done) ≤ longest_catalogue) → HasRoom size (done ++ d ∷ [])
@@ -74,20 +75,22 @@ make_changes s p spells =
 pub changes : (s : State) (line : Text) (d : Done) → Did s line d → Leaves s d ⊎ Adds s d
 changes s line d did =
     let P : Done → Type 0 = λ e. Leaves s e ⊎ Adds s e in
-    subst P (sym did.is) (by_verb did.verb did.asks)
+    subst P (sym did.is) (by_asked did.asked did.asks)
   where
-    by_spelling : (v : Verb) → Spells line v → Leaves s (command s (Some v)) ⊎ Adds s (command s (Some v))
-    by_spelling v (a_login {user = user} e bare) =
+    by_spelling : (words : List Text) (v : Verb) → SpellsVerb words v → Leaves s (command s (Ok v)) ⊎ Adds s (command s (Ok v))
+    by_spelling words v (a_login {user = user} e) =
         let after : Done = record { state = record s { logged_in = true }; made = None; answer = Ok tt } in
         let pick : Bool → Done = λ same. elim same [ true ↦ after | false ↦ refused s NoUser ] in
         elim (same_text user s.grid.admin) as (λ same. Leaves s (pick same) ⊎ Adds s (pick same)) [ true ↦ inl (record { made = refl; grid = refl }) | false ↦ inl (record { made = refl; grid = refl }) ]
-    by_spelling v (a_mkdir {path = p} e bare spells) =
+    by_spelling words v (a_mkdir {path = p} e spells) =
         let pick : Bool → Done = λ on. elim on [ true ↦ make s p | false ↦ refused s NoLogin ] in
         elim s.logged_in as (λ on. Leaves s (pick on) ⊎ Adds s (pick on)) [ true ↦ make_changes s p (record { names = spells.names; text_is = refl }) | false ↦ inl (record { made = refl; grid = refl }) ]
 
-    by_verb : (v : Option Verb) → Asks line v → Leaves s (command s v) ⊎ Adds s (command s v)
-    by_verb None asks = inl (record { made = refl; grid = refl })
-    by_verb (Some v) asks = by_spelling v asks.1
+    by_asked : (a : Result Verb Refusal) → Asks line a → Leaves s (command s a) ⊎ Adds s (command s a)
+    by_asked a (asks_for {words = words} {verb = v} le is spells) = by_spelling words v spells
+    by_asked a (not_built le is none) = inl (record { made = refl; grid = refl })
+    by_asked a (too_long lt) = inl (record { made = refl; grid = refl })
+    by_asked a (no_words le is) = inl (record { made = refl; grid = refl })
 
 -- ---- all requests so far, and one more
 
@@ -119,26 +122,9 @@ done_more found bytes asked line d did one room = record {
   stands = stands_more bytes did.done did.end d did.stands (changes did.end line d one);
 }
 
--- ---- what is held of a line asks for the same
-
-pub asks_held : (line : Text) (verb : Option Verb) → Asks (take 4097 line) verb → Asks line verb
-asks_held line verb asks = elim (cases_lt 4096 (length line)) [
-  | inl long ↦ none_held verb asks long
-  | inr short ↦ let P : Text → Type 0 = λ t. Asks t verb in subst P (take_all 4097 line (omega arith)) asks
-]
-  where
-    none_held : (v : Option Verb) → Asks (take 4097 line) v → 4096 + 1 ≤ length line → Asks line v
-    none_held None asks long = λ v le spells. omega (arith, long, le)
-    none_held (Some v) asks long = absurd (omega (arith, asks.0, length-take-le 4097 line (omega (arith, long))))
+-- ---- what is held of a line does the same
 
 pub did_held : (s : State) (held line : Text) (d : Done) → held ≡ take 4097 line → Did s held d → Did s line d
 did_held s held line d e did =
-    let P : Text → Type 0 = λ t. Asks t did.verb in
-    record { verb = did.verb; asks = asks_held line did.verb (subst P e did.asks); is = did.is }
-
-pub held_some : (held line : Text) → held ≡ take 4097 line → held ≢ [] → line ≢ []
-held_some held line e some empty = some (e ∙ ap (take 4097) empty)
-
-pub held_none : (held line : Text) → held ≡ take 4097 line → held ≡ [] → line ≡ []
-held_none held [] e empty = refl
-held_none held (b ∷ line) e empty = absurd (omega (arith, ap length e, ap length empty, length-take 4097 (b ∷ line)))
+    let P : Text → Type 0 = λ t. Asks t did.asked in
+    record { asked = did.asked; asks = asks_held line did.asked (subst P e did.asks); is = did.is }

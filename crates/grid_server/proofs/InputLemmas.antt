@@ -74,8 +74,11 @@ filter-append p (x ∷ xs) ys = by_test (p x) refl (filter-append p xs ys)
     by_test true e more = grind (arith, more, e)
     by_test false e more = grind (arith, more, e)
 
-some_request : (b : ℕ) (line : Text) (ls : List Text) → filter is_request ((b ∷ line) ∷ ls) ≡ (b ∷ line) ∷ filter is_request ls
-some_request b line ls = let test : is_request (b ∷ line) ≡ true = grind (arith, nat_tests) in grind (arith, test)
+some_request : (line : Text) (ls : List Text) → is_request line ≡ true → filter is_request (line ∷ ls) ≡ line ∷ filter is_request ls
+some_request line ls some = grind (arith, some)
+
+no_request : (line : Text) (ls : List Text) → is_request line ≡ false → filter is_request (line ∷ ls) ≡ filter is_request ls
+no_request line ls none = grind (arith, none)
 
 -- ---- requests
 
@@ -88,17 +91,20 @@ pub whole_requests-joined : (done : List Text) (rest : Text) → AreLines done �
 whole_requests-joined done rest are is =
     ap (filter is_request) (whole-joined done rest are ∙ ap (λ (ls : List Text). done ++ ls) (whole_none rest is) ∙ append-nil done)
 
-pub requests-line : (line rest : Text) → IsLine line → line ≢ [] → requests (line ++ 10 ∷ rest) ≡ line ∷ requests rest
-requests-line [] rest is some = absurd (some refl)
-requests-line (b ∷ line) rest is some = ap (filter is_request) (lines-line (b ∷ line) rest is) ∙ some_request b line (lines rest)
+pub requests-line : (line rest : Text) → IsLine line → is_request line ≡ true → requests (line ++ 10 ∷ rest) ≡ line ∷ requests rest
+requests-line line rest is some = ap (filter is_request) (lines-line line rest is) ∙ some_request line (lines rest) some
 
-pub requests-last : (line : Text) → IsLine line → line ≢ [] → requests line ≡ line ∷ []
-requests-last [] is some = absurd (some refl)
-requests-last (b ∷ line) is some = ap (filter is_request) (lines_last (b ∷ line) is some) ∙ some_request b line []
+pub requests-last : (line : Text) → IsLine line → is_request line ≡ true → requests line ≡ line ∷ []
+requests-last [] is some = let wrong : is_request [] ≡ false = refl in absurd (cc)
+requests-last (b ∷ line) is some = ap (filter is_request) (lines_last (b ∷ line) is (λ e. cc)) ∙ some_request (b ∷ line) [] some
 
-pub requests-push : (done : List Text) (line : Text) → line ≢ [] → filter is_request (done ++ line ∷ []) ≡ filter is_request done ++ line ∷ []
-requests-push done [] some = absurd (some refl)
-requests-push done (b ∷ line) some = filter-append is_request done ((b ∷ line) ∷ []) ∙ ap (λ (ls : List Text). filter is_request done ++ ls) (some_request b line [])
+pub requests-last_none : (line : Text) → IsLine line → is_request line ≡ false → requests line ≡ []
+requests-last_none [] is none = refl
+requests-last_none (b ∷ line) is none = ap (filter is_request) (lines_last (b ∷ line) is (λ e. cc)) ∙ no_request (b ∷ line) [] none
 
-pub requests-push_none : (done : List Text) → filter is_request (done ++ [] ∷ []) ≡ filter is_request done
-requests-push_none done = filter-append is_request done ([] ∷ []) ∙ append-nil (filter is_request done)
+pub requests-push : (done : List Text) (line : Text) → is_request line ≡ true → filter is_request (done ++ line ∷ []) ≡ filter is_request done ++ line ∷ []
+requests-push done line some = filter-append is_request done (line ∷ []) ∙ ap (λ (ls : List Text). filter is_request done ++ ls) (some_request line [] some)
+
+pub requests-push_none : (done : List Text) (line : Text) → is_request line ≡ false → filter is_request (done ++ line ∷ []) ≡ filter is_request done
+requests-push_none done line none =
+    filter-append is_request done (line ∷ []) ∙ ap (λ (ls : List Text). filter is_request done ++ ls) (no_request line [] none) ∙ append-nil (filter is_request done)

@@ -23,8 +23,9 @@ use Rattle.grid_server.specs.Reading.{ReadsLine, ReadsPart}
 use Rattle.grid_server.specs.Answering.{Answers, Kept, Did, Stays, state_of}
 use Rattle.grid_server.specs.Turning.{Turns, TurnsLine, of_line, too_long, broken, no_memory, Handled, Skips, status_of}
 use Rattle.grid_server.specs.Serving.{DidAll, Whole, EndsDone, EndsBroken, EndsLong, EndsEarly, Serves, begins}
-use Rattle.grid_server.proofs.InputLemmas.{joined, AreLines, AreLines-push, joined-push, length-joined-push, requests-joined, whole_requests-joined, requests-line, requests-last, requests-push, requests-push_none}
-use Rattle.grid_server.proofs.DoneLemmas.{done_none, done_more, did_held, held_some, held_none, kept_lines-push, replies-push}
+use Rattle.grid_server.proofs.InputLemmas.{joined, AreLines, AreLines-push, joined-push, length-joined-push, requests-joined, whole_requests-joined, requests-line, requests-last, requests-last_none, requests-push, requests-push_none}
+use Rattle.grid_server.proofs.DoneLemmas.{done_none, done_more, did_held, kept_lines-push, replies-push}
+use Rattle.grid_server.proofs.RequestLemmas.{held_request}
 
 -- the lines so far were handled
 pub record Served (found : Grid) (main_old main_now : DiskState) (from now : SourceState) (sink_old sink_now : SinkState) (service : Service) : Type 0 where
@@ -112,15 +113,17 @@ module _ (found : Grid) (main_old main_mid : DiskState) (from mid : SourceState)
   end_split got line split took = served.split ∙ ap (λ (t : Text). joined served.lines ++ t) (ap (λ (t : Text). old.reader.unread ++ t) took ∙ split)
 
   -- a line that is a request is the next one
-  pub next_request : (line rest : Text) → IsLine line → line ≢ [] → from.left ≡ joined served.lines ++ (line ++ 10 ∷ rest) → requests from.left ≡ served.asked ++ line ∷ requests rest
+  pub next_request : (line rest : Text) → IsLine line → is_request line ≡ true → from.left ≡ joined served.lines ++ (line ++ 10 ∷ rest) → requests from.left ≡ served.asked ++ line ∷ requests rest
   next_request line rest is some split =
       ap requests split ∙ requests-joined served.lines (line ++ 10 ∷ rest) served.are ∙ ap (λ (ls : List Text). ls ++ requests (line ++ 10 ∷ rest)) served.asked_is ∙ ap (λ (ls : List Text). served.asked ++ ls) (requests-line line rest is some)
 
-  pub last_request : (line : Text) → IsLine line → line ≢ [] → from.left ≡ joined served.lines ++ line → requests from.left ≡ served.asked ++ line ∷ []
+  pub last_request : (line : Text) → IsLine line → is_request line ≡ true → from.left ≡ joined served.lines ++ line → requests from.left ≡ served.asked ++ line ∷ []
   last_request line is some split = ap requests split ∙ requests-joined served.lines line served.are ∙ ap (λ (ls : List Text). ls ++ requests line) served.asked_is ∙ ap (λ (ls : List Text). served.asked ++ ls) (requests-last line is some)
 
-  pub no_more : from.left ≡ joined served.lines ++ [] → requests from.left ≡ served.asked
-  no_more split = ap requests split ∙ requests-joined served.lines [] served.are ∙ append-nil (filter is_request served.lines) ∙ served.asked_is
+  pub no_more : (line : Text) → IsLine line → is_request line ≡ false → from.left ≡ joined served.lines ++ line → requests from.left ≡ served.asked
+  no_more line is none split =
+      ap requests split ∙ requests-joined served.lines line served.are ∙ ap (λ (ls : List Text). filter is_request served.lines ++ ls) (requests-last_none line is none)
+      ∙ append-nil (filter is_request served.lines) ∙ served.asked_is
 
   -- ---- how the run ends in a request, by what stopped it
 
@@ -196,11 +199,11 @@ module _ (found : Grid) (main_old main_mid : DiskState) (from mid : SourceState)
         let P : Server → Type 0 = λ s. Answers s turn.mid.line.items (turn.mid.number + 1) main_mid main_new sink_mid sink_new result new.server in
         subst P turn.server handled.answers
 
-    some_line : Handled turn.mid new main_mid main_new sink_mid sink_new result → turn.reads.line ≢ []
-    some_line handled = held_some turn.mid.line.items turn.reads.line turn.reads.held handled.some
+    some_line : Handled turn.mid new main_mid main_new sink_mid sink_new result → is_request turn.reads.line ≡ true
+    some_line handled = sym (held_request turn.mid.line.items turn.reads.line turn.reads.held) ∙ handled.some
 
-    skipped_line : Skips turn.mid new main_mid main_new sink_mid sink_new → turn.reads.line ≡ []
-    skipped_line skips = held_none turn.mid.line.items turn.reads.line turn.reads.held skips.empty
+    skipped_line : Skips turn.mid new main_mid main_new sink_mid sink_new → is_request turn.reads.line ≡ false
+    skipped_line skips = sym (held_request turn.mid.line.items turn.reads.line turn.reads.held) ∙ skips.none
 
   next_handled : (new : Service) (main_new : DiskState) (to : SourceState) (sink_new : SinkState) (turn : TurnsLine old new main_mid main_new mid to sink_mid sink_new ended.Line (Ok tt))
       → Handled turn.mid new main_mid main_new sink_mid sink_new (Ok tt) → Served found main_old main_new from to sink_old sink_new new
@@ -231,7 +234,7 @@ module _ (found : Grid) (main_old main_mid : DiskState) (from mid : SourceState)
       let line = turn.reads.line in
       let got = turn.reads.got in
       let ends = turn.reads.ends in
-      let empty = skipped_line new main_new to sink_new ended.Line (Ok tt) turn skips in
+      let none = skipped_line new main_new to sink_new ended.Line (Ok tt) turn skips in
       let server : new.server ≡ old.server = skips.server ∙ turn.server in
       record {
         lines = served.lines ++ line ∷ [];
@@ -239,7 +242,7 @@ module _ (found : Grid) (main_old main_mid : DiskState) (from mid : SourceState)
         split = line_split got line new.reader.unread to ends.0 ends.1 ∙ sym (joined-push served.lines line (new.reader.unread ++ to.left));
         taken = omega (arith, served.taken, ends.2, ap length ends.0, length-append old.reader.unread got, length-append line (10 ∷ new.reader.unread), length-joined-push served.lines line);
         asked = served.asked;
-        asked_is = ap (λ (l : Text). filter is_request (served.lines ++ l ∷ [])) empty ∙ requests-push_none served.lines ∙ served.asked_is;
+        asked_is = requests-push_none served.lines line none ∙ served.asked_is;
         whole = same_whole main_new sink_new skips.main skips.sink;
         state = served.state ∙ ap state_of (sym server);
         number = omega (arith, skips.number, turn.number, served.number);
@@ -297,8 +300,8 @@ module _ (found : Grid) (main_old main_mid : DiskState) (from mid : SourceState)
       record {
         whole = elim turn.handles [
           | inl skipped ↦
-              let empty = skipped_line new main_new to sink_new ended.End (Ok tt) turn skipped.0 in
-              subst P (sym (no_more (split ∙ ap (λ (t : Text). joined served.lines ++ t) empty))) (same_whole main_new sink_new skipped.0.main skipped.0.sink)
+              let none = skipped_line new main_new to sink_new ended.End (Ok tt) turn skipped.0 in
+              subst P (sym (no_more line turn.reads.is none split)) (same_whole main_new sink_new skipped.0.main skipped.0.sink)
           | inr handled ↦
               let asks = last_request line turn.reads.is (some_line new main_new to sink_new ended.End (Ok tt) turn handled) split in
               subst P (sym asks) (answered line [] asks turn.mid.number turn.number turn.mid.line.items turn.reads.held new.server main_new sink_new (of_old new main_new to sink_new ended.End (Ok tt) turn handled))

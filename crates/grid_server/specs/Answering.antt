@@ -1,5 +1,5 @@
 -- What the answering of one request leaves.
-use Rattle.std.specs.Prelude.{◌≡◌, ◌≢◌, ◌⊎◌, ℕ, ◌+◌, ◌<◌, ◌≤◌, List, ◌++◌, length, Option, None, Result, Ok, Err, IsTrue, ⊤}
+use Rattle.std.specs.Prelude.{◌≡◌, ◌≢◌, ◌⊎◌, ℕ, ◌+◌, ◌<◌, ◌≤◌, List, ◌++◌, length, None, Result, Ok, Err, IsTrue, ⊤}
 use Rattle.grid_outside.specs.Device.{DeviceState}
 use Rattle.grid_outside.specs.Disk.{DiskState}
 use Rattle.grid_outside.specs.Sink.{SinkState}
@@ -9,6 +9,7 @@ use Rattle.grid_model.specs.Requests.{Asks}
 use Rattle.grid_model.specs.Replies.{reply, AddsFirst}
 use Rattle.grid_model.specs.Catalogue.{path_line, kept_line, longest_catalogue}
 use Rattle.grid_model.specs.declared.requests.Verb.{Verb}
+use Rattle.grid_model.specs.declared.refusal.Refusal.{Refusal}
 use Rattle.grid_server.specs.declared.server.Server.{Server}
 use Rattle.grid_server.specs.declared.server.Stop.{Stop}
 use Rattle.grid_server.specs.declared.server.Stop.TheVariants.{Disk, Sink, Memory, Worn}
@@ -54,9 +55,9 @@ Keeps old d main_old main_new (Err (Worn place)) new = (d.made ≢ None) × (pla
 
 -- a line asked for something, and did this
 pub record Did (s : State) (line : Text) (d : Done) : Type 0 where
-  pub verb : Option Verb
-  pub asks : Asks line verb
-  pub is : d ≡ command s verb
+  pub asked : Result Verb Refusal
+  pub asks : Asks line asked
+  pub is : d ≡ command s asked
 
 -- the request was done and kept
 pub record Kept (old : Server) (line : Text) (main_old main_new : DiskState) (new : Server) (d : Done) : Type 0 where

@@ -1,8 +1,10 @@
--- What the reading of a line finds.
-use Rattle.std.specs.Prelude.{◌≢◌, ◌++◌, IsTrue}
+-- What the words of a line are found to be.
+use Rattle.std.specs.Prelude.{List, Option, Some, None}
 use Rattle.grid_model.specs.Names.{Text}
-use Rattle.grid_model.specs.Words.{is_bare}
+use Rattle.grid_model.specs.Requests.{SpellsVerb}
+use Rattle.grid_model.specs.declared.requests.Verb.{Verb}
 
--- no bare word is all that stands behind this text in the line
-abbrev pub NoWord : Text → Text → Type 0
-NoWord line front = (word : Text) → IsTrue (is_bare word) → line ≢ front ++ word
+-- the words are those of this verb, or of none
+abbrev pub AreOf : List Text → Option Verb → Type 0
+AreOf words (Some verb) = SpellsVerb words verb
+AreOf words None = (verb : Verb) → ¬ SpellsVerb words verb

@@ -1,10 +1,11 @@
 -- What one turn of the serving loop does.
-use Rattle.std.specs.Prelude.{◌≡◌, ◌≢◌, ◌⊎◌, ℕ, ◌+◌, ◌^◌, List, [], Option, Some, None, Result, Ok, Err, ⊤}
+use Rattle.std.specs.Prelude.{◌≡◌, ◌≢◌, ◌⊎◌, ℕ, ◌+◌, ◌^◌, true, false, List, Option, Some, None, Result, Ok, Err, ⊤}
 use Rattle.grid_outside.specs.Disk.{DiskState}
 use Rattle.grid_outside.specs.Sink.{SinkState}
 use Rattle.grid_outside.specs.Source.{SourceState}
 use Rattle.grid_outside.specs.declared.outside.Wear.TheVariants.{Log}
 use Rattle.grid_model.specs.Names.{Text}
+use Rattle.grid_model.specs.Lines.{is_request}
 use Rattle.grid_model.specs.Catalogue.{Stands}
 use Rattle.grid_server.specs.declared.status.Status.{Status}
 use Rattle.grid_server.specs.declared.status.Status.TheVariants as status
@@ -38,7 +39,7 @@ status_of (stop.Worn place) = status.Worn Log place
 
 -- what is held was no request, and nothing changed
 pub record Skips (old new : Service) (main_old main_new : DiskState) (sink_old sink_new : SinkState) : Type 0 where
-  pub empty : old.line.items ≡ []
+  pub none : is_request old.line.items ≡ false
   pub server : new.server ≡ old.server
   pub number : new.number ≡ old.number
   pub main : Stays main_old main_new
@@ -46,7 +47,7 @@ pub record Skips (old new : Service) (main_old main_new : DiskState) (sink_old s
 
 -- what is held was answered as the next request
 pub record Handled (old new : Service) (main_old main_new : DiskState) (sink_old sink_new : SinkState) (result : Result ⊤ Stop) : Type 0 where
-  pub some : old.line.items ≢ []
+  pub some : is_request old.line.items ≡ true
   pub answers : Answers old.server old.line.items (old.number + 1) main_old main_new sink_old sink_new result new.server
   pub number : new.number ≡ old.number + 1
 

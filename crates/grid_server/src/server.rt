@@ -1,4 +1,4 @@
-ghost use Rattle.std.specs.Prelude.{◌≡◌, ◌+◌, ◌^◌, ◌<◌, ◌≤◌, ◌++◌, length, IsTrue, IfOk, OnOk, OnErr, Ok, Some, IsErrOf};
+ghost use Rattle.std.specs.Prelude.{◌≡◌, ◌+◌, ◌^◌, ◌<◌, ◌≤◌, ◌++◌, length, [], IsTrue, IfOk, OnOk, OnErr, Ok, Some, IsErrOf};
 ghost use Rattle.grid_outside.specs.Fault.{HasCause, Rose};
 ghost use Rattle.grid_outside.specs.Device.{IsSettled};
 ghost use Rattle.grid_server.specs.Answering.{AddsTail};
@@ -10,7 +10,8 @@ ghost use Rattle.grid_server.specs.declared.server.Stop.TheVariants.{Disk as Dis
 use crate::catalogue::path_line;
 use crate::grid::Grid;
 use crate::request::read_request;
-use grid_model::{Path, Refusal, Verb};
+use cmd_reply::rest;
+use grid_model::{End, Marks, Passeds, Path, Refusal, Reply, Rows, Text, Texts, Verb};
 use grid_outside::{Disk, DiskFault, Moments, Sink, SinkFault};
 use std::alloc::{AllocError, Global};
 
@@ -80,32 +81,36 @@ impl Server {
         ensures sink { IsErrOf result Stop.Sink → Rose (K.sink sink.old).faults (K.sink sink.new).faults }
         ensures drawn { moments.new ≤ moments.old + 3 }
     {
-        let verb = read_request(alloc, line)?;
-        let answer = self.judge(alloc, &verb)?;
-        let text = reply_text(alloc, number, answer)?;
-        match self.keep(alloc, main, moments, verb, answer) {
+        let asked = read_request(alloc, line)?;
+        let answer = self.judge(alloc, &asked)?;
+        let text = reply_line(alloc, number, answer)?;
+        match self.keep(alloc, main, moments, asked, answer) {
             Ok(()) => {}
             Err(stop) => return Err(stop),
         }
-        match sink.put(moments.next(), &text) {
+        match sink.put(moments.next(), text.as_slice()) {
             Ok(()) => Ok(()),
             Err(SinkFault) => Err(Stop::Sink),
         }
     }
 
     // What is answered to a request, before anything is done. Fails for want of memory alone.
-    fn judge(&self, alloc: Global, verb: &Option<Verb>) -> Result<Result<(), Refusal>, AllocError>
-        ensures { IfOk result (λ answer. answer ≡ (command (state_of self.now) verb.now).answer) }
+    fn judge(
+        &self,
+        alloc: Global,
+        asked: &Result<Verb, Refusal>,
+    ) -> Result<Result<(), Refusal>, AllocError>
+        ensures { IfOk result (λ answer. answer ≡ (command (state_of self.now) asked.now).answer) }
     {
-        match verb {
-            None => Ok(Err(Refusal::NotBuilt)),
-            Some(Verb::Login { user }) => {
+        match asked {
+            Err(refusal) => Ok(Err(*refusal)),
+            Ok(Verb::Login { user }) => {
                 if *user == self.grid.admin {
                     return Ok(Ok(()));
                 }
                 Ok(Err(Refusal::NoUser))
             }
-            Some(Verb::MkDir { path }) => {
+            Ok(Verb::MkDir { path }) => {
                 if !self.logged_in {
                     return Ok(Err(Refusal::NoLogin));
                 }
@@ -126,15 +131,15 @@ impl Server {
         alloc: Global,
         main: &mut D,
         moments: &mut Moments,
-        verb: Option<Verb>,
+        asked: Result<Verb, Refusal>,
         answer: Result<(), Refusal>,
     ) -> Result<(), Stop>
-        requires judged { answer ≡ (command (state_of self.old) verb).answer }
-        requires short { length (kept_line (command (state_of self.old) verb)) ≤ 2 ^ 62 }
+        requires judged { answer ≡ (command (state_of self.old) asked).answer }
+        requires short { length (kept_line (command (state_of self.old) asked)) ≤ 2 ^ 62 }
         requires main_last { (D.disk main.old).last ≤ moments.old }
         requires room { moments.old + 2 < 2 ^ 128 }
         requires size { IsTrue (D.disk main.old).tells → length (D.disk main.old).holds ≡ self.old.size }
-        ensures keeps { Keeps self.old (command (state_of self.old) verb) (D.disk main.old) (D.disk main.new) result self.new }
+        ensures keeps { Keeps self.old (command (state_of self.old) asked) (D.disk main.old) (D.disk main.new) result self.new }
         ensures main_tells { (D.disk main.new).tells ≡ (D.disk main.old).tells }
         ensures main_last { (D.disk main.new).last ≤ moments.new }
         ensures main_later { (D.disk main.old).faults ≤ (D.disk main.new).faults }
@@ -145,13 +150,13 @@ impl Server {
         if answer.is_err() {
             return Ok(());
         }
-        match verb {
-            None => Ok(()),
-            Some(Verb::Login { user: _ }) => {
+        match asked {
+            Err(_) => Ok(()),
+            Ok(Verb::Login { user: _ }) => {
                 self.logged_in = true;
                 Ok(())
             }
-            Some(Verb::MkDir { path }) => self.make(alloc, main, moments, path),
+            Ok(Verb::MkDir { path }) => self.make(alloc, main, moments, path),
         }
     }
 
@@ -212,21 +217,29 @@ pub(crate) fn append<D: Disk>(
 }
 
 // The reply to the request of this number.
-fn reply_text(
+fn reply_line(
     alloc: Global,
     number: u64,
     answer: Result<(), Refusal>,
-) -> Result<Vec<u8>, AllocError>
-    ensures { IfOk result (λ text. text.items ≡ reply number answer) }
+) -> Result<Text, AllocError>
+    ensures { IfOk result (λ text. text ≡ reply number answer) }
 {
-    let mut text = number.to_string(alloc)?.into_bytes();
-    match answer {
-        Ok(()) => text.extend_from_slice(b" ok\n")?,
-        Err(Refusal::NotBuilt) => text.extend_from_slice(b" err NotBuilt\n")?,
-        Err(Refusal::NoUser) => text.extend_from_slice(b" err NoUser\n")?,
-        Err(Refusal::NoLogin) => text.extend_from_slice(b" err NoLogin\n")?,
-        Err(Refusal::NoCollection) => text.extend_from_slice(b" err NoCollection\n")?,
-        Err(Refusal::Exists) => text.extend_from_slice(b" err Exists\n")?,
+    let end = match answer {
+        Ok(()) => End::Done(Texts::from_vec(Vec::new(alloc))),
+        Err(refusal) => End::Refused(refusal),
+    };
+    rest(alloc, number, &of_end(alloc, end))
+}
+
+// A reply that has nothing but its end.
+fn of_end(alloc: Global, end: End) -> Reply
+    ensures { result ≡ record { marks = []; shown = []; passed = []; rows = []; end = end } }
+{
+    Reply {
+        marks: Marks::from_vec(Vec::new(alloc)),
+        shown: Text::from_vec(Vec::new(alloc)),
+        passed: Passeds::from_vec(Vec::new(alloc)),
+        rows: Rows::from_vec(Vec::new(alloc)),
+        end,
     }
-    Ok(text)
 }

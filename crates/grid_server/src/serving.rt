@@ -10,6 +10,7 @@ ghost use Rattle.grid_server.specs.Turning.{status_of, HasNoGrid};
 use crate::Status;
 use crate::catalogue::{CatalogueError, read_catalogue};
 use crate::line_reader::{Ended, HELD, LineReader, MOST, ReadError};
+use crate::request::is_request;
 use crate::server::{Server, Stop};
 use grid_outside::{Disk, DiskFault, Moments, Sink, Source, Wear};
 use std::alloc::{AllocError, Global};
@@ -170,7 +171,7 @@ impl Service {
         ensures sink { IsErrOf result Stop.Sink → Rose (K.sink sink.old).faults (K.sink sink.new).faults }
         ensures drawn { moments.new ≤ moments.old + 3 }
     {
-        if self.line.is_empty() {
+        if !is_request(&self.line) {
             return Ok(());
         }
         self.number += 1;

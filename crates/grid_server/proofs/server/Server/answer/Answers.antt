@@ -9,26 +9,26 @@ use Rattle.grid_server.proofs.server.Server.answer.Goals as goal
 pub returns-in-Err-clause-answers : goal.returns-in-Err-clause-answers
 returns-in-Err-clause-answers g c =
     let s = state_of c.args.self.now in
-    let did : Did s c.args.line.now (command s c.in_ok-verb.verb) = record { verb = c.in_ok-verb.verb; asks = c.in_ok-verb.ensures; is = refl } in
-    answers_stopped c.args.self.now c.keep.new.self c.args.line.now c.args.number (command s c.in_ok-verb.verb) (g.D.Disk.disk c.args.main.now) (g.D.Disk.disk c.keep.new.main) (g.K.Sink.sink c.args.sink.now) c.in-Err.stop did
+    let did : Did s c.args.line.now (command s c.in_ok-asked.asked) = record { asked = c.in_ok-asked.asked; asks = c.in_ok-asked.ensures; is = refl } in
+    answers_stopped c.args.self.now c.keep.new.self c.args.line.now c.args.number (command s c.in_ok-asked.asked) (g.D.Disk.disk c.args.main.now) (g.D.Disk.disk c.keep.new.main) (g.K.Sink.sink c.args.sink.now) c.in-Err.stop did
     c.in-Err.ensures.keeps
 
 pub returns-in-Ok-put-clause-answers : goal.returns-in-Ok-put-clause-answers
 returns-in-Ok-put-clause-answers g c =
     let s = state_of c.args.self.now in
-    let did : Did s c.args.line.now (command s c.in_ok-verb.verb) = record { verb = c.in_ok-verb.verb; asks = c.in_ok-verb.ensures; is = refl } in
-    let text_is : c.deref.result.now ≡ reply c.args.number (command s c.in_ok-verb.verb).answer = c.deref.ensures.value ∙ c.in_ok-text.ensures ∙ ap (reply c.args.number) c.in_ok-answer.ensures in (
-      command s c.in_ok-verb.verb,
-      kept_done c.args.self.now c.keep.new.self c.args.line.now (command s c.in_ok-verb.verb) (g.D.Disk.disk c.args.main.now) (g.D.Disk.disk c.keep.new.main) did c.in-Ok.ensures.keeps,
+    let did : Did s c.args.line.now (command s c.in_ok-asked.asked) = record { asked = c.in_ok-asked.asked; asks = c.in_ok-asked.ensures; is = refl } in
+    let text_is : c.deref.result.now ≡ reply c.args.number (command s c.in_ok-asked.asked).answer = c.deref.ensures.value ∙ c.in_ok-text.ensures ∙ ap (reply c.args.number) c.in_ok-answer.ensures in (
+      command s c.in_ok-asked.asked,
+      kept_done c.args.self.now c.keep.new.self c.args.line.now (command s c.in_ok-asked.asked) (g.D.Disk.disk c.args.main.now) (g.D.Disk.disk c.keep.new.main) did c.in-Ok.ensures.keeps,
       λ told. c.in-Ok-put.ensures.added told ∙ ap (λ (t : Text). (g.K.Sink.sink c.args.sink.now).holds ++ t) text_is,
     )
 
 pub returns-clause-answers : goal.returns-clause-answers
 returns-clause-answers g c =
     let s = state_of c.args.self.now in
-    let did : Did s c.args.line.now (command s c.in_ok-verb.verb) = record { verb = c.in_ok-verb.verb; asks = c.in_ok-verb.ensures; is = refl } in
-    let text_is : c.deref.result.now ≡ reply c.args.number (command s c.in_ok-verb.verb).answer = c.deref.ensures.value ∙ c.in_ok-text.ensures ∙ ap (reply c.args.number) c.in_ok-answer.ensures in (
-      command s c.in_ok-verb.verb,
-      kept_done c.args.self.now c.keep.new.self c.args.line.now (command s c.in_ok-verb.verb) (g.D.Disk.disk c.args.main.now) (g.D.Disk.disk c.keep.new.main) did c.in-Ok.ensures.keeps,
+    let did : Did s c.args.line.now (command s c.in_ok-asked.asked) = record { asked = c.in_ok-asked.asked; asks = c.in_ok-asked.ensures; is = refl } in
+    let text_is : c.deref.result.now ≡ reply c.args.number (command s c.in_ok-asked.asked).answer = c.deref.ensures.value ∙ c.in_ok-text.ensures ∙ ap (reply c.args.number) c.in_ok-answer.ensures in (
+      command s c.in_ok-asked.asked,
+      kept_done c.args.self.now c.keep.new.self c.args.line.now (command s c.in_ok-asked.asked) (g.D.Disk.disk c.args.main.now) (g.D.Disk.disk c.keep.new.main) did c.in-Ok.ensures.keeps,
       λ told. adds_first c.deref.result.now _ _ _ text_is (c.put.ensures.acts.holds told),
     )
