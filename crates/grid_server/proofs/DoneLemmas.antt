@@ -88,7 +88,7 @@ changes s line d did =
 
     by_asked : (a : Result Verb Refusal) → Asks line a → Leaves s (command s a) ⊎ Adds s (command s a)
     by_asked a (asks_for {words = words} {verb = v} le is spells) = by_spelling words v spells
-    by_asked a (not_built le is none) = inl (record { made = refl; grid = refl })
+    by_asked a (not_built le is no_verb) = inl (record { made = refl; grid = refl })
     by_asked a (too_long lt) = inl (record { made = refl; grid = refl })
     by_asked a (no_words le is) = inl (record { made = refl; grid = refl })
 

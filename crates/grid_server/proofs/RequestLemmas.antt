@@ -1,5 +1,5 @@
 -- What a line asks for, by its words.
-use Rattle.std.proofs.Common.{◌≡◌, ◌≢◌, inl, inr, ℕ, ◌+◌, ◌<◌, ◌≤◌, true, false, List, [], ◌∷◌, ◌++◌, length, take, arith, refl, sym, subst, ap, ◌∙◌, length-append}
+use Rattle.std.proofs.Common.{◌≡◌, ◌≢◌, inl, inr, ℕ, ◌+◌, ◌<◌, ◌≤◌, true, false, List, [], ◌∷◌, ◌++◌, length, take, get_or, arith, refl, sym, subst, ap, ◌∙◌, length-append}
 use Rattle.std.proofs.lemmas.Bool.{cases_lt}
 use Rattle.std.proofs.lemmas.Bool.Decides.{nat_tests}
 use Rattle.std.proofs.lemmas.List.{take_all, length-take-le}
@@ -34,13 +34,20 @@ words_short (word {s = s} {t = t} e is ends more) = omega (arith, word_short is,
 
 -- ---- words of other verbs
 
+pub are_three : (words : List Text) (a b c x y z : Text) → length words ≡ 3 → x ≡ a → y ≡ b → c ≡ z → x ≡ get_or words 0 x → y ≡ get_or words 1 y → z ≡ get_or words 2 z → words ≡ a ∷ b ∷ c ∷ []
+are_three (p ∷ q ∷ r ∷ []) a b c x y z size is_a is_b is_c one two three = let first : x ≡ p = one in let second : y ≡ q = two in let third : z ≡ r = three in cc
+are_three (p ∷ q ∷ r ∷ s ∷ more) a b c x y z size is_a is_b is_c one two three = absurd (omega (arith, size))
+are_three (p ∷ q ∷ []) a b c x y z size is_a is_b is_c one two three = absurd (omega (arith, size))
+are_three (p ∷ []) a b c x y z size is_a is_b is_c one two three = absurd (omega (arith, size))
+are_three [] a b c x y z size is_a is_b is_c one two three = absurd (omega (arith, size))
+
 -- three words that begin otherwise than with a login, and then than with the making of a collection
-pub none_spelled : (word : Text) (words : List Text) (second : Text) (verb : Verb) → words ≡ codes "0" ∷ second ∷ word ∷ [] → second ≢ codes "login" → ((p : Path) → second ≡ codes "mkdir" → ¬ SpellsPath word p)
+pub none_spelled : (third : Text) (words : List Text) (second : Text) (verb : Verb) → words ≡ codes "0" ∷ second ∷ third ∷ [] → second ≢ codes "login" → ((p : Path) → second ≡ codes "mkdir" → ¬ SpellsPath third p)
     → SpellsVerb words verb → ⊥
-none_spelled word words second verb e no_login no_path (a_login f) = no_login (cc)
-none_spelled word words second verb e no_login no_path (a_mkdir {word = other} {path = p} f is) =
+none_spelled third words second verb e no_login no_path (a_login f) = no_login (cc)
+none_spelled third words second verb e no_login no_path (a_mkdir {word = other} {path = p} f is) =
     let P : Text → Type 0 = λ t. SpellsPath t p in
-    let same : other ≡ word = cc in
+    let same : other ≡ third = cc in
     no_path p (cc) (subst P same is)
 
 -- ---- what is held of a line asks for the same

@@ -25,10 +25,7 @@ fn is_blank(line: &[u8]) -> bool
 }
 
 /// What a line asks for, or why it is refused before anything is asked. Fails for want of memory alone.
-pub(crate) fn read_request(
-    alloc: Global,
-    line: &[u8],
-) -> Result<Result<Verb, Refusal>, AllocError>
+pub(crate) fn read_request(alloc: Global, line: &[u8]) -> Result<Result<Verb, Refusal>, AllocError>
     ensures { IfOk result (λ asked. Asks line.now asked) }
 {
     match words(alloc, line) {
@@ -49,14 +46,16 @@ fn read_verb(alloc: Global, words: &[Text]) -> Result<Option<Verb>, AllocError>
     if words.len() != 3 || !is_word(&words[0], b"0") {
         return Ok(None);
     }
-    if is_word(&words[1], b"login") {
-        let user = Text::copy_of(alloc, words[2].as_slice())?;
+    let verb = &words[1];
+    let word = words[2].as_slice();
+    if is_word(verb, b"login") {
+        let user = Text::copy_of(alloc, word)?;
         return Ok(Some(Verb::Login { user }));
     }
-    if !is_word(&words[1], b"mkdir") {
+    if !is_word(verb, b"mkdir") {
         return Ok(None);
     }
-    match Path::parse(alloc, words[2].as_slice()) {
+    match Path::parse(alloc, word) {
         Ok(path) => Ok(Some(Verb::MkDir { path })),
         Err(PathError::BadPath { at: _ }) => Ok(None),
         Err(PathError::Memory) => Err(AllocError),

@@ -83,8 +83,8 @@ impl Server {
     {
         let asked = read_request(alloc, line)?;
         let answer = self.judge(alloc, &asked)?;
-        let text = reply_line(alloc, number, answer)?;
-        match self.keep(alloc, main, moments, asked, answer) {
+        let text = reply_line(alloc, number, &answer)?;
+        match self.keep(alloc, main, moments, asked, &answer) {
             Ok(()) => {}
             Err(stop) => return Err(stop),
         }
@@ -132,9 +132,9 @@ impl Server {
         main: &mut D,
         moments: &mut Moments,
         asked: Result<Verb, Refusal>,
-        answer: Result<(), Refusal>,
+        answer: &Result<(), Refusal>,
     ) -> Result<(), Stop>
-        requires judged { answer ≡ (command (state_of self.old) asked).answer }
+        requires judged { answer.now ≡ (command (state_of self.old) asked).answer }
         requires short { length (kept_line (command (state_of self.old) asked)) ≤ 2 ^ 62 }
         requires main_last { (D.disk main.old).last ≤ moments.old }
         requires room { moments.old + 2 < 2 ^ 128 }
@@ -217,16 +217,12 @@ pub(crate) fn append<D: Disk>(
 }
 
 // The reply to the request of this number.
-fn reply_line(
-    alloc: Global,
-    number: u64,
-    answer: Result<(), Refusal>,
-) -> Result<Text, AllocError>
-    ensures { IfOk result (λ text. text ≡ reply number answer) }
+fn reply_line(alloc: Global, number: u64, answer: &Result<(), Refusal>) -> Result<Text, AllocError>
+    ensures { IfOk result (λ text. text ≡ reply number answer.now) }
 {
     let end = match answer {
         Ok(()) => End::Done(Texts::from_vec(Vec::new(alloc))),
-        Err(refusal) => End::Refused(refusal),
+        Err(refusal) => End::Refused(*refusal),
     };
     rest(alloc, number, &of_end(alloc, end))
 }
