@@ -12,3 +12,4 @@ pub mod Printing
 pub mod Replies
 pub mod Requests
 pub mod Words
+pub mod Writable

@@ -1,9 +1,9 @@
 -- What is written of a word spells it.
-use Rattle.std.proofs.Common.{◌≡◌, ◌≤◌, length, take, ℕ, Bool, true, false, [], ◌∷◌, ◌++◌, refl, sym, ap, ◌∙◌, subst}
+use Rattle.std.proofs.Common.{◌≡◌, ℕ, Bool, true, false, [], ◌∷◌, ◌++◌, refl, sym, ap, ◌∙◌, subst}
 use Rattle.std.specs.Prelude.{not}
 use Rattle.std.specs.List.{list_all, flat_map}
 use Rattle.std.proofs.lemmas.Bool.{and_from, and_parts, not_from_false}
-use Rattle.std.proofs.lemmas.List.{append-nil, take_all}
+use Rattle.std.proofs.lemmas.List.{append-nil}
 use Rattle.grid_model.specs.Names.{Text}
 use Rattle.grid_model.specs.Words.{is_word_byte, is_bare, is_escaped, quote_byte, quoted_word, SpellsInner, nothing, plain, escaped, SpellsWord, bare, quoted, SpellsLine, line_end, word}
 
@@ -34,10 +34,3 @@ SpellsLine-quoted_word w h = by (is_bare w) refl
     by : (x : Bool) → is_bare w ≡ x → SpellsLine (quoted_word w) (w ∷ [])
     by true e = subst (λ t. SpellsLine t (w ∷ [])) (sym (quoted_word-bare w e)) (alone w w (bare e))
     by false e = subst (λ t. SpellsLine t (w ∷ [])) (sym (quoted_word-quoted w e)) (alone (0x22 ∷ flat_map quote_byte w ++ 0x22 ∷ []) w (quoted (spells_inner w h) refl))
-
--- the same of a text that was made byte by byte
-pub SpellsLine-written : (w bytes front text : Text) (n : ℕ) → list_all is_word_byte w ≡ true → bytes ≡ w → is_bare bytes ≡ false → length bytes ≤ n → front ≡ 0x22 ∷ flat_map quote_byte (take n bytes) → text ≡ front ++ 0x22 ∷ [] → SpellsLine text (w ∷ [])
-SpellsLine-written w bytes front text n h same no_bare all made is =
-    let whole : text ≡ 0x22 ∷ flat_map quote_byte bytes ++ 0x22 ∷ [] = is ∙ ap (λ t. t ++ 0x22 ∷ []) (made ∙ ap (λ t. 0x22 ∷ flat_map quote_byte t) (take_all n bytes all)) in
-    let written : text ≡ quoted_word w = whole ∙ sym (quoted_word-quoted bytes no_bare) ∙ ap quoted_word same in
-    subst (λ t. SpellsLine t (w ∷ [])) (sym written) (SpellsLine-quoted_word w h)

@@ -8,4 +8,4 @@ mod reading;
 mod tests;
 
 pub use line::{WordError, words};
-pub use quoting::quote;
+pub use quoting::{push_word, quote};

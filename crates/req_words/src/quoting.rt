@@ -1,5 +1,5 @@
 ghost use Rattle.std.specs.Prelude.{◌≡◌, [], ◌∷◌, ◌++◌, IsTrue, IfOk, OnOk};
-ghost use Rattle.std.specs.List.{list_all};
+ghost use Rattle.std.specs.List.{list_all, flat_map};
 ghost use Rattle.grid_model.specs.Words.{is_word_byte, is_bare, is_bare_byte, quote_byte, quoted_word, SpellsLine};
 
 use crate::reading::is_bare_byte;
@@ -13,17 +13,33 @@ pub fn quote(alloc: Global, word: &Text) -> Result<Text, AllocError>
     ensures text { IfOk result (λ text. text ≡ quoted_word word.now) }
     ensures spells { IfOk result (λ text. SpellsLine text (word.now ∷ [])) }
 {
-    let bytes = word.as_slice();
-    if is_bare(bytes) {
-        return Text::copy_of(alloc, bytes);
+    let mut text = Vec::new(alloc);
+    push_word(&mut text, word.as_slice())?;
+    Ok(Text::from_vec(text))
+}
+
+/// Adds the word to a text as it stands in a line: as it is where it may, else between quotes. Fails for want of
+/// memory alone.
+pub fn push_word(text: &mut Vec<u8>, word: &[u8]) -> Result<(), AllocError>
+    ensures { OnOk result (text.new.items ≡ text.old.items ++ quoted_word word.now) }
+{
+    if is_bare(word) {
+        text.extend_from_slice(word)
+    } else {
+        push_quoted_word(text, word)
     }
-    let mut quoted = Vec::new(alloc);
-    quoted.push(b'"')?;
-    for byte in bytes {
-        push_quoted(&mut quoted, *byte)?;
+}
+
+/// The word between quotes.
+fn push_quoted_word(text: &mut Vec<u8>, word: &[u8]) -> Result<(), AllocError>
+    ensures { OnOk result (text.new.items ≡ text.old.items ++ (0x22 ∷ flat_map quote_byte word.now ++ 0x22 ∷ [])) }
+{
+    text.push(b'"')?;
+    for byte in word {
+        push_quoted(text, *byte)?;
     }
-    quoted.push(b'"')?;
-    Ok(Text::from_vec(quoted))
+    text.push(b'"')?;
+    Ok(())
 }
 
 /// Whether the word may stand without quotes.

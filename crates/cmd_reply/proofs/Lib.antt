@@ -1,0 +1,2 @@
+pub mod DataParts
+pub mod Spacing
