@@ -34,6 +34,9 @@ words_short (word {s = s} {t = t} e is ends more) = omega (arith, word_short is,
 
 -- ---- words of other verbs
 
+pub not_long : (n : ℕ) → ¬ (4096 < n) → n ≤ 4096
+not_long n never = elim (cases_lt 4096 n) [ inl lt ↦ absurd (never lt) | inr le ↦ omega (arith, le) ]
+
 pub are_three : (words : List Text) (a b c x y z : Text) → length words ≡ 3 → x ≡ a → y ≡ b → c ≡ z → x ≡ get_or words 0 x → y ≡ get_or words 1 y → z ≡ get_or words 2 z → words ≡ a ∷ b ∷ c ∷ []
 are_three (p ∷ q ∷ r ∷ []) a b c x y z size is_a is_b is_c one two three = let first : x ≡ p = one in let second : y ≡ q = two in let third : z ≡ r = three in cc
 are_three (p ∷ q ∷ r ∷ s ∷ more) a b c x y z size is_a is_b is_c one two three = absurd (omega (arith, size))
