@@ -4,144 +4,133 @@ use crate::reading::fill;
 use std::fs::{self, File, OpenOptions};
 use std::io::{self, ErrorKind, Write};
 
-/// A folder of files whose names are numbers in decimal. It is opened when it is first needed, and made then if it is
-/// missing. Where that fails, every call fails.
+/// A folder of files whose names are numbers in decimal. It is looked for when it is first needed, and made then if
+/// it is missing. Where that fails, every call fails.
 #[derive(Drop)]
 pub(crate) struct Folder {
     rt: HostRuntime,
-    name: &'static str,
+    name: String,
     state: State,
     // The files that were created here and are not finished.
-    begun: Vec<NamedFile>,
-    // The file that was read last.
-    read: Option<NamedFile>,
+    begun: Vec<u64>,
 }
 
-#[derive(Drop)]
+#[derive(Clone, Copy)]
 enum State {
     Unused,
-    // The folder itself, to be synced.
-    Open(File),
+    There,
     Failed,
 }
 
-#[derive(Drop)]
-struct NamedFile {
-    name: u64,
-    file: File,
-}
-
 impl Folder {
-    /// Opens nothing yet.
-    pub(crate) fn new(rt: HostRuntime, name: &'static str) -> Folder {
+    /// Looks for nothing yet.
+    pub(crate) fn new(rt: HostRuntime, name: String) -> Folder {
         Folder {
             rt,
             name,
             state: State::Unused,
             begun: Vec::new(rt.alloc()),
-            read: None,
         }
     }
 
     /// Makes an empty file. It fails where one of this name is there.
     pub(crate) fn create(&mut self, name: u64) -> io::Result<()> {
-        self.folder()?;
-        let mut options = OpenOptions::new();
-        options.write(true).create_new(true);
-        let file = options.open(&self.rt, self.path(name)?.as_str())?;
-        self.begun
-            .push(NamedFile { name, file })
-            .map_err(no_memory)?;
+        let path = self.path(name)?;
+        OpenOptions::new()
+            .write(true)
+            .create_new(true)
+            .open(&self.rt, path.as_str())?;
+        self.begun.push(name).map_err(no_memory)?;
         Ok(())
     }
 
-    /// Writes the bytes at the end of a file that was created here and is not finished. After a failure the file is
-    /// left as it is, and no call goes on with it.
+    /// Writes the bytes at the end of a file that was created here and is not finished. After a failure no call goes
+    /// on with the file.
     pub(crate) fn append(&mut self, name: u64, bytes: &[u8]) -> io::Result<()> {
-        let mut named = self.take_begun(name)?;
-        named.file.write_all(bytes)?;
-        self.begun.push(named).map_err(no_memory)?;
+        let path = self.path(name)?;
+        self.take_begun(name)?;
+        let mut file = OpenOptions::new()
+            .append(true)
+            .open(&self.rt, path.as_str())?;
+        file.write_all(bytes)?;
+        self.begun.push(name).map_err(no_memory)?;
         Ok(())
     }
 
     /// Has the system write a file that was created here, and the folder's own list of names.
     pub(crate) fn finish(&mut self, name: u64) -> io::Result<()> {
-        let named = self.take_begun(name)?;
-        named.file.sync_all()?;
-        self.folder()?.sync_all()
+        let path = self.path(name)?;
+        self.take_begun(name)?;
+        File::open(&self.rt, path.as_str())?.sync_all()?;
+        self.sync()
     }
 
     /// Fills the buffer from this place of the file up to its end, and answers how many bytes it gave.
     pub(crate) fn read(&mut self, name: u64, at: u64, buf: &mut [u8]) -> io::Result<usize>
         ensures { ReadsAtMost result buf.new }
     {
-        fill(self.reading(name)?, at, buf)
+        let path = self.path(name)?;
+        fill(&File::open(&self.rt, path.as_str())?, at, buf)
     }
 
     /// How many bytes the file has.
     pub(crate) fn size(&mut self, name: u64) -> io::Result<u64> {
-        self.folder()?;
-        Ok(fs::metadata(&self.rt, self.path(name)?.as_str())?.len())
+        let path = self.path(name)?;
+        Ok(fs::metadata(&self.rt, path.as_str())?.len())
     }
 
     /// Takes a file away, if it is there, and has the system write the folder's own list of names.
     pub(crate) fn remove(&mut self, name: u64) -> io::Result<()> {
-        self.folder()?;
-        self.begun.retain(|named| named.name != name);
-        self.read = None;
-        match fs::remove_file(&self.rt, self.path(name)?.as_str()) {
+        let path = self.path(name)?;
+        let _ = self.take_begun(name);
+        match fs::remove_file(&self.rt, path.as_str()) {
             Ok(()) => {}
             Err(error) if error.kind() == ErrorKind::NotFound => {}
             Err(error) => return Err(error),
         }
-        self.folder()?.sync_all()
+        self.sync()
     }
 
-    // The file of this name, which is opened where it was not the last one that was read.
-    fn reading(&mut self, name: u64) -> io::Result<&File> {
-        self.folder()?;
-        if !self.read.as_ref().is_some_and(|named| named.name == name) {
-            let file = File::open(&self.rt, self.path(name)?.as_str())?;
-            self.read = Some(NamedFile { name, file });
-        }
-        match &self.read {
-            Some(named) => Ok(&named.file),
-            None => Err(io::Error::from(ErrorKind::Other)),
-        }
-    }
-
-    // The begun file of this name, which is no longer among them.
-    fn take_begun(&mut self, name: u64) -> io::Result<NamedFile> {
-        match self.begun.iter().position(|named| named.name == name) {
-            Some(place) => Ok(self.begun.swap_remove(place)),
+    // The begun file of this name is no longer among them.
+    fn take_begun(&mut self, name: u64) -> io::Result<()> {
+        match self.begun.iter().position(|begun| *begun == name) {
+            Some(place) => {
+                self.begun.swap_remove(place);
+                Ok(())
+            }
             None => Err(io::Error::from(ErrorKind::NotFound)),
         }
     }
 
-    fn path(&self, name: u64) -> io::Result<String> {
-        format!(in self.rt.alloc(); "{}/{}", self.name, name).map_err(no_memory)
-    }
-
-    fn folder(&mut self) -> io::Result<&File> {
-        if matches!(&self.state, State::Unused) {
-            self.state = opened(&self.rt, self.name).map_or(State::Failed, State::Open);
+    // The path of the file of this name, once the folder is there.
+    fn path(&mut self, name: u64) -> io::Result<String> {
+        if matches!(self.state, State::Unused) {
+            self.state = found(&self.rt, self.name.as_str()).map_or(
+                State::Failed,
+                |()| State::There,
+            );
         }
-        match &self.state {
-            State::Open(folder) => Ok(folder),
+        match self.state {
+            State::There => format!(in self.rt.alloc(); "{}/{}", self.name, name).map_err(
+                no_memory,
+            ),
             State::Unused | State::Failed => Err(io::Error::from(ErrorKind::Other)),
         }
     }
+
+    fn sync(&self) -> io::Result<()> {
+        File::open(&self.rt, self.name.as_str())?.sync_all()
+    }
 }
 
-// Opens or makes the folder, and syncs the one in which it stands, so that it stays there.
-fn opened(rt: &HostRuntime, name: &str) -> io::Result<File> {
+// Finds or makes the folder, and syncs the one in which it stands, so that it stays there.
+fn found(rt: &HostRuntime, name: &str) -> io::Result<()> {
     match fs::create_dir(rt, name) {
         Ok(()) => {}
         Err(error) if error.kind() == ErrorKind::AlreadyExists => {}
         Err(error) => return Err(error),
     }
-    File::open(rt, ".")?.sync_all()?;
-    File::open(rt, name)
+    File::open(rt, ".")?.sync_all()
 }
 
 fn no_memory<E: Drop>(_: E) -> io::Error {

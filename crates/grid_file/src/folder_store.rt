@@ -15,8 +15,8 @@ pub struct FolderStore {
 }
 
 impl FolderStore {
-    /// No moment was given to it yet, and its folder is not opened.
-    pub fn new(rt: HostRuntime, name: &'static str) -> FolderStore
+    /// The store in the folder of this name. No moment was given to it yet, and its folder is not looked for.
+    pub fn new(rt: HostRuntime, name: String) -> FolderStore
         ensures last { result.last ≡ 0 }
         ensures faults { result.faults ≡ 0 }
     {

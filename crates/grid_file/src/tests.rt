@@ -88,7 +88,7 @@ fn the_clock_goes_and_words_differ(rt: HostRuntime) {
 fn files_are_kept_in_their_folder(rt: HostRuntime) -> Result<(), Fail> {
     let folder = "folder-store-of-a-test";
     let _ = fs::remove_file(&rt, "folder-store-of-a-test/7");
-    let mut store = FolderStore::new(rt, folder);
+    let mut store = FolderStore::new(rt, String::from_str(rt.alloc(), folder)?);
     assert_eq!(rt; store.create(1, 7), Ok(()));
     assert_eq!(rt; store.create(2, 7), Err(StoreFault));
     assert_eq!(rt; store.append(3, 7, b"abc"), Ok(()));
@@ -96,7 +96,7 @@ fn files_are_kept_in_their_folder(rt: HostRuntime) -> Result<(), Fail> {
     assert_eq!(rt; store.finish(5, 7), Ok(()));
     assert_eq!(rt; store.append(6, 7, b"f"), Err(StoreFault));
     assert_eq!(rt; store.finish(7, 8), Err(StoreFault));
-    let mut again = FolderStore::new(rt, folder);
+    let mut again = FolderStore::new(rt, String::from_str(rt.alloc(), folder)?);
     let mut buf = [0u8; 8];
     assert_eq!(rt; again.size(7), Ok(5));
     assert_eq!(rt; again.read(7, 1, &mut buf), Ok(4));
@@ -111,8 +111,9 @@ fn files_are_kept_in_their_folder(rt: HostRuntime) -> Result<(), Fail> {
 }
 
 #[test]
-fn a_folder_that_cannot_be_had_faults_at_each_call(rt: HostRuntime) {
-    let mut store = FolderStore::new(rt, "no-folder-of-this-name/vault");
+fn a_folder_that_cannot_be_had_faults_at_each_call(rt: HostRuntime) -> Result<(), Fail> {
+    let name = String::from_str(rt.alloc(), "no-folder-of-this-name/vault")?;
+    let mut store = FolderStore::new(rt, name);
     let mut buf = [0u8; 8];
     assert_eq!(rt; store.create(1, 7), Err(StoreFault));
     assert_eq!(rt; store.append(2, 7, b"a"), Err(StoreFault));
@@ -120,4 +121,5 @@ fn a_folder_that_cannot_be_had_faults_at_each_call(rt: HostRuntime) {
     assert_eq!(rt; store.read(7, 0, &mut buf), Err(StoreFault));
     assert_eq!(rt; store.size(7), Err(StoreFault));
     assert_eq!(rt; store.remove(4, 7), Err(StoreFault));
+    Ok(())
 }

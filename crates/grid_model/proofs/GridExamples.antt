@@ -1,15 +1,15 @@
 -- The definitions of requests, replies and the catalogue on worked examples.
-use Rattle.std.proofs.Common.{◌≡◌, true, false, List, [], ◌∷◌, ◌++◌, Some, None, Ok, Err, refl}
+use Rattle.std.proofs.Common.{◌≡◌, true, false, [], ◌∷◌, ◌++◌, Some, None, Ok, Err, refl}
 use Rattle.std.specs.Prelude.{codes, decimal, map}
 use Rattle.grid_model.specs.Names.{Text, Path}
-use Rattle.grid_model.specs.Grid.{start, home_of}
-use Rattle.grid_model.specs.Lines.{lines, whole_lines, requests, whole_requests}
-use Rattle.grid_model.specs.Commands.{State, Done, command}
+use Rattle.grid_model.specs.Grid.{start}
+use Rattle.grid_model.specs.Lines.{lines, requests, whole_requests}
+use Rattle.grid_model.specs.Commands.{State, command}
 use Rattle.grid_model.specs.Printing.{spaced, print_refusal}
 use Rattle.grid_model.specs.DataLines.{data_lines, parts_within}
 use Rattle.grid_model.specs.Replies.{end_of, end_words}
 use Rattle.grid_model.specs.Words.{quoted_word}
-use Rattle.grid_model.specs.Catalogue.{first_line, path_line, kept_lines}
+use Rattle.grid_model.specs.Catalogue.{first_line, kept_lines}
 use Rattle.grid_model.specs.declared.requests.Verb.TheVariants.{Login, MkDir}
 use Rattle.grid_model.specs.declared.refusal.Refusal.TheVariants.{NotBuilt, NoUser, NoLogin, NoCollection, Exists, NoReplica, BadRule}
 use Rattle.grid_model.specs.declared.refusal.RuleCause.TheVariants.{Unknown}

@@ -1,6 +1,6 @@
 -- The catalogue as plain lines on the main disk: one of the zone and its administrator, and one of each collection
 -- that was made, in the order in which they were made.
-use Rattle.std.specs.Prelude.{◌≡◌, ◌≢◌, ◌⊎◌, ℕ, ◌+◌, ◌^◌, ◌≤◌, not, ◌&&◌, List, [], ◌∷◌, ◌++◌, length, flat_map, Option, Some, None, Result, Ok, Err, IsTrue, codes, Bool}
+use Rattle.std.specs.Prelude.{◌≡◌, ◌≢◌, ◌⊎◌, ℕ, ◌+◌, ◌^◌, ◌≤◌, not, ◌&&◌, List, [], ◌∷◌, ◌++◌, length, flat_map, Some, None, Result, Ok, Err, IsTrue, codes, Bool}
 use Rattle.grid_model.specs.Names.{Text, Path, is_name, same_text, print_path, SpellsPath}
 use Rattle.grid_model.specs.Grid.{Grid, start, home_of, everybody}
 use Rattle.grid_model.specs.Commands.{Done, may_add, with_collection}

@@ -1,5 +1,5 @@
 -- Replies that can be written as lines.
-use Rattle.std.specs.Prelude.{Bool, true, false, ◌&&◌, List}
+use Rattle.std.specs.Prelude.{Bool, true, false, ◌&&◌}
 use Rattle.std.specs.List.{list_all}
 use Rattle.grid_model.specs.Names.{Text}
 use Rattle.grid_model.specs.Words.{is_word_byte}

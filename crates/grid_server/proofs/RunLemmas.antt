@@ -10,10 +10,9 @@ use Rattle.grid_model.specs.Lines.{requests}
 use Rattle.grid_model.specs.Catalogue.{Stands, kept_lines, HasRoom}
 use Rattle.grid_server.specs.declared.status.Status.{Status}
 use Rattle.grid_server.specs.declared.status.Status.TheVariants as status
-use Rattle.grid_server.specs.Serving.{IsServing, DidAll, Whole, EndsDone, EndsBroken, EndsLong, EndsEarly, EndsWorn, EndsTorn, EndsMute, Serves}
-use Rattle.grid_server.specs.Answering.{Stays}
-use Rattle.grid_server.specs.Starting.{NotEmpty, Begun, BegunInPart}
-use Rattle.grid_server.specs.Running.{Refuses, Inits, Says, IsComplete, RefusesStart}
+use Rattle.grid_server.specs.Serving.{IsServing, DidAll, Whole, EndsEarly, EndsTorn, Serves}
+use Rattle.grid_server.specs.Starting.{NotEmpty}
+use Rattle.grid_server.specs.Running.{Refuses, Inits, Says, IsComplete}
 use Rattle.grid_model.specs.declared.grid.Side.{Side}
 use Rattle.grid_model.specs.declared.grid.Side.TheVariants.{Main, Spare}
 use Rattle.grid_server.specs.Tasks.{AsksFor, to_serve, to_init, init, serve}

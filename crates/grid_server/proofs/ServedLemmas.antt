@@ -1,5 +1,5 @@
 -- What was served so far, turn by turn, and how it ends.
-use Rattle.std.proofs.Common.{◌≡◌, ◌≢◌, ◌⊎◌, inl, inr, ℕ, ◌+◌, ◌^◌, ◌≤◌, List, [], ◌∷◌, ◌++◌, length, take, filter, Option, Some, None, Result, Ok, Err, IsTrue, arith, refl, sym, subst, ap, ◌∙◌, append_assoc, length-append, true, false}
+use Rattle.std.proofs.Common.{◌≡◌, ◌⊎◌, inl, inr, ℕ, ◌+◌, ◌^◌, ◌≤◌, List, [], ◌∷◌, ◌++◌, length, take, filter, Option, Some, None, Result, Ok, Err, IsTrue, arith, refl, sym, subst, ap, ◌∙◌, append_assoc, length-append, true, false}
 use Rattle.std.specs.Prelude.{⊤}
 use Rattle.std.proofs.lemmas.List.{append-nil, take_at}
 use Rattle.grid_outside.specs.Disk.{DiskState}

@@ -5,6 +5,8 @@
 //! `ird init <zone> <admin>` begins a grid, and `ird serve` answers requests.
 #![tactic(auto)]
 
+ghost use Rattle.std.specs.Prelude.{◌≡◌, IfOk};
+
 mod ending;
 #[cfg(test)]
 mod tests;
@@ -18,11 +20,6 @@ use std::alloc::AllocError;
 use std::process::ExitCode;
 use words::program_words;
 
-/// The folders of the stores, by slot.
-const VAULTS: [&str; 8] = [
-    "vault0", "vault1", "vault2", "vault3", "vault4", "vault5", "vault6", "vault7",
-];
-
 fn main(rt: HostRuntime) -> ExitCode {
     let status = work(rt).unwrap_or(Status::Memory);
     ExitCode::from(exit_status(status))
@@ -33,9 +30,14 @@ fn work(rt: HostRuntime) -> Result<Status, AllocError> {
     let alloc = rt.alloc();
     let words = program_words(&rt, alloc)?;
     let mut stores: Vec<Box<dyn Plugin>> = Vec::new(alloc);
-    for vault in VAULTS {
-        add_store(&mut stores, Box::new(alloc, FolderStore::new(rt, vault))?)?;
-    }
+    add_store(&mut stores, Box::new(alloc, vault(rt, "vault0")?)?)?;
+    add_store(&mut stores, Box::new(alloc, vault(rt, "vault1")?)?)?;
+    add_store(&mut stores, Box::new(alloc, vault(rt, "vault2")?)?)?;
+    add_store(&mut stores, Box::new(alloc, vault(rt, "vault3")?)?)?;
+    add_store(&mut stores, Box::new(alloc, vault(rt, "vault4")?)?)?;
+    add_store(&mut stores, Box::new(alloc, vault(rt, "vault5")?)?)?;
+    add_store(&mut stores, Box::new(alloc, vault(rt, "vault6")?)?)?;
+    add_store(&mut stores, Box::new(alloc, vault(rt, "vault7")?)?)?;
     let mut outside = Outside {
         main: FileDisk::new(rt, "catalogue.a"),
         spare: FileDisk::new(rt, "catalogue.b"),
@@ -46,4 +48,11 @@ fn work(rt: HostRuntime) -> Result<Status, AllocError> {
     let mut source = StdinSource::new(rt);
     let mut sink = StdoutSink::new(rt);
     Ok(run(alloc, &words, &mut outside, &mut source, &mut sink))
+}
+
+// The store in the folder of this name.
+fn vault(rt: HostRuntime, name: &str) -> Result<FolderStore, AllocError>
+    ensures { IfOk result (λ store. store.last ≡ 0) }
+{
+    Ok(FolderStore::new(rt, String::from_str(rt.alloc(), name)?))
 }

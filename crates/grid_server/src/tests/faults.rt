@@ -40,15 +40,10 @@ fn a_source_that_fails_in_a_line(rt: HostRuntime) -> Result<(), Fail> {
         (
             3,
             Status::SourceFault,
-            b"1 ok\n2 ok\n3 err NotBuilt\n4 ok\n",
+            b"1 ok\n2 ok\n3 err TooLong\n4 ok\n",
             whole,
         ),
-        (
-            4,
-            Status::Done,
-            b"1 ok\n2 ok\n3 err NotBuilt\n4 ok\n",
-            whole,
-        ),
+        (4, Status::Done, b"1 ok\n2 ok\n3 err TooLong\n4 ok\n", whole),
     ] {
         let calls = [call];
         let mut devices = over(NEW, &input);
@@ -58,44 +53,61 @@ fn a_source_that_fails_in_a_line(rt: HostRuntime) -> Result<(), Fail> {
     Ok(())
 }
 
-// A source in memory that gives at most ten bytes at once. What is left of it is not told.
+// A source in memory that gives at most one byte at once. What is left of it is not told.
 #[derive(Drop)]
-struct Tens {
+struct Trickle {
     source: MemSource,
 }
 
-impl Source for Tens {
+impl Source for Trickle {
     ghost use Rattle.std.specs.Prelude.{false, []};
     ghost use Rattle.grid_mem.specs.MemSource.{source_of};
 
     ghost source = { λ s. record { faults = (source_of s.source).faults; tells = false; left = [] } };
 
     fn read(&mut self, buf: &mut [u8]) -> Result<usize, SourceFault> {
-        let room = buf.len().min(10);
+        let room = buf.len().min(1);
         self.source.read(&mut buf[..room])
     }
 }
 
+// What is answered and kept of the input below, by how many of its lines ended.
+const ANSWERED: [(&[u8], &[u8]); 4] = [
+    (b"", NEW),
+    (b"1 ok\n", NEW),
+    (b"1 ok\n2 ok\n", b"Z /tempZone/home/rods\nC /b\n"),
+    (
+        b"1 ok\n2 ok\n3 ok\n",
+        b"Z /tempZone/home/rods\nC /b\nC /tempZone/home/rods/a\n",
+    ),
+];
+
 #[test]
-fn a_source_that_fails_between_short_reads(rt: HostRuntime) -> Result<(), Fail> {
+fn a_source_that_fails_at_each_byte(rt: HostRuntime) -> Result<(), Fail> {
     let alloc = rt.alloc();
-    // Lines of 13, 11 and 30 bytes.
-    let input = b"0 login rods\n0 mkdir /b\n0 mkdir /tempZone/home/rods/a\n";
-    let with_b = b"Z /tempZone/home/rods\nC /b\n".as_slice();
-    let whole = b"Z /tempZone/home/rods\nC /b\nC /tempZone/home/rods/a\n".as_slice();
-    for (call, status, replies, main) in [
-        (2, Status::SourceFault, b"".as_slice(), NEW),
-        (3, Status::SourceFault, b"1 ok\n", NEW),
-        (4, Status::SourceFault, b"1 ok\n2 ok\n", with_b),
-        (6, Status::SourceFault, b"1 ok\n2 ok\n", with_b),
-        (7, Status::SourceFault, b"1 ok\n2 ok\n3 ok\n", whole),
-        (8, Status::Done, b"1 ok\n2 ok\n3 ok\n", whole),
-    ] {
-        let fails = vec![in alloc; call]?;
+    let input = b"0 login rods\n0 mkdir /b\n0 mkdir /tempZone/home/rods/a\n".as_slice();
+    // Each call gives one byte, and the last one shows the end.
+    for taken in 0..=input.len() + 1 {
+        let fails = vec![in alloc; taken as u64 + 1]?;
         let source = MemSource::new(input.to_vec(alloc)?, fails);
-        let mut tens = Tens { source };
-        let wanted = ends(status, replies, main);
-        plays_from(&rt, alloc, SERVE, &over(NEW, input), &mut tens, &wanted)?;
+        let ended = input
+            .iter()
+            .take(taken)
+            .filter(|byte| **byte == b'\n')
+            .count();
+        let status = if taken > input.len() {
+            Status::Done
+        } else {
+            Status::SourceFault
+        };
+        match ANSWERED.get(ended) {
+            Some((replies, main)) => {
+                let wanted = ends(status, replies, main);
+                let mut trickle = Trickle { source };
+                plays_from(&rt, alloc, SERVE, &over(NEW, input), &mut trickle, &wanted)?;
+            }
+            None => assert!(rt; false, "{ended} lines"),
+        }
     }
     Ok(())
 }

@@ -44,39 +44,62 @@ fn lines_of_requests(rt: HostRuntime) -> Result<(), Fail> {
 }
 
 #[test]
-fn lines_that_are_not_built(rt: HostRuntime) -> Result<(), Fail> {
+fn words_between_spaces_and_quotes(rt: HostRuntime) -> Result<(), Fail> {
     let alloc = rt.alloc();
     for line in [
-        b"0  login rods".as_slice(),
-        b"0 login  rods",
-        b" 0 login rods",
-        b"0 login rods ",
-        b"0 login rods\r",
+        b"0 login rods".as_slice(),
+        b"0  login rods",
+        b" 0 login rods  ",
         b"0 login \"rods\"",
-        b"0 login rods x",
-        b"0 login ",
-        b"0 login",
-        b"1 login rods",
-        b"login rods",
-        b"0 Login rods",
-        b"0\tlogin rods",
-        b"0 logout",
-        b" ",
-        b"\x00",
-        b"0 mkdir ",
-        b"0 mkdir x",
-        b"0 mkdir /x/",
-        b"0 mkdir //x",
-        b"0 mkdir /./x",
-        b"0 mkdir /..",
-        b"0 mkdir \"/x\"",
-        b"0 mkdir /x /y",
-        b"0 mkdir /x\x7F",
+        b"\"0\" \"login\" \"rods\" ",
+    ] {
+        let mut input = line.to_vec(alloc)?;
+        input.extend_from_slice(b"\n \n   \n0 mkdir \"/tempZone/home/rods/a\"\n")?;
+        let served = ends(Status::Done, b"1 ok\n2 ok\n", WITH_A);
+        plays(&rt, alloc, SERVE, &over(NEW, &input), &served)?;
+    }
+    let input = b"0 login rods\n0 mkdir \"/b c\"\n0 mkdir \"/b c/\\\"\"";
+    let main = b"Z /tempZone/home/rods\nC /b c\nC /b c/\"\n";
+    let served = ends(Status::Done, b"1 ok\n2 ok\n3 ok\n", main);
+    plays(&rt, alloc, SERVE, &over(NEW, input), &served)
+}
+
+#[test]
+fn lines_that_are_refused_as_they_stand(rt: HostRuntime) -> Result<(), Fail> {
+    let alloc = rt.alloc();
+    for (line, refusal) in [
+        (b"0 login rods x".as_slice(), b"NotBuilt".as_slice()),
+        (b"0 login ", b"NotBuilt"),
+        (b"0 login", b"NotBuilt"),
+        (b"1 login rods", b"NotBuilt"),
+        (b"login rods", b"NotBuilt"),
+        (b"0 Login rods", b"NotBuilt"),
+        (b"0 logout", b"NotBuilt"),
+        (b"\"\"", b"NotBuilt"),
+        (b"0 mkdir ", b"NotBuilt"),
+        (b"0 mkdir \"\"", b"NotBuilt"),
+        (b"0 mkdir x", b"NotBuilt"),
+        (b"0 mkdir /x/", b"NotBuilt"),
+        (b"0 mkdir //x", b"NotBuilt"),
+        (b"0 mkdir /./x", b"NotBuilt"),
+        (b"0 mkdir /..", b"NotBuilt"),
+        (b"0 mkdir /x /y", b"NotBuilt"),
+        (b"\x00", b"Syntax 0"),
+        (b"0\tlogin rods", b"Syntax 1"),
+        (b"0 login rods\r", b"Syntax 12"),
+        (b"0 mkdir /x\x7F", b"Syntax 10"),
+        (b"0 login \"rods", b"Syntax 13"),
+        (b"0 login \"ro\\ds\"", b"Syntax 12"),
+        (b"0 login \"rods\"x", b"Syntax 14"),
+        (b"0 login ro\"ds", b"Syntax 10"),
     ] {
         let mut input = b"0 login rods\n".to_vec(alloc)?;
         input.extend_from_slice(line)?;
         input.extend_from_slice(b"\n0 login rods\n")?;
-        let refused = ends(Status::Done, b"1 ok\n2 err NotBuilt\n3 ok\n", NEW);
+        let mut replies = b"1 ok\n2 err ".to_vec(alloc)?;
+        replies.extend_from_slice(refusal)?;
+        replies.extend_from_slice(b"\n3 ok\n")?;
+        let refused = ends(Status::Done, &replies, NEW);
         plays(&rt, alloc, SERVE, &over(NEW, &input), &refused)?;
     }
     Ok(())
@@ -99,8 +122,8 @@ fn the_longest_lines(rt: HostRuntime) -> Result<(), Fail> {
     // A path of names of 255 bytes and one shorter one, so that the line has so many bytes.
     for (length, replies) in [
         (4096, b"1 ok\n2 err NoCollection\n3 ok\n".as_slice()),
-        (4097, b"1 ok\n2 err NotBuilt\n3 ok\n"),
-        (70_000, b"1 ok\n2 err NotBuilt\n3 ok\n"),
+        (4097, b"1 ok\n2 err TooLong\n3 ok\n"),
+        (70_000, b"1 ok\n2 err TooLong\n3 ok\n"),
     ] {
         let mut input = b"0 login rods\n0 mkdir ".to_vec(alloc)?;
         for place in 8..length {

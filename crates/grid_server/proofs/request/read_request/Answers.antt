@@ -1,4 +1,4 @@
-use Rattle.std.proofs.Common.{◌≡◌, ℕ, List, Option, Err, sym, subst}
+use Rattle.std.proofs.Common.{ℕ, List, Option, Err, sym, subst}
 use Rattle.grid_model.specs.Names.{Text}
 use Rattle.grid_model.specs.Requests.{Asks, SpellsVerb, asks_for, not_built, too_long, no_words}
 use Rattle.grid_model.specs.declared.requests.Verb.{Verb}

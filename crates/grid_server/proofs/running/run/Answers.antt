@@ -1,4 +1,4 @@
-use Rattle.std.proofs.Common.{◌≡◌, ◌⊎◌, inl, inr, refl}
+use Rattle.std.proofs.Common.{inl, inr}
 use Rattle.grid_server.proofs.RunLemmas.{serve_or_init, inits_so, complete, complete_init, usage_says_none, inits_none}
 use Rattle.grid_server.proofs.running.run.Goals as goal
 

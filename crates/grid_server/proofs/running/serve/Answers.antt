@@ -1,4 +1,4 @@
-use Rattle.std.proofs.Common.{◌≡◌, IsTrue, refl, subst, sym}
+use Rattle.std.proofs.Common.{IsTrue, subst, sym}
 use Rattle.grid_server.specs.Held.{grid_of}
 use Rattle.grid_server.specs.Turning.{HasNoGrid}
 use Rattle.grid_server.proofs.RunLemmas.{no_both, serves_found, early_at_once, torn_at_once, refuses_there, not_served, refused_at}
