@@ -6,6 +6,8 @@ mod ends;
 mod marks;
 mod parts;
 mod refusals;
+#[cfg(test)]
+mod tests;
 mod writing;
 
 pub use marks::mark_line;

@@ -1,3 +1,4 @@
+pub mod DigestReading
 pub mod Below
 pub mod Comparing
 pub mod Fronts

@@ -16,3 +16,8 @@ pub record IsDigest (d : Digest) : Type 0 where
 -- `sha2:` and the padded base64 of the digest, in the standard alphabet (RFC 4648, section 4)
 abbrev pub checksum : Digest → Text
 checksum d = codes "sha2:" ++ encode standard.symbols 0x3D true d
+
+-- the text spells the digest
+pub record SpellsDigest (text : Text) (digest : Digest) : Type 0 where
+  pub is_digest : IsDigest digest
+  pub text_is : text ≡ checksum digest

@@ -1,6 +1,6 @@
-ghost use Rattle.std.specs.Prelude.{◌≡◌, ◌≢◌, IfOk, IfSome, IfNone};
+ghost use Rattle.std.specs.Prelude.{◌≡◌, IfOk, IfSome, IfNone, length, SomeIff};
 ghost use Rattle.sha2.specs.Sha256.{sha256};
-ghost use Rattle.grid_model.specs.Digests.{IsDigest, checksum};
+ghost use Rattle.grid_model.specs.Digests.{SpellsDigest, checksum};
 
 use crate::Text;
 use base64::DecodeAllocError;
@@ -61,5 +61,31 @@ impl Digest {
         let mut text = String::from_str(alloc, PREFIX)?;
         STANDARD.encode_string(&self.bytes, &mut text)?;
         Ok(Text::from_vec(text.into_bytes()))
+    }
+
+    /// The digest that is printed so, where the text is what `print` gives of one. Fails for want of memory alone.
+    pub fn read(alloc: Global, text: &[u8]) -> Result<Option<Digest>, AllocError>
+        ensures digest { IfOk result (λ read. IfSome read (λ digest. SpellsDigest text.now digest)) }
+        ensures only { IfOk result (λ read. IfSome read (λ digest. (other : _) → SpellsDigest text.now other → other ≡ digest)) }
+        ensures none { IfOk result (λ read. IfNone read ((digest : _) → ¬ SpellsDigest text.now digest)) }
+    {
+        let Some(symbols) = text.strip_prefix(PREFIX.as_bytes()) else {
+            return Ok(None);
+        };
+        match STANDARD.decode(alloc, symbols) {
+            Ok(bytes) => Ok(Digest::from_slice(bytes.as_slice())),
+            Err(DecodeAllocError::DecodeError(_)) => Ok(None),
+            Err(DecodeAllocError::OutOfMemory) => Err(AllocError),
+        }
+    }
+
+    /// The digest with these bytes, where there are 32.
+    fn from_slice(bytes: &[u8]) -> Option<Digest>
+        ensures { SomeIff result (length bytes.now ≡ 32) bytes.now }
+    {
+        match <[u8; 32]>::try_from(bytes) {
+            Ok(bytes) => Some(Digest { bytes }),
+            Err(_) => None,
+        }
     }
 }

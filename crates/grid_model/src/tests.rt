@@ -1,4 +1,4 @@
-use crate::{BadName, Path, PathError, Text, Texts, check_name};
+use crate::{BadName, Digest, Path, PathError, Text, Texts, check_name};
 use std::cmp::Ordering;
 use std::test::Fail;
 
@@ -127,5 +127,34 @@ fn errors_as_they_are_shown(rt: HostRuntime) -> Result<(), Fail> {
     assert_eq!(rt; path.as_str(), "no path, from byte 0 on");
     let memory = format!(in alloc; "{}", PathError::Memory)?;
     assert_eq!(rt; memory.as_str(), "out of memory");
+    Ok(())
+}
+
+#[test]
+fn digests_are_read(rt: HostRuntime) -> Result<(), Fail> {
+    let alloc = rt.alloc();
+    for (text, bytes) in [
+        (
+            b"sha2:47DEQpj8HBSa+/TImW+5JCeuQeRkm5NMpJWZG3hSuFU=".as_slice(),
+            b"".as_slice(),
+        ),
+        (b"sha2:ungWv48Bz+pBQUDeXa4iI7ADYaOWF3qctBD/YfIAFa0=", b"abc"),
+    ] {
+        let digest = Digest::of(bytes);
+        assert_eq!(rt; digest.print(alloc)?.as_slice(), text);
+        assert_eq!(rt; Digest::read(alloc, text)?, Some(digest));
+    }
+    for text in [
+        b"".as_slice(),
+        b"sha2:",
+        b"SHA2:47DEQpj8HBSa+/TImW+5JCeuQeRkm5NMpJWZG3hSuFU=",
+        b"sha2:47DEQpj8HBSa+/TImW+5JCeuQeRkm5NMpJWZG3hSuFU",
+        b"sha2:47DEQpj8HBSa+/TImW+5JCeuQeRkm5NMpJWZG3hSuFV=",
+        b"sha2:47DEQpj8HBSa+/TImW+5JCeuQeRkm5NMpJWZG3hSuFUA",
+        b"sha2:47DEQpj8HBSa+/TImW+5JCeuQeRkm5NMpJWZG3hSuFU=\n",
+        b"sha2:47DEQpj8HBSa-_TImW-5JCeuQeRkm5NMpJWZG3hSuFU=",
+    ] {
+        assert_eq!(rt; Digest::read(alloc, text)?, None, "{text:?}");
+    }
     Ok(())
 }
