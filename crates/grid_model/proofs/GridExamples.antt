@@ -1,9 +1,10 @@
 -- The definitions of requests, replies and the catalogue on worked examples.
-use Rattle.std.proofs.Common.{◌≡◌, true, false, [], ◌∷◌, ◌++◌, Some, None, Ok, Err, refl}
+use Rattle.std.proofs.Common.{◌≡◌, true, false, [], ◌∷◌, ◌++◌, Some, None, Ok, Err, refl, lit≤}
 use Rattle.std.specs.Prelude.{codes, decimal, map}
 use Rattle.grid_model.specs.Names.{Text, Path}
 use Rattle.grid_model.specs.Grid.{start}
-use Rattle.grid_model.specs.Lines.{lines, requests, whole_requests}
+use Rattle.grid_model.specs.Lines.{is_request}
+use Rattle.grid_model.specs.Inputs.{Takes, none_taken, takes_blank, ends_in_line, AreRequests, PromisesBody}
 use Rattle.grid_model.specs.Commands.{State, command}
 use Rattle.grid_model.specs.Printing.{spaced, print_refusal}
 use Rattle.grid_model.specs.DataLines.{data_lines, parts_within}
@@ -18,27 +19,39 @@ use Rattle.grid_model.specs.declared.replies.End.TheVariants.{PreFailed}
 
 -- ---- lines
 
--- an empty line is a line and no request
-two_requests : requests (codes "ab\n\nc\n") ≡ codes "ab" ∷ codes "c" ∷ []
-two_requests = refl
+a_line_of_spaces : is_request (codes "   ") ≡ false
+a_line_of_spaces = refl
+
+a_line_with_a_word : is_request (codes "  a") ≡ true
+a_line_with_a_word = refl
+
+-- a line without words, and the rest
+a_blank_first : Takes (codes " \n0 x\n") [] (codes "0 x\n")
+a_blank_first = takes_blank (codes " ") refl ((λ e. cc), tt) refl none_taken
 
 -- the last line needs no newline
-an_unended_line : requests (codes "ab\nc") ≡ codes "ab" ∷ codes "c" ∷ []
-an_unended_line = refl
+an_unended_line : AreRequests (codes "0 x") (record { line = codes "0 x"; body = [] } ∷ [])
+an_unended_line = record {
+  whole = [];
+  left = codes "0 x";
+  last = record { line = codes "0 x"; body = [] } ∷ [];
+  takes = none_taken;
+  ends = ends_in_line ((λ e. cc), ((λ e. cc), ((λ e. cc), tt))) refl;
+  are = refl;
+}
 
--- but it is not whole without one
-a_whole_line : whole_requests (codes "ab\nc") ≡ codes "ab" ∷ []
-a_whole_line = refl
-
-no_lines : lines [] ≡ []
-no_lines = refl
-
-one_empty_line : lines (codes "\n") ≡ [] ∷ []
-one_empty_line = refl
-
--- a line of spaces is no request
-a_blank_line : requests (codes " \n  a\n\n") ≡ codes "  a" ∷ []
-a_blank_line = refl
+-- the last word is the count
+a_promise : PromisesBody (codes "0" ∷ codes "rules" ∷ decimal 7 ∷ []) 7
+a_promise = record {
+  session = codes "0";
+  verb = codes "rules";
+  more = decimal 7 ∷ [];
+  words_are = refl;
+  has_one = refl;
+  front = codes "0" ∷ codes "rules" ∷ [];
+  last_is = refl;
+  small = lit≤ tt;
+}
 
 -- ---- commands, in the order of their refusals
 

@@ -3,6 +3,7 @@ use Rattle.std.specs.Prelude.{◌≡◌, Bool, true, false, not, ◌&&◌, List,
 use Rattle.grid_model.specs.Maps.{add, has}
 use Rattle.grid_model.specs.Names.{Text, Path, same_text, parent}
 use Rattle.grid_model.specs.Grid.{Grid}
+use Rattle.grid_model.specs.Inputs.{Asked}
 use Rattle.grid_model.specs.Requests.{Asks}
 use Rattle.grid_model.specs.declared.requests.Verb.{Verb}
 use Rattle.grid_model.specs.declared.requests.Verb.TheVariants.{Login, MkDir}
@@ -53,8 +54,8 @@ command s (Ok (Login user)) = elim (same_text user s.grid.admin) [
 ]
 command s (Ok (MkDir path)) = elim s.logged_in [ true ↦ make s path | false ↦ refused s NoLogin ]
 
--- These lines, one after another from this state on, did this and left that state.
-pub data After : State → List Text → List Done → State → Type 0 where
+-- These requests, one after another from this state on, did this and left that state.
+pub data After : State → List Asked → List Done → State → Type 0 where
   none : {s : State} → After s [] [] s
-  next : {s end : State} {line : Text} {lines : List Text} {d : Done} {ds : List Done} (asked : Result Verb Refusal)
-      → Asks line asked → d ≡ command s asked → After d.state lines ds end → After s (line ∷ lines) (d ∷ ds) end
+  next : {s end : State} {request : Asked} {more : List Asked} {d : Done} {ds : List Done} (asked : Result Verb Refusal)
+      → Asks request.line asked → d ≡ command s asked → After d.state more ds end → After s (request ∷ more) (d ∷ ds) end

@@ -3,6 +3,7 @@ pub mod Commands
 pub mod DataLines
 pub mod Digests
 pub mod Grid
+pub mod Inputs
 pub mod Limits
 pub mod Lines
 pub mod Maps

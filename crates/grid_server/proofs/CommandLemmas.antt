@@ -18,7 +18,7 @@ use Rattle.grid_server.specs.declared.server.Server.{Server}
 use Rattle.grid_server.specs.declared.server.Stop.{Stop}
 use Rattle.grid_server.specs.declared.server.Stop.TheVariants.{Disk, Sink, Memory, Worn}
 use Rattle.grid_server.proofs.RequestLemmas.{total, words_short}
-use Rattle.grid_server.specs.Answering.{state_of, Makes, Keeps, Kept, Did, Answers}
+use Rattle.grid_server.specs.Answering.{state_of, Makes, Keeps, Answers}
 
 -- a request that is refused changes nothing
 pub record Nothing (s : State) (d : Done) : Type 0 where
@@ -138,15 +138,12 @@ module _ (s : State) (asked : Result Verb Refusal) (p : Path) (r : Result ⊤ Re
 
 -- ---- the answering of a request
 
-pub answers_stopped : (old new : Server) (line : Text) (n : ℕ) (d : Done) (main_old main_new : DiskState) (sink : SinkState) (stop : Stop) → Did (state_of old) line d → Keeps old d main_old main_new (Err stop) new
-    → Answers old line n main_old main_new sink sink (Err stop) new
-answers_stopped old new line n d main_old main_new sink Disk did k = (d, did, k.0, k.1, k.2, λ told. refl)
-answers_stopped old new line n d main_old main_new sink Sink did k = absurd k
-answers_stopped old new line n d main_old main_new sink Memory did k = (k, λ told. refl)
-answers_stopped old new line n d main_old main_new sink (Worn place) did k = (d, did, k.0, k.1, k.2, k.3, λ told. refl)
-
-pub kept_done : (old new : Server) (line : Text) (d : Done) (main_old main_new : DiskState) → Did (state_of old) line d → Keeps old d main_old main_new (Ok tt) new → Kept old line main_old main_new new d
-kept_done old new line d main_old main_new did k = record { did = did; state = k.0; size = k.1; room = k.2; main = k.3 }
+pub answers_stopped : (old new : Server) (asked : Result Verb Refusal) (n : ℕ) (main_old main_new : DiskState) (sink : SinkState) (stop : Stop) → Keeps old (command (state_of old) asked) main_old main_new (Err stop) new
+    → Answers old asked n main_old main_new sink sink (Err stop) new
+answers_stopped old new asked n main_old main_new sink Disk k = (k, λ told. refl)
+answers_stopped old new asked n main_old main_new sink Sink k = absurd k
+answers_stopped old new asked n main_old main_new sink Memory k = (k, λ told. refl)
+answers_stopped old new asked n main_old main_new sink (Worn place) k = (k, λ told. refl)
 
 -- a first part of a text was added
 pub adds_first : (bytes text old new : List ℕ) → bytes ≡ text → AddsPart bytes old new → AddsFirst text old new

@@ -4,6 +4,7 @@ use Rattle.std.proofs.lemmas.List.{append-nil}
 use Rattle.grid_model.specs.Maps.{has}
 use Rattle.grid_model.specs.Names.{Text, Path, same_text, print_path, SpellsPath}
 use Rattle.grid_model.specs.Grid.{Grid}
+use Rattle.grid_model.specs.Inputs.{Asked}
 use Rattle.grid_model.specs.Requests.{Asks, asks_for, not_built, too_long, no_words, SpellsVerb, a_login, a_mkdir}
 use Rattle.grid_model.specs.declared.refusal.Refusal.{Refusal}
 use Rattle.grid_model.specs.Commands.{State, Done, command, make, refused, has_parent, may_add, with_collection, After, none, next}
@@ -19,9 +20,9 @@ use Rattle.grid_server.proofs.StandsLemmas.{Stands-push}
 
 -- ---- lists that go on
 
-pub After-push : {s mid : State} {asked : List Text} {done : List Done} (line : Text) (d : Done) → After s asked done mid → Did mid line d → After s (asked ++ line ∷ []) (done ++ d ∷ []) d.state
-After-push line d none did = next did.asked did.asks did.is none
-After-push line d (next verb asks is more) did = next verb asks is (After-push line d more did)
+pub After-push : {s mid : State} {asked : List Asked} {done : List Done} (request : Asked) (d : Done) → After s asked done mid → Did mid request.line d → After s (asked ++ request ∷ []) (done ++ d ∷ []) d.state
+After-push request d none did = next did.asked did.asks did.is none
+After-push request d (next verb asks is more) did = next verb asks is (After-push request d more did)
 
 pub HasRoom-push : (size : ℕ) (done : List Done) (d : Done) → HasRoom size done → (d.made ≡ None) ⊎ (size + length (kept_lines done) ≤ longest_catalogue) → HasRoom size (done ++ d ∷ [])
 HasRoom-push size [] d room last = (by_last last, tt)
@@ -112,19 +113,17 @@ stands_more bytes done s d stood (inr adds) =
     ap (λ (t : Text). bytes ++ t) (kept_lines-push done d ∙ ap (λ (t : Text). kept_lines done ++ t) (kept-some d adds.path adds.made)) ∙ sym (append_assoc bytes (kept_lines done) (path_line adds.path)) in
     subst G (sym adds.grid) (subst T (sym same) (Stands-push adds.path stood adds.spells adds.may))
 
-abbrev pub done_more : (found : Grid) (bytes : Text) (asked : List Text) (line : Text) (d : Done) (did : DidAll found bytes asked) → Did did.end line d → (d.made ≡ None) ⊎ (length bytes + length (kept_lines did.done) ≤ longest_catalogue)
-    → DidAll found bytes (asked ++ line ∷ [])
-done_more found bytes asked line d did one room = record {
+abbrev pub done_more : (found : Grid) (bytes : Text) (asked : List Asked) (request : Asked) (d : Done) (did : DidAll found bytes asked) → Did did.end request.line d → (d.made ≡ None) ⊎ (length bytes + length (kept_lines did.done) ≤ longest_catalogue)
+    → DidAll found bytes (asked ++ request ∷ [])
+done_more found bytes asked request d did one room = record {
   done = did.done ++ d ∷ [];
   end = d.state;
-  after = After-push line d did.after one;
+  after = After-push request d did.after one;
   room = HasRoom-push (length bytes) did.done d did.room room;
-  stands = stands_more bytes did.done did.end d did.stands (changes did.end line d one);
+  stands = stands_more bytes did.done did.end d did.stands (changes did.end request.line d one);
 }
 
 -- ---- what is held of a line does the same
 
-pub did_held : (s : State) (held line : Text) (d : Done) → held ≡ take 4097 line → Did s held d → Did s line d
-did_held s held line d e did =
-    let P : Text → Type 0 = λ t. Asks t did.asked in
-    record { asked = did.asked; asks = asks_held line did.asked (subst P e did.asks); is = did.is }
+pub did_held : (s : State) (held line : Text) (asked : Result Verb Refusal) → held ≡ take 4097 line → Asks held asked → Did s line (command s asked)
+did_held s held line asked e asks = let P : Text → Type 0 = λ t. Asks t asked in record { asked = asked; asks = asks_held line asked (subst P e asks); is = refl }

@@ -1,14 +1,15 @@
 -- Lines, and what is held of them.
-use Rattle.std.proofs.Common.{◌≡◌, ◌≢◌, inl, inr, ℕ, suc, Some, None, get_or, ◌+◌, ◌-◌, ◌<◌, ◌≤◌, min, List, [], ◌∷◌, ◌++◌, length, take, drop, arith, refl, sym, subst, ap, ◌∙◌, append_assoc, length-append, length-take, take-take, ◌^◌, IsTrue}
+use Rattle.std.proofs.Common.{◌≡◌, ◌≢◌, inl, inr, ℕ, suc, Some, None, get_or, ◌+◌, ◌-◌, ◌<◌, ◌≤◌, min, List, [], ◌∷◌, ◌++◌, length, take, drop, arith, refl, sym, subst, ap, ◌∙◌, append_assoc, length-append, length-take, take-take, ◌^◌, IsTrue, length-drop, take-append-drop}
 use Rattle.std.proofs.lemmas.Bool.{cases_lt}
-use Rattle.std.proofs.lemmas.List.{take_all, drop-take, drop-drop, take-append-le, append-nil}
+use Rattle.std.proofs.lemmas.List.{take_all, drop_all, drop-take, drop-drop, take-append-le, append-nil}
 use Rattle.std.proofs.Math.Seq.{take-append-add}
 use Rattle.std.proofs.lemmas.Bool.Decides.{nat_tests}
 use Rattle.std.specs.List.{position, position_or_len}
 use Rattle.grid_outside.proofs.Spans.{nat_cases}
 use Rattle.grid_model.specs.Lines.{IsLine}
 use Rattle.grid_outside.specs.Source.{SourceState}
-use Rattle.grid_server.specs.Reading.{is_newline, Reader, Took, TookAll, ReadsLine, ReadsPart}
+use Rattle.grid_server.specs.Reading.{is_newline, Reader, Took, TookAll, ReadsLine, ReadsPart, Passes, PassesPart}
+use Rattle.grid_server.specs.declared.line_reader.Passed.TheVariants as passed
 use Rattle.grid_server.specs.declared.line_reader.Ended.TheVariants as ended
 
 -- as many as there is room for, or all
@@ -100,6 +101,15 @@ rest_behind s e n xs le =
     let places : s + (n + 1) ≡ s + suc n = omega arith in
     ap (λ (k : ℕ). drop (suc n) (take k (drop s xs))) size ∙ drop-take (suc n) (e - (s + (n + 1))) (drop s xs)
     ∙ ap (λ (ys : List ℕ). take (e - (s + (n + 1))) ys) (drop-drop (suc n) s xs ∙ ap (λ (k : ℕ). drop k xs) (sym places))
+
+-- what is left of a block behind some of its bytes
+pub passed_rest : (s e p count : ℕ) (xs us : List ℕ) → take (e - s) (drop s xs) ≡ us → s ≤ e → e ≤ length xs → p ≡ min count (e - s) → take (e - (s + p)) (drop (s + p) xs) ≡ drop (min count (length us)) us
+passed_rest s e p count xs us is le within least =
+    let size : length us ≡ e - s = omega (arith, ap length is, length-take (e - s) (drop s xs), length-drop s xs, le, within) in
+    let same : min count (length us) ≡ p = omega (arith, size, least) in
+    let places : e - s ≡ p + (e - (s + p)) = omega (arith, least, le) in
+    sym (ap (λ (k : ℕ). drop k us) same ∙ ap (λ (ys : List ℕ). drop p ys) (sym is) ∙ ap (λ (k : ℕ). drop p (take k (drop s xs))) places ∙ drop-take p (e - (s + p)) (drop s xs)
+    ∙ ap (λ (ys : List ℕ). take (e - (s + p)) ys) (drop-drop p s xs))
 
 -- ---- the reading of one line, part by part
 
@@ -194,5 +204,93 @@ module _ (old now : Reader) (from to : SourceState) (holds : List ℕ) (so_far :
   part_read last tells is stays = record {
     got = so_far.got;
     is = subst IsLine (sym so_far.split) (IsLine-append so_far.part now.unread so_far.is is);
+    took = λ told. so_far.took told ∙ ap (λ (xs : List ℕ). so_far.got ++ xs) (sym (stays (subst IsTrue (sym tells) told)));
+  }
+
+-- ---- the passing over of bytes, part by part
+
+-- where more are to be passed over than are held, none is left
+pub none_held : (left rest : ℕ) (us new : List ℕ) → rest ≡ left - min left (length us) → rest ≢ 0 → new ≡ drop (min left (length us)) us → new ≡ []
+none_held left rest us new is some unread = unread ∙ drop_all (min left (length us)) us (omega (arith, is, some))
+
+-- so far
+pub record PartPassed (old now : Reader) (from to : SourceState) (count left : ℕ) : Type 0 where
+  pub got : List ℕ
+  pub body : List ℕ
+  pub split : old.unread ++ got ≡ body ++ now.unread
+  pub size : length body + left ≡ count
+  pub took : Took got from to
+  pub taken : now.taken ≡ old.taken + length got
+  pub most : now.taken ≤ 2 ^ 48
+
+pub none_passed : (old : Reader) (from : SourceState) (count : ℕ) → old.taken ≤ 2 ^ 48 → PartPassed old old from from count count
+none_passed old from count most = record { got = []; body = []; split = append-nil old.unread; size = omega arith; took = λ tells. refl; taken = omega arith; most = most }
+
+module _ (old now : Reader) (from to : SourceState) (count left : ℕ) (so_far : PartPassed old now from to count left) where
+  -- some of what is held
+  pub held_passed : (new : Reader) (rest : ℕ) → new.unread ≡ drop (min left (length now.unread)) now.unread → new.taken ≡ now.taken → rest ≡ left - min left (length now.unread) → PartPassed old new from to count rest
+  held_passed new rest unread taken is =
+      let p = min left (length now.unread) in
+      let front = take p now.unread in
+      record {
+        got = so_far.got;
+        body = so_far.body ++ front;
+        split = so_far.split ∙ ap (λ (xs : List ℕ). so_far.body ++ xs) (sym (take-append-drop p now.unread)) ∙ sym (append_assoc so_far.body front (drop p now.unread)) ∙ ap (λ (xs : List ℕ). (so_far.body ++ front) ++ xs) (sym unread);
+        size = omega (arith, so_far.size, is, length-append so_far.body front, length-take p now.unread);
+        took = so_far.took;
+        taken = omega (arith, taken, so_far.taken);
+        most = omega (arith, taken, so_far.most);
+      }
+
+  -- a block more, where nothing was held
+  pub block_passed : (new : Reader) (last : SourceState) → now.unread ≡ [] → to.tells ≡ from.tells → Took new.unread to last → new.taken ≡ now.taken + length new.unread → new.taken ≤ 2 ^ 48 → PartPassed old new from last count left
+  block_passed new last empty tells took taken most = record {
+    got = so_far.got ++ new.unread;
+    body = so_far.body;
+    split = sym (append_assoc old.unread so_far.got new.unread) ∙ ap (λ (xs : List ℕ). xs ++ new.unread) (so_far.split ∙ ap (λ (xs : List ℕ). so_far.body ++ xs) empty ∙ append-nil so_far.body);
+    size = so_far.size;
+    took = λ told. so_far.took told ∙ ap (λ (xs : List ℕ). so_far.got ++ xs) (took (subst IsTrue (sym tells) told)) ∙ sym (append_assoc so_far.got new.unread last.left);
+    taken = omega (arith, so_far.taken, taken, length-append so_far.got new.unread);
+    most = most;
+  }
+
+  all_of : now.unread ≡ [] → old.unread ++ so_far.got ≡ so_far.body
+  all_of empty = so_far.split ∙ ap (λ (xs : List ℕ). so_far.body ++ xs) empty ∙ append-nil so_far.body
+
+  pub whole_passed : left ≡ 0 → Passes old count passed.Whole now from to
+  whole_passed none = record { got = so_far.got; body = so_far.body; ends = (so_far.split, omega (arith, so_far.size, none), so_far.took, so_far.taken, so_far.most) }
+
+  pub short_passed : (new : Reader) (last : SourceState) → left ≢ 0 → now.unread ≡ [] → to.tells ≡ from.tells → new ≡ now → TookAll [] to last → Passes old count passed.Short new from last
+  short_passed new last some empty tells stays took = record {
+    got = so_far.got;
+    body = so_far.body;
+    ends = (
+      all_of empty,
+      omega (arith, so_far.size, some),
+      ap (λ r. r.unread) stays ∙ empty,
+      (λ told. let all = took (subst IsTrue (sym tells) told) in (so_far.took told ∙ ap (λ (xs : List ℕ). so_far.got ++ xs) all.0 ∙ append-nil so_far.got, all.1)),
+      omega (arith, so_far.taken, ap (λ r. r.taken) stays),
+      omega (arith, so_far.most, ap (λ r. r.taken) stays),
+    );
+  }
+
+  pub long_passed : (new : Reader) (last : SourceState) (byte : ℕ) → left ≢ 0 → now.unread ≡ [] → to.tells ≡ from.tells → new.unread ≡ [] → Took (byte ∷ []) to last → now.taken ≡ 2 ^ 48 → Passes old count passed.Long new from last
+  long_passed new last byte some empty tells new_empty took full = record {
+    got = so_far.got;
+    body = so_far.body;
+    ends = (
+      all_of empty,
+      omega (arith, so_far.size, some),
+      new_empty,
+      (byte, λ told. so_far.took told ∙ ap (λ (xs : List ℕ). so_far.got ++ xs) (took (subst IsTrue (sym tells) told)) ∙ sym (append_assoc so_far.got (byte ∷ []) last.left)),
+      omega (arith, so_far.taken, full),
+    );
+  }
+
+  -- the source failed
+  pub part_passed : (last : SourceState) → left ≢ 0 → now.unread ≡ [] → to.tells ≡ from.tells → (IsTrue to.tells → last.left ≡ to.left) → PassesPart old count from last
+  part_passed last some empty tells stays = record {
+    got = so_far.got;
+    short = omega (arith, ap length (all_of empty), so_far.size, some);
     took = λ told. so_far.took told ∙ ap (λ (xs : List ℕ). so_far.got ++ xs) (sym (stays (subst IsTrue (sym tells) told)));
   }

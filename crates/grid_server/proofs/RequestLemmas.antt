@@ -1,11 +1,15 @@
 -- What a line asks for, by its words.
-use Rattle.std.proofs.Common.{◌≡◌, ◌≢◌, inl, inr, ℕ, ◌+◌, ◌<◌, ◌≤◌, true, List, [], ◌∷◌, length, take, get_or, arith, sym, subst, ap, ◌∙◌, length-append}
+use Rattle.std.proofs.Common.{◌≡◌, ◌≢◌, inl, inr, ℕ, ◌+◌, ◌<◌, ◌≤◌, true, false, List, [], ◌∷◌, ◌++◌, length, take, get_or, arith, refl, sym, subst, ap, ◌∙◌, length-append}
 use Rattle.std.proofs.lemmas.Bool.{cases_lt}
 use Rattle.std.proofs.lemmas.Bool.Decides.{nat_tests}
 use Rattle.std.proofs.lemmas.List.{take_all, length-take-le}
-use Rattle.std.specs.Prelude.{codes, Result}
-use Rattle.grid_model.specs.Names.{Text, Path, SpellsPath}
+use Rattle.std.specs.List.{list_any}
+use Rattle.grid_model.proofs.Comparing.{other_text}
+use Rattle.std.specs.Prelude.{codes, decimal, ◌↔◌, IsTrue, Bool, zero, suc, ◌^◌, IfOk, IfSome, IfNone, Ok, Err, Result, Option, Some, None, unwrap_or}
+use Rattle.grid_model.specs.Names.{Text, Path, SpellsPath, same_text}
 use Rattle.grid_model.specs.Lines.{is_request}
+use Rattle.grid_model.specs.Inputs.{HasBody, a_body, no_body, PromisesBody, verbs_with_body}
+use Rattle.grid_server.specs.Requests.{Promise}
 use Rattle.grid_model.specs.Words.{SpellsInner, nothing, plain, escaped, SpellsWord, bare, quoted, SpellsLine, line_end, space, word}
 use Rattle.grid_model.specs.Requests.{Asks, asks_for, not_built, too_long, no_words, SpellsVerb, a_login, a_mkdir}
 use Rattle.grid_model.specs.declared.requests.Verb.{Verb}
@@ -75,3 +79,96 @@ asks_held line asked asks = elim (cases_lt 4096 (length line)) [
     by_case a (not_built le is none) long size = absurd (omega (arith, le, size))
     by_case a (too_long lt) long size = too_long (omega (arith, long))
     by_case a (no_words le is) long size = absurd (omega (arith, le, size))
+
+pub body_held : (line : Text) (count : ℕ) → HasBody (take 4097 line) count → HasBody line count
+body_held line count has = elim (cases_lt 4096 (length line)) [
+  | inl long ↦ by_case count has long (length-take-le 4097 line (omega (arith, long)))
+  | inr short ↦ let P : Text → Type 0 = λ t. HasBody t count in subst P (take_all 4097 line (omega arith)) has
+]
+  where
+    by_case : (n : ℕ) → HasBody (take 4097 line) n → 4096 + 1 ≤ length line → length (take 4097 line) ≡ 4097 → HasBody line n
+    by_case n (a_body le is promises) long size = absurd (omega (arith, le, size))
+    by_case n (no_body never) long size = no_body (λ words many le. absurd (omega (arith, long, le)))
+
+-- ---- bodies
+
+-- the words of a line are its only ones
+words_once : (line : Text) (words : List Text) (count : ℕ) → ((others : List Text) → SpellsLine line others → others ≡ words) → ((n : ℕ) → ¬ PromisesBody words n)
+    → (others : List Text) (n : ℕ) → length line ≤ 4096 → SpellsLine line others → ¬ PromisesBody others n
+words_once line words count only none others n le spells promises = let P : List Text → Type 0 = λ ws. PromisesBody ws n in none n (subst P (only others spells) promises)
+
+pub body_of : (line : Text) (words : List Text) (count : Option ℕ) (n : ℕ) → length line ≤ 4096 → SpellsLine line words → ((others : List Text) → SpellsLine line others → others ≡ words)
+    → Promise words count → n ≡ unwrap_or count 0 → HasBody line n
+body_of line words (Some m) n le spells only promises e = let P : ℕ → Type 0 = λ k. HasBody line k in subst P (sym e) (a_body le spells promises)
+body_of line words None n le spells only none e = let P : ℕ → Type 0 = λ k. HasBody line k in subst P (sym e) (no_body (words_once line words 0 only none))
+
+-- no words, no body
+pub no_words_no_body : (line : Text) → ((words : List Text) → length line ≤ 4096 → ¬ SpellsLine line words) → HasBody line 0
+no_words_no_body line never = no_body (λ words count le spells. absurd (never words le spells))
+
+-- the test of a verb that is none of the first two
+pub verb_test : (verb : Text) (b : Bool) → (IsTrue b ↔ (verb ≡ codes "rules")) → verb ≢ codes "put" → verb ≢ codes "part" → b ≡ list_any (same_text verb) verbs_with_body
+verb_test verb true is no_put no_part = sym (ap (λ (v : Text). list_any (same_text v) verbs_with_body) (is.0 refl))
+verb_test verb false is no_put no_part =
+    let a : same_text verb (codes "put") ≡ false = other_text verb (codes "put") no_put in
+    let b : same_text verb (codes "part") ≡ false = other_text verb (codes "part") no_part in
+    let c : same_text verb (codes "rules") ≡ false = other_text verb (codes "rules") (λ e. let yes = is.1 e in absurd (cc)) in
+    grind (arith, a, b, c)
+
+pub last_word : (words : List Text) (w : Text) (k : ℕ) → k + 1 ≡ length words → w ≡ get_or words k w → words ≡ take k words ++ w ∷ []
+last_word [] w k e is = absurd (omega (arith, e))
+last_word (x ∷ []) w zero e is = let same : w ≡ x = is in ap (λ (t : Text). t ∷ []) (sym same)
+last_word (x ∷ []) w (suc k) e is = absurd (omega (arith, e))
+last_word (x ∷ y ∷ words) w zero e is = absurd (omega (arith, e))
+last_word (x ∷ y ∷ words) w (suc k) e is = ap (λ (ws : List Text). x ∷ ws) (last_word (y ∷ words) w k (omega (arith, e)) is)
+
+-- words whose verb has a body, and whose last one is a number
+pub promised : (words : List Text) (verb last : Text) (k n : ℕ) → 2 ≤ length words → verb ≡ get_or words 1 verb → IsTrue (list_any (same_text verb) verbs_with_body) → k + 1 ≡ length words → last ≡ get_or words k last
+    → last ≡ decimal n → n < 2 ^ 64 → PromisesBody words n
+promised [] verb last k n two is has size at e small = absurd (omega (arith, two))
+promised (x ∷ []) verb last k n two is has size at e small = absurd (omega (arith, two))
+promised (x ∷ y ∷ words) verb last k n two is has size at e small =
+    let same : verb ≡ y = is in
+    record {
+      session = x;
+      verb = verb;
+      more = words;
+      words_are = ap (λ (v : Text). x ∷ v ∷ words) (sym same);
+      has_one = has;
+      front = take k (x ∷ y ∷ words);
+      last_is = last_word (x ∷ y ∷ words) last k size at ∙ ap (λ (w : Text). take k (x ∷ y ∷ words) ++ w ∷ []) e;
+      small = small;
+    }
+
+ends_once : (front other : List Text) (a b : Text) → front ++ a ∷ [] ≡ other ++ b ∷ [] → a ≡ b
+ends_once [] [] a b e = cc
+ends_once [] (x ∷ []) a b e = absurd (cc)
+ends_once [] (x ∷ y ∷ other) a b e = absurd (cc)
+ends_once (x ∷ []) [] a b e = absurd (cc)
+ends_once (x ∷ y ∷ front) [] a b e = absurd (cc)
+ends_once (x ∷ front) (y ∷ other) a b e = ends_once front other a b (cc)
+
+pub none_promised_short : (words : List Text) → length words < 2 → (n : ℕ) → ¬ PromisesBody words n
+none_promised_short words short n promise = omega (arith, short, ap length promise.words_are)
+
+pub none_promised_verb : (words : List Text) (verb : Text) → 2 ≤ length words → verb ≡ get_or words 1 verb → list_any (same_text verb) verbs_with_body ≡ false → (n : ℕ) → ¬ PromisesBody words n
+none_promised_verb [] verb two is none n promise = omega (arith, two)
+none_promised_verb (x ∷ []) verb two is none n promise = omega (arith, two)
+none_promised_verb (x ∷ y ∷ words) verb two is none n promise =
+    let same : verb ≡ y = is in
+    let has = promise.has_one in
+    let words_are = promise.words_are in
+    let other : promise.verb ≡ verb = cc in
+    let yes : list_any (same_text verb) verbs_with_body ≡ true = subst (λ (v : Text). list_any (same_text v) verbs_with_body ≡ true) other has in
+    cc (yes, none)
+
+pub none_promised_last : (words : List Text) (last : Text) (k : ℕ) → k + 1 ≡ length words → last ≡ get_or words k last → ((n : ℕ) → n < 2 ^ 64 → last ≢ decimal n) → (n : ℕ) → ¬ PromisesBody words n
+none_promised_last words last k size at none n promise =
+    none n promise.small (ends_once (take k words) promise.front last (decimal n) (sym (last_word words last k size at) ∙ promise.last_is))
+
+pub promise_of : {E : Type 0} (words : List Text) (verb last : Text) (k : ℕ) (r : Result (Option ℕ) E) → 2 ≤ length words → verb ≡ get_or words 1 verb → IsTrue (list_any (same_text verb) verbs_with_body) → k + 1 ≡ length words
+    → last ≡ get_or words k last → IfOk r (λ found. IfSome found (λ n. last ≡ decimal n)) → IfOk r (λ found. IfSome found (λ n. n < 2 ^ 64))
+    → IfOk r (λ found. IfNone found ((n : ℕ) → n < 2 ^ 64 → last ≢ decimal n)) → IfOk r (λ count. Promise words count)
+promise_of words verb last k (Ok (Some n)) two is has size at number small none = promised words verb last k n two is has size at number small
+promise_of words verb last k (Ok None) two is has size at number small none = none_promised_last words last k size at none
+promise_of words verb last k (Err e) two is has size at number small none = tt

@@ -6,7 +6,7 @@ use Rattle.grid_outside.specs.Sink.{SinkState}
 use Rattle.grid_outside.specs.Source.{SourceState}
 use Rattle.grid_model.specs.Names.{Text}
 use Rattle.grid_model.specs.Grid.{Grid}
-use Rattle.grid_model.specs.Lines.{requests}
+use Rattle.grid_model.specs.Inputs.{Asked, none_taken}
 use Rattle.grid_model.specs.Catalogue.{Stands, kept_lines, HasRoom}
 use Rattle.grid_server.specs.declared.status.Status.{Status}
 use Rattle.grid_server.specs.declared.status.Status.TheVariants as status
@@ -30,7 +30,7 @@ pub one_place : {text : Text} {place other : ℕ} → Stands text (Err place) �
 one_place one two = let same = Stands-same one two in cc
 
 module _ (found : Grid) (main_old main_mid main_new : DiskState) (from to : SourceState) (sink_old sink_new : SinkState) (same : main_mid.holds ≡ main_old.holds) where
-  abbrev did_from : {asked : List Text} → DidAll found main_mid.holds asked → DidAll found main_old.holds asked
+  abbrev did_from : {asked : List Asked} → DidAll found main_mid.holds asked → DidAll found main_old.holds asked
   did_from d = record {
     done = d.done;
     end = d.end;
@@ -39,21 +39,20 @@ module _ (found : Grid) (main_old main_mid main_new : DiskState) (from to : Sour
     stands = (let P : Text → Type 0 = λ t. Stands (t ++ kept_lines d.done) (Ok d.end.grid) in subst P same d.stands);
   }
 
-  abbrev whole_from : {asked : List Text} → Whole found main_mid main_new sink_old sink_new asked → Whole found main_old main_new sink_old sink_new asked
+  abbrev whole_from : {asked : List Asked} → Whole found main_mid main_new sink_old sink_new asked → Whole found main_old main_new sink_old sink_new asked
   whole_from w = record { did = did_from w.did; kept = w.kept ∙ ap (λ (t : Text). t ++ kept_lines w.did.done) same; shown = w.shown }
 
   pub serves_from : (s : Status) → Serves found main_mid main_new from to sink_old sink_new s → Serves found main_old main_new from to sink_old sink_new s
-  serves_from status.Done w = record { whole = whole_from w.whole; all = w.all; fits = w.fits }
-  serves_from status.SourceFault w = record { taken = w.taken; split = w.split; whole = whole_from w.whole }
-  serves_from (status.Long taken) w = (w.0, record { taken = w.1.taken; split = w.1.split; size = w.1.size; whole = whole_from w.1.whole })
-  serves_from status.Memory w = record { asked = w.asked; later = w.later; split = w.split; whole = whole_from w.whole }
+  serves_from status.Done w = record { asked = w.asked; are = w.are; whole = whole_from w.whole; all = w.all; fits = w.fits }
+  serves_from status.SourceFault w = record { taken = w.taken; split = w.split; asked = w.asked; left = w.left; takes = w.takes; part = w.part; whole = whole_from w.whole }
+  serves_from (status.Long taken) w = (w.0, record { taken = w.1.taken; split = w.1.split; size = w.1.size; asked = w.1.asked; left = w.1.left; takes = w.1.takes; part = w.1.part; whole = whole_from w.1.whole })
+  serves_from status.Memory w = record { asked = w.asked; begins = w.begins; whole = whole_from w.whole }
   serves_from (status.Worn what place) w = (
     w.0,
     record {
       asked = w.1.asked;
-      line = w.1.line;
-      later = w.1.later;
-      split = w.1.split;
+      request = w.1.request;
+      begins = w.1.begins;
       whole = whole_from w.1.whole;
       next = w.1.next;
       did = w.1.did;
@@ -64,8 +63,7 @@ module _ (found : Grid) (main_old main_mid main_new : DiskState) (from to : Sour
   )
   serves_from status.DiskFault w = record {
     asked = w.asked;
-    later = w.later;
-    split = w.split;
+    begins = w.begins;
     did = did_from w.did;
     tail = w.tail;
     kept = w.kept ∙ ap (λ (t : Text). (t ++ kept_lines w.did.done) ++ w.tail) same;
@@ -74,8 +72,7 @@ module _ (found : Grid) (main_old main_mid main_new : DiskState) (from to : Sour
   }
   serves_from status.SinkFault w = record {
     asked = w.asked;
-    later = w.later;
-    split = w.split;
+    begins = w.begins;
     did = did_from w.did;
     kept = w.kept ∙ ap (λ (t : Text). t ++ kept_lines w.did.done) same;
     front = w.front;
@@ -98,16 +95,14 @@ module _ (found : Grid) (main_old main_new : DiskState) (from : SourceState) (si
   pub early_at_once : EndsEarly found main_old main_new from sink sink
   early_at_once = record {
     asked = [];
-    later = requests from.left;
-    split = refl;
+    begins = inl (from.left, none_taken);
     whole = record { did = done_none found main_old.holds stood; kept = same ∙ sym (append-nil main_old.holds); shown = λ told. sym (append-nil sink.holds) };
   }
 
   pub torn_at_once : EndsTorn found main_old main_new from sink sink
   torn_at_once = record {
     asked = [];
-    later = requests from.left;
-    split = refl;
+    begins = inl (from.left, none_taken);
     did = done_none found main_old.holds stood;
     tail = [];
     kept = same ∙ sym (append-nil main_old.holds) ∙ sym (append-nil (main_old.holds ++ []));

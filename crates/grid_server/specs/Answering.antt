@@ -59,21 +59,12 @@ pub record Did (s : State) (line : Text) (d : Done) : Type 0 where
   pub asks : Asks line asked
   pub is : d ≡ command s asked
 
--- the request was done and kept
-pub record Kept (old : Server) (line : Text) (main_old main_new : DiskState) (new : Server) (d : Done) : Type 0 where
-  pub did : Did (state_of old) line d
-  pub state : state_of new ≡ d.state
-  pub size : new.size ≡ old.size + length (kept_line d)
-  pub room : (d.made ≡ None) ⊎ (old.size ≤ longest_catalogue)
-  pub main : Adds (kept_line d) main_old main_new
-
--- A request was answered, or how far it came.
-abbrev pub Answers : Server → Text → ℕ → DiskState → DiskState → SinkState → SinkState → Result ⊤ Stop → Server → Type 0
-Answers old line n main_old main_new sink_old sink_new (Ok done) new = (d : Done) × Kept old line main_old main_new new d × Adds (reply n d.answer) sink_old sink_new
-Answers old line n main_old main_new sink_old sink_new (Err Sink) new = (d : Done) × Kept old line main_old main_new new d
-    × (IsTrue sink_old.tells → AddsFirst (reply n d.answer) sink_old.holds sink_new.holds)
-Answers old line n main_old main_new sink_old sink_new (Err Disk) new = (d : Done) × Did (state_of old) line d × (d.made ≢ None) × (old.size ≤ longest_catalogue)
-    × AddsTail (kept_line d) main_old main_new × Stays sink_old sink_new
-Answers old line n main_old main_new sink_old sink_new (Err Memory) new = Stays main_old main_new × Stays sink_old sink_new
-Answers old line n main_old main_new sink_old sink_new (Err (Worn place)) new = (d : Done) × Did (state_of old) line d × (d.made ≢ None) × (place ≡ old.size)
-    × (longest_catalogue < place) × Stays main_old main_new × Stays sink_old sink_new
+-- what is asked for was done, kept and replied to, or how far it came
+abbrev pub Answers : Server → Result Verb Refusal → ℕ → DiskState → DiskState → SinkState → SinkState → Result ⊤ Stop → Server → Type 0
+Answers old asked n main_old main_new sink_old sink_new (Ok done) new =
+    Keeps old (command (state_of old) asked) main_old main_new (Ok tt) new × Adds (reply n (command (state_of old) asked).answer) sink_old sink_new
+Answers old asked n main_old main_new sink_old sink_new (Err Sink) new =
+    Keeps old (command (state_of old) asked) main_old main_new (Ok tt) new × (IsTrue sink_old.tells → AddsFirst (reply n (command (state_of old) asked).answer) sink_old.holds sink_new.holds)
+Answers old asked n main_old main_new sink_old sink_new (Err Disk) new = Keeps old (command (state_of old) asked) main_old main_new (Err Disk) new × Stays sink_old sink_new
+Answers old asked n main_old main_new sink_old sink_new (Err Memory) new = Stays main_old main_new × Stays sink_old sink_new
+Answers old asked n main_old main_new sink_old sink_new (Err (Worn place)) new = Keeps old (command (state_of old) asked) main_old main_new (Err (Worn place)) new × Stays sink_old sink_new

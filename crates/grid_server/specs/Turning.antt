@@ -1,11 +1,15 @@
 -- What one turn of the serving loop does.
-use Rattle.std.specs.Prelude.{◌≡◌, ◌≢◌, ◌⊎◌, ℕ, ◌+◌, ◌^◌, true, false, List, Option, Some, None, Result, Ok, Err, ⊤}
+use Rattle.std.specs.Prelude.{◌≡◌, ◌≢◌, ◌⊎◌, ℕ, ◌+◌, ◌^◌, true, false, Bool, List, Option, Some, None, Result, Ok, Err, ⊤}
 use Rattle.grid_outside.specs.Disk.{DiskState}
 use Rattle.grid_outside.specs.Sink.{SinkState}
 use Rattle.grid_outside.specs.Source.{SourceState}
 use Rattle.grid_outside.specs.declared.outside.Wear.TheVariants.{Log}
 use Rattle.grid_model.specs.Names.{Text}
 use Rattle.grid_model.specs.Lines.{is_request}
+use Rattle.grid_model.specs.Inputs.{HasBody}
+use Rattle.grid_model.specs.Requests.{Asks}
+use Rattle.grid_model.specs.declared.requests.Verb.{Verb}
+use Rattle.grid_model.specs.declared.refusal.Refusal.{Refusal}
 use Rattle.grid_model.specs.Catalogue.{Stands}
 use Rattle.grid_server.specs.declared.status.Status.{Status}
 use Rattle.grid_server.specs.declared.status.Status.TheVariants as status
@@ -16,9 +20,12 @@ use Rattle.grid_server.specs.declared.catalogue.CatalogueError.TheVariants as ca
 use Rattle.grid_server.specs.declared.serving.OpenError.{OpenError}
 use Rattle.grid_server.specs.declared.serving.OpenError.TheVariants as opening
 use Rattle.grid_server.specs.declared.serving.Service.{Service}
-use Rattle.grid_server.specs.declared.line_reader.Ended.{Ended}
+use Rattle.grid_server.specs.declared.serving.Taken.{Taken}
+use Rattle.grid_server.specs.declared.serving.Taken.TheVariants as taken
 use Rattle.grid_server.specs.declared.line_reader.Ended.TheVariants as ended
-use Rattle.grid_server.specs.Reading.{ReadsLine, ReadsPart}
+use Rattle.grid_server.specs.declared.line_reader.Passed.{Passed}
+use Rattle.grid_server.specs.declared.line_reader.Passed.TheVariants as passed
+use Rattle.grid_server.specs.Reading.{Reader, ReadsLine, ReadsPart, Passes, PassesPart}
 use Rattle.grid_server.specs.Answering.{Answers, Stays}
 
 abbrev pub open_error_of : CatalogueError → OpenError
@@ -37,43 +44,85 @@ status_of stop.Sink = status.SinkFault
 status_of stop.Memory = status.Memory
 status_of (stop.Worn place) = status.Worn Log place
 
--- what is held was no request, and nothing changed
-pub record Skips (old new : Service) (main_old main_new : DiskState) (sink_old sink_new : SinkState) : Type 0 where
-  pub none : is_request old.line.items ≡ false
+-- A request was read, and this is held of its line. The truth value says whether the input has ended with it.
+pub data Gets (old new : Reader) (from to : SourceState) (held : Text) : Bool → Type 0 where
+  with_body : {mid : Reader} {between : SourceState} {count : ℕ} → ReadsLine old ended.Line mid from between held → between.tells ≡ from.tells → HasBody held count → Passes mid count passed.Whole new between to → Gets old new from to held false
+  cut_short : {mid : Reader} {between : SourceState} {count : ℕ} → ReadsLine old ended.Line mid from between held → between.tells ≡ from.tells → HasBody held count → Passes mid count passed.Short new between to → Gets old new from to held true
+  at_end : ReadsLine old ended.End new from to held → Gets old new from to held true
+
+-- the body of a request was not read to its end
+pub record InBody (old mid : Reader) (from between : SourceState) (count : ℕ) : Type 0 where
+  pub held : Text
+  pub some : is_request held ≡ true
+  pub reads : ReadsLine old ended.Line mid from between held
+  pub tells : between.tells ≡ from.tells
+  pub has : HasBody held count
+
+-- how a body was passed over with which the input has ended or not
+abbrev pub passed_so : Bool → Passed
+passed_so true = passed.Short
+passed_so false = passed.Whole
+
+-- what was read of the input, by what was found
+abbrev pub Finds : Reader → Reader → SourceState → SourceState → Taken → Type 0
+Finds old new from to taken.Skipped = (held : Text) × ReadsLine old ended.Line new from to held × (is_request held ≡ false)
+Finds old new from to taken.Over = (held : Text) × ReadsLine old ended.End new from to held × (is_request held ≡ false)
+Finds old new from to (taken.Request asked over) = (held : Text) × Gets old new from to held over × (is_request held ≡ true) × Asks held asked
+Finds old new from to taken.Long = ((held : Text) × ReadsLine old ended.Long new from to held)
+    ⊎ ((mid : Reader) × (between : SourceState) × (count : ℕ) × InBody old mid from between count × Passes mid count passed.Long new between to)
+Finds old new from to taken.Fault = ReadsPart old from to ⊎ ((mid : Reader) × (between : SourceState) × (count : ℕ) × InBody old mid from between count × PassesPart mid count between to)
+Finds old new from to taken.Memory = Unit {0}
+
+-- the same behind a line that was read and is held, and has a newline
+abbrev pub FindsBehind : Text → Reader → Reader → SourceState → SourceState → Taken → Type 0
+FindsBehind held mid new between to taken.Skipped = (is_request held ≡ false) × (new ≡ mid) × (to ≡ between)
+FindsBehind held mid new between to taken.Over = ⊥
+FindsBehind held mid new between to (taken.Request asked over) = (is_request held ≡ true) × Asks held asked × ((count : ℕ) × HasBody held count × Passes mid count (passed_so over) new between to)
+FindsBehind held mid new between to taken.Long = (is_request held ≡ true) × ((count : ℕ) × HasBody held count × Passes mid count passed.Long new between to)
+FindsBehind held mid new between to taken.Fault = (is_request held ≡ true) × ((count : ℕ) × HasBody held count × PassesPart mid count between to)
+FindsBehind held mid new between to taken.Memory = Unit {0}
+
+-- and of a line that the end of the input ended
+abbrev pub IsLast : Text → Taken → Type 0
+IsLast held taken.Over = is_request held ≡ false
+IsLast held (taken.Request asked over) = (is_request held ≡ true) × Asks held asked × (over ≡ true)
+IsLast held taken.Memory = Unit {0}
+IsLast held other = ⊥
+
+-- how the run goes on where no request was found
+abbrev pub status_after : Taken → Option Status
+status_after taken.Skipped = None
+status_after taken.Over = Some status.Done
+status_after (taken.Request asked over) = None
+status_after taken.Long = Some (status.Long (2 ^ 48 + 1))
+status_after taken.Fault = Some status.SourceFault
+status_after taken.Memory = Some status.Memory
+
+abbrev pub IsIdle : Taken → Type 0
+IsIdle (taken.Request asked over) = ⊥
+IsIdle other = Unit {0}
+
+-- how it goes on after an answer, by whether the input has ended
+abbrev pub after_answer : Bool → Option Status
+after_answer true = Some status.Done
+after_answer false = None
+
+-- nothing changed but what is left of the input
+pub record Idles (old new : Service) (main_old main_new : DiskState) (sink_old sink_new : SinkState) : Type 0 where
   pub server : new.server ≡ old.server
   pub number : new.number ≡ old.number
   pub main : Stays main_old main_new
   pub sink : Stays sink_old sink_new
 
--- what is held was answered as the next request
-pub record Handled (old new : Service) (main_old main_new : DiskState) (sink_old sink_new : SinkState) (result : Result ⊤ Stop) : Type 0 where
-  pub some : is_request old.line.items ≡ true
-  pub answers : Answers old.server old.line.items (old.number + 1) main_old main_new sink_old sink_new result new.server
+-- the next request was answered
+pub record Handles (old new : Service) (main_old main_new : DiskState) (sink_old sink_new : SinkState) (asked : Result Verb Refusal) (result : Result ⊤ Stop) : Type 0 where
+  pub answers : Answers old.server asked (old.number + 1) main_old main_new sink_old sink_new result new.server
   pub number : new.number ≡ old.number + 1
 
-abbrev pub Handles : Service → Service → DiskState → DiskState → SinkState → SinkState → Result ⊤ Stop → Type 0
-Handles old new main_old main_new sink_old sink_new result =
-    (Skips old new main_old main_new sink_old sink_new × (result ≡ Ok tt)) ⊎ Handled old new main_old main_new sink_old sink_new result
-
--- how the run ends after a line, if it does
-abbrev pub outcome : Ended → Result ⊤ Stop → Option Status
-outcome ended.Line (Ok done) = None
-outcome ended.End (Ok done) = Some status.Done
-outcome ended.Long (Ok done) = None
-outcome how (Err stop) = Some (status_of stop)
-
--- a line was read, and what is held of it was handled
-pub record TurnsLine (old new : Service) (main_old main_new : DiskState) (from to : SourceState) (sink_old sink_new : SinkState) (how : Ended) (result : Result ⊤ Stop) : Type 0 where
-  pub mid : Service
-  pub server : mid.server ≡ old.server
-  pub number : mid.number ≡ old.number
-  pub reads : ReadsLine old.reader how new.reader from to mid.line.items
-  pub handles : Handles mid new main_old main_new sink_old sink_new result
-
+-- what one turn does, by whether and how the run ends with it
 pub data Turns (old new : Service) (main_old main_new : DiskState) (from to : SourceState) (sink_old sink_new : SinkState) : Option Status → Type 0 where
-  of_line : (how : Ended) (result : Result ⊤ Stop) → how ≢ ended.Long → TurnsLine old new main_old main_new from to sink_old sink_new how result
-      → Turns old new main_old main_new from to sink_old sink_new (outcome how result)
-  too_long : (holds : List ℕ) → ReadsLine old.reader ended.Long new.reader from to holds → Stays main_old main_new → Stays sink_old sink_new
-      → Turns old new main_old main_new from to sink_old sink_new (Some (status.Long (2 ^ 48 + 1)))
-  broken : ReadsPart old.reader from to → Stays main_old main_new → Stays sink_old sink_new → Turns old new main_old main_new from to sink_old sink_new (Some status.SourceFault)
-  no_memory : Stays main_old main_new → Stays sink_old sink_new → Turns old new main_old main_new from to sink_old sink_new (Some status.Memory)
+  answered : (asked : Result Verb Refusal) (over : Bool) → Finds old.reader new.reader from to (taken.Request asked over) → Handles old new main_old main_new sink_old sink_new asked (Ok tt)
+      → Turns old new main_old main_new from to sink_old sink_new (after_answer over)
+  stopped : (asked : Result Verb Refusal) (over : Bool) (stop : Stop) → Finds old.reader new.reader from to (taken.Request asked over) → Handles old new main_old main_new sink_old sink_new asked (Err stop)
+      → Turns old new main_old main_new from to sink_old sink_new (Some (status_of stop))
+  idle : (taken : Taken) → Finds old.reader new.reader from to taken → IsIdle taken → Idles old new main_old main_new sink_old sink_new → Turns old new main_old main_new from to sink_old sink_new (status_after taken)

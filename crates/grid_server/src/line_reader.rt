@@ -1,8 +1,8 @@
-ghost use Rattle.std.specs.Prelude.{◌≡◌, ◌+◌, ◌^◌, ◌<◌, ◌≤◌, [], ◌++◌, length, take, drop, IsTrue, IfOk, OnOk, OnErr, IsErrOf};
+ghost use Rattle.std.specs.Prelude.{◌≡◌, ◌+◌, ◌-◌, ◌^◌, ◌<◌, ◌≤◌, [], ◌++◌, length, take, drop, min, IsTrue, IfOk, OnOk, OnErr, IsErrOf};
 ghost use Rattle.std.specs.Bool.{MatchBool};
 ghost use Rattle.grid_outside.specs.Fault.{HasCause, Rose};
 ghost use Rattle.grid_server.specs.declared.line_reader.ReadError.TheVariants.{Memory as NoMemory, Source as Fault};
-ghost use Rattle.grid_server.specs.Reading.{TakesLine, TakesRest, Fills, ReadsLine, ReadsPart, Took, TookAll};
+ghost use Rattle.grid_server.specs.Reading.{TakesLine, TakesRest, Fills, ReadsLine, ReadsPart, Passes, PassesPart, Took, TookAll};
 
 use crate::lines::newline_in;
 use grid_outside::{Source, SourceFault};
@@ -70,6 +70,17 @@ impl Model for LineReader {
     ghost view = { λ r. record { unread = take (r.end - r.start) (drop r.start r.block.items); taken = r.taken } };
 
     ghost invariant = { λ r. (length r.block.items ≡ 65536) × (r.start ≤ r.end) × (r.end ≤ 65536) × (r.taken ≤ 2 ^ 48 + 1) };
+}
+
+/// How the passing over of bytes ended.
+#[derive(Clone, Copy, Debug, PartialEq, Eq)]
+pub(crate) enum Passed {
+    /// All were passed over.
+    Whole,
+    /// The input ended within them.
+    Short,
+    /// The input goes on past the bytes that are read.
+    Long,
 }
 
 // What a read of a block gave.
@@ -183,6 +194,45 @@ impl LineReader {
                 Filled::Long => return Ok(Ended::Long),
             }
         }
+    }
+
+    /// Passes over so many bytes. `Source` comes only where the source failed.
+    pub(crate) fn pass<S: Source>(
+        &mut self,
+        source: &mut S,
+        count: u64,
+    ) -> Result<Passed, SourceFault>
+        requires { self.old.taken ≤ 2 ^ 48 }
+        ensures passes { IfOk result (λ how. Passes self.old count how self.new (S.source source.old) (S.source source.new)) }
+        ensures failed { OnErr result (PassesPart self.old count (S.source source.old) (S.source source.new)) }
+        ensures tells { (S.source source.new).tells ≡ (S.source source.old).tells }
+        ensures cause { HasCause (S.source source.old).faults (S.source source.new).faults result }
+        ensures later { (S.source source.old).faults ≤ (S.source source.new).faults }
+    {
+        let mut left = count;
+        'parts: loop {
+            left = self.pass_held(left);
+            if left == 0 {
+                return Ok(Passed::Whole);
+            }
+            match self.fill(source)? {
+                Filled::More => {}
+                Filled::End => return Ok(Passed::Short),
+                Filled::Long => return Ok(Passed::Long),
+            }
+        }
+    }
+
+    // Passes over at most so many of the bytes that are left of the block, and answers how many are still to be passed.
+    fn pass_held(&mut self, count: u64) -> u64
+        ensures unread { self.new.unread ≡ drop (min count (length self.old.unread)) self.old.unread }
+        ensures taken { self.new.taken ≡ self.old.taken }
+        ensures left { result ≡ count - min count (length self.old.unread) }
+    {
+        let held = (self.end - self.start) as u64;
+        let passed = count.min(held);
+        self.start += passed as usize;
+        count - passed
     }
 }
 

@@ -9,7 +9,6 @@ ghost use Rattle.grid_server.specs.declared.server.Stop.TheVariants.{Disk as Dis
 
 use crate::catalogue::path_line;
 use crate::grid::Grid;
-use crate::request::read_request;
 use cmd_reply::rest;
 use grid_model::{End, Marks, Passeds, Path, Refusal, Reply, Rows, Text, Texts, Verb};
 use grid_outside::{Disk, DiskFault, Moments, Sink, SinkFault};
@@ -55,7 +54,7 @@ pub(crate) struct Server {
 impl Server {
     ghost use Rattle.grid_server.specs.Answering.{state_of, Keeps, Makes, Answers};
 
-    /// Answers the request that a line is: it is done, what it changed is kept, and then the reply is written.
+    /// Answers a request: it is done, what it changed is kept, and then the reply is written.
     /// `Disk` and `Sink` come only where that device failed.
     pub(crate) fn answer<D: Disk, K: Sink>(
         &mut self,
@@ -64,13 +63,14 @@ impl Server {
         moments: &mut Moments,
         sink: &mut K,
         number: u64,
-        line: &[u8],
+        asked: Result<Verb, Refusal>,
     ) -> Result<(), Stop>
         requires main_last { (D.disk main.old).last ≤ moments.old }
         requires sink_last { (K.sink sink.old).last ≤ moments.old }
         requires room { moments.old + 3 < 2 ^ 128 }
         requires size { IsTrue (D.disk main.old).tells → length (D.disk main.old).holds ≡ self.old.size }
-        ensures answers { Answers self.old line.now number (D.disk main.old) (D.disk main.new) (K.sink sink.old) (K.sink sink.new) result self.new }
+        requires short { length (kept_line (command (state_of self.old) asked)) ≤ 2 ^ 62 }
+        ensures answers { Answers self.old asked number (D.disk main.old) (D.disk main.new) (K.sink sink.old) (K.sink sink.new) result self.new }
         ensures main_tells { (D.disk main.new).tells ≡ (D.disk main.old).tells }
         ensures sink_tells { (K.sink sink.new).tells ≡ (K.sink sink.old).tells }
         ensures main_last { (D.disk main.new).last ≤ moments.new }
@@ -81,7 +81,6 @@ impl Server {
         ensures sink { IsErrOf result Stop.Sink → Rose (K.sink sink.old).faults (K.sink sink.new).faults }
         ensures drawn { moments.new ≤ moments.old + 3 }
     {
-        let asked = read_request(alloc, line)?;
         let answer = self.judge(alloc, &asked)?;
         let text = reply_line(alloc, number, &answer)?;
         match self.keep(alloc, main, moments, asked, &answer) {

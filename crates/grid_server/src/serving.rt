@@ -5,14 +5,15 @@ ghost use Rattle.grid_model.specs.Catalogue.{Stands};
 ghost use Rattle.grid_server.specs.declared.serving.OpenError.TheVariants.{Disk as OpenDisk, Memory as OpenMemory};
 ghost use Rattle.grid_server.specs.Held.{grid_of};
 ghost use Rattle.grid_server.specs.Serving.{Serves, IsServing};
-ghost use Rattle.grid_server.specs.Turning.{status_of, HasNoGrid};
+ghost use Rattle.grid_server.specs.Turning.{status_of, after_answer, IsLast, HasNoGrid};
 
 use crate::Status;
 use crate::catalogue::{CatalogueError, read_catalogue};
-use crate::line_reader::{Ended, HELD, LineReader, MOST, ReadError};
-use crate::request::is_request;
+use crate::line_reader::{Ended, HELD, LineReader, MOST, Passed, ReadError};
+use crate::request::{is_request, read_request};
 use crate::server::{Server, Stop};
-use grid_outside::{Disk, DiskFault, Moments, Sink, Source, Wear};
+use grid_model::{Refusal, Verb};
+use grid_outside::{Disk, DiskFault, Moments, Sink, Source, SourceFault, Wear};
 use std::alloc::{AllocError, Global};
 
 /// Why no requests are answered.
@@ -88,6 +89,24 @@ fn read_all<D: Disk>(alloc: Global, main: &mut D) -> Result<Vec<u8>, OpenError>
     Ok(bytes)
 }
 
+// What was read of the input for one turn.
+#[derive(Debug, Drop)]
+pub(crate) enum Taken {
+    /// A line without words.
+    Skipped,
+    /// Such a line or none, and the end of the input.
+    Over,
+    /// A request, and whether the input has ended with it.
+    Request {
+        asked: Result<Verb, Refusal>,
+        over: bool,
+    },
+    /// The input goes on past the bytes that are read.
+    Long,
+    Fault,
+    Memory,
+}
+
 /// A server with the reader of its requests.
 #[derive(Drop)]
 pub(crate) struct Service {
@@ -99,9 +118,9 @@ pub(crate) struct Service {
 }
 
 impl Service {
-    ghost use Rattle.grid_server.specs.Turning.{Handles, Turns};
+    ghost use Rattle.grid_server.specs.Turning.{Finds, FindsBehind, Turns};
 
-    // Reads and answers one line. With no status the run goes on.
+    // Reads and answers one request, or reads a line that is none. With no status the run goes on.
     fn turn<D: Disk, S: Source, K: Sink>(
         &mut self,
         alloc: Global,
@@ -130,54 +149,91 @@ impl Service {
         ensures sink { result ≡ Some Status.SinkFault → Rose (K.sink sink.old).faults (K.sink sink.new).faults }
         ensures drawn { moments.new ≤ moments.old + 3 }
     {
-        match self.reader.read_line(source, &mut self.line) {
-            Ok(Ended::Line) => match self.answer_line(alloc, main, moments, sink) {
-                Ok(()) => None,
-                Err(stop) => Some(status_of(stop)),
-            },
-            Ok(Ended::End) => match self.answer_line(alloc, main, moments, sink) {
-                Ok(()) => Some(Status::Done),
-                Err(stop) => Some(status_of(stop)),
-            },
-            Ok(Ended::Long) => Some(Status::Long { taken: MOST + 1 }),
-            Err(ReadError::Source) => Some(Status::SourceFault),
-            Err(ReadError::Memory) => Some(Status::Memory),
+        match self.take(alloc, source) {
+            Taken::Skipped => None,
+            Taken::Over => Some(Status::Done),
+            Taken::Request { asked, over } => {
+                self.number += 1;
+                match self
+                    .server
+                    .answer(alloc, main, moments, sink, self.number, asked)
+                {
+                    Ok(()) => after_answer(over),
+                    Err(stop) => Some(status_of(stop)),
+                }
+            }
+            Taken::Long => Some(Status::Long { taken: MOST + 1 }),
+            Taken::Fault => Some(Status::SourceFault),
+            Taken::Memory => Some(Status::Memory),
         }
     }
 
-    // Answers the line that is held, if it is a request.
-    fn answer_line<D: Disk, K: Sink>(
-        &mut self,
-        alloc: Global,
-        main: &mut D,
-        moments: &mut Moments,
-        sink: &mut K,
-    ) -> Result<(), Stop>
-        requires few { self.old.number < 2 ^ 63 }
-        requires main_last { (D.disk main.old).last ≤ moments.old }
-        requires sink_last { (K.sink sink.old).last ≤ moments.old }
-        requires room { moments.old + 3 < 2 ^ 128 }
-        requires size { IsTrue (D.disk main.old).tells → length (D.disk main.old).holds ≡ self.old.server.size }
-        ensures handles { Handles self.old self.new (D.disk main.old) (D.disk main.new) (K.sink sink.old) (K.sink sink.new) result }
-        ensures reader { self.new.reader ≡ self.old.reader }
-        ensures line { self.new.line.items ≡ self.old.line.items }
-        ensures main_tells { (D.disk main.new).tells ≡ (D.disk main.old).tells }
-        ensures sink_tells { (K.sink sink.new).tells ≡ (K.sink sink.old).tells }
-        ensures main_last { (D.disk main.new).last ≤ moments.new }
-        ensures sink_last { (K.sink sink.new).last ≤ moments.new }
-        ensures main_later { (D.disk main.old).faults ≤ (D.disk main.new).faults }
-        ensures sink_later { (K.sink sink.old).faults ≤ (K.sink sink.new).faults }
-        ensures disk { IsErrOf result Stop.Disk → Rose (D.disk main.old).faults (D.disk main.new).faults }
-        ensures sink { IsErrOf result Stop.Sink → Rose (K.sink sink.old).faults (K.sink sink.new).faults }
-        ensures drawn { moments.new ≤ moments.old + 3 }
+    // Reads the next request with its body, or a line that is none.
+    fn take<S: Source>(&mut self, alloc: Global, source: &mut S) -> Taken
+        requires most { self.old.reader.taken ≤ 2 ^ 48 }
+        ensures finds { Finds self.old.reader self.new.reader (S.source source.old) (S.source source.new) result }
+        ensures server { self.new.server ≡ self.old.server }
+        ensures number { self.new.number ≡ self.old.number }
+        ensures tells { (S.source source.new).tells ≡ (S.source source.old).tells }
+        ensures later { (S.source source.old).faults ≤ (S.source source.new).faults }
+        ensures fault { result ≡ Taken.Fault → Rose (S.source source.old).faults (S.source source.new).faults }
+    {
+        match self.reader.read_line(source, &mut self.line) {
+            Ok(Ended::Line) => self.take_body(alloc, source),
+            Ok(Ended::End) => last_taken(alloc, &self.line),
+            Ok(Ended::Long) => Taken::Long,
+            Err(ReadError::Source) => Taken::Fault,
+            Err(ReadError::Memory) => Taken::Memory,
+        }
+    }
+
+    // Passes over the body of the request whose line is held, if it is one.
+    fn take_body<S: Source>(&mut self, alloc: Global, source: &mut S) -> Taken
+        requires most { self.old.reader.taken ≤ 2 ^ 48 }
+        ensures finds { FindsBehind self.old.line.items self.old.reader self.new.reader (S.source source.old) (S.source source.new) result }
+        ensures server { self.new.server ≡ self.old.server }
+        ensures number { self.new.number ≡ self.old.number }
+        ensures tells { (S.source source.new).tells ≡ (S.source source.old).tells }
+        ensures later { (S.source source.old).faults ≤ (S.source source.new).faults }
+        ensures fault { result ≡ Taken.Fault → Rose (S.source source.old).faults (S.source source.new).faults }
     {
         if !is_request(&self.line) {
-            return Ok(());
+            return Taken::Skipped;
         }
-        self.number += 1;
-        self.server
-            .answer(alloc, main, moments, sink, self.number, &self.line)
+        let Ok(request) = read_request(alloc, &self.line) else {
+            return Taken::Memory;
+        };
+        let asked = request.asked;
+        match self.reader.pass(source, request.count) {
+            Ok(Passed::Whole) => Taken::Request { asked, over: false },
+            Ok(Passed::Short) => Taken::Request { asked, over: true },
+            Ok(Passed::Long) => Taken::Long,
+            Err(SourceFault) => Taken::Fault,
+        }
     }
+}
+
+// What the last line of the input is, which has no body.
+fn last_taken(alloc: Global, line: &[u8]) -> Taken
+    ensures { IsLast line.now result }
+{
+    if !is_request(line) {
+        return Taken::Over;
+    }
+    match read_request(alloc, line) {
+        Ok(request) => Taken::Request {
+            asked: request.asked,
+            over: true,
+        },
+        Err(_) => Taken::Memory,
+    }
+}
+
+// How the run goes on after an answer, by whether the input has ended.
+fn after_answer(over: bool) -> Option<Status>
+    ensures { result ≡ after_answer over }
+{
+    over.then_some(Status::Done)
 }
 
 // How a run ends that stops so.
