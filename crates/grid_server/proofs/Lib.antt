@@ -9,5 +9,6 @@ pub mod RunLemmas
 pub mod ServedLemmas
 pub mod ServerLemmas
 pub mod StandsLemmas
+pub mod TakingLemmas
 pub mod TaskLemmas
 pub mod TurnLemmas

@@ -2,6 +2,7 @@ ghost use Rattle.std.specs.Prelude.{◌≡◌, IfOk};
 ghost use Rattle.grid_mem.specs.MemDisk.{disk_of};
 
 mod beginning;
+mod bodies;
 mod catalogues;
 mod faults;
 mod lines;
