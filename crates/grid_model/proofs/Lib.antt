@@ -1,5 +1,6 @@
 pub mod Below
 pub mod Comparing
+pub mod DeltaExamples
 pub mod Fronts
 pub mod GridExamples
 pub mod MapLemmas
