@@ -67,13 +67,16 @@ u32 n = record { fits = nat_lt n (2 ^ 32); bytes = four_bytes n }
 abbrev pub u64 : ℕ → Part
 u64 n = record { fits = nat_lt n (2 ^ 64); bytes = eight_bytes n }
 
--- one byte that says which of several values it is
-abbrev pub code : ℕ → Part
-code n = record { fits = true; bytes = n ∷ [] }
+-- one byte that says which of several values it is, where the value may stand there
+abbrev pub code_if : Bool → ℕ → Part
+code_if fits n = record { fits = fits; bytes = n ∷ [] }
 
-abbrev pub flag : Bool → Part
-flag false = code 0
-flag true = code 1
+abbrev pub code : ℕ → Part
+code = code_if true
+
+abbrev pub flag : Bool → ℕ
+flag false = 0
+flag true = 1
 
 -- ---- texts, digests and lists
 
@@ -100,64 +103,71 @@ digest d = record { fits = (length d == 32) && list_all is_byte d; bytes = d }
 abbrev pub each : {A : Type 0} → (A → List Part) → List A → Part
 each parts xs = record { fits = nat_lt (length xs) (2 ^ 64) && list_all (λ x. all_fit (parts x)) xs; bytes = eight_bytes (length xs) ++ flat_map (λ x. joined (parts x)) xs }
 
--- ---- kinds and levels
+-- ---- kinds and levels, as their numbers
 
-abbrev pub user_kind : UserKind → Part
-user_kind Rodsadmin = code 1
-user_kind Rodsuser = code 2
-user_kind Rodsgroup = code 3
+abbrev pub user_kind : UserKind → ℕ
+user_kind Rodsadmin = 1
+user_kind Rodsuser = 2
+user_kind Rodsgroup = 3
 
-abbrev pub item_kind : ItemKind → Part
-item_kind kind.Object = code 1
-item_kind kind.Collection = code 2
-item_kind kind.Resource = code 3
-item_kind kind.User = code 4
+abbrev pub item_kind : ItemKind → ℕ
+item_kind kind.Object = 1
+item_kind kind.Collection = 2
+item_kind kind.Resource = 3
+item_kind kind.User = 4
 
--- of what has entries: an object or a collection
-abbrev pub entry_kind : ItemKind → Part
-entry_kind kind.Object = code 1
-entry_kind kind.Collection = code 2
-entry_kind kind.Resource = record { fits = false; bytes = 3 ∷ [] }
-entry_kind kind.User = record { fits = false; bytes = 4 ∷ [] }
+-- whether it is of what has entries: an object or a collection
+abbrev pub has_entries : ItemKind → Bool
+has_entries kind.Object = true
+has_entries kind.Collection = true
+has_entries kind.Resource = false
+has_entries kind.User = false
 
--- of an entry, which gives some level
-abbrev pub level : Level → Part
-level Null = record { fits = false; bytes = 0 ∷ [] }
-level Read = code 1
-level Write = code 2
-level Own = code 3
+abbrev pub level : Level → ℕ
+level Null = 0
+level Read = 1
+level Write = 2
+level Own = 3
 
-abbrev pub resource_kind : ResourceKind → Part
-resource_kind Storage = code 1
-resource_kind Passthru = code 2
-resource_kind Random = code 3
-resource_kind Replication = code 4
+-- whether an entry may give it
+abbrev pub is_given : Level → Bool
+is_given l = nat_lt 0 (level l)
+
+abbrev pub resource_kind : ResourceKind → ℕ
+resource_kind Storage = 1
+resource_kind Passthru = 2
+resource_kind Random = 3
+resource_kind Replication = 4
 
 -- ---- rows, each as its parts in order
 
+-- the kind of what an entry is at
+abbrev pub entry_kind : ItemKind → Part
+entry_kind k = code_if (has_entries k) (item_kind k)
+
 abbrev pub user_row : UserRow → List Part
-user_row r = u32 r.id ∷ user_kind r.kind ∷ text r.name ∷ []
+user_row r = u32 r.id ∷ code (user_kind r.kind) ∷ text r.name ∷ []
 
 abbrev pub member_row : MemberRow → List Part
 member_row r = u32 r.group ∷ u32 r.user ∷ []
 
 abbrev pub collection_row : CollectionRow → List Part
-collection_row r = u64 r.id ∷ u64 r.parent ∷ text r.name ∷ flag r.inherit ∷ []
+collection_row r = u64 r.id ∷ u64 r.parent ∷ text r.name ∷ code (flag r.inherit) ∷ []
 
 abbrev pub object_row : ObjectRow → List Part
 object_row r = u64 r.id ∷ u64 r.collection ∷ text r.name ∷ u64 r.size ∷ digest r.digest ∷ u64 r.time ∷ []
 
 abbrev pub replica_row : ReplicaRow → List Part
-replica_row r = u64 r.object ∷ u32 r.number ∷ u32 r.leaf ∷ flag r.good ∷ u64 r.size ∷ digest r.digest ∷ u64 r.vault ∷ []
+replica_row r = u64 r.object ∷ u32 r.number ∷ u32 r.leaf ∷ code (flag r.good) ∷ u64 r.size ∷ digest r.digest ∷ u64 r.vault ∷ []
 
 abbrev pub triple_row : TripleRow → List Part
-triple_row r = item_kind r.kind ∷ u64 r.id ∷ text r.attribute ∷ text r.value ∷ text r.unit ∷ []
+triple_row r = code (item_kind r.kind) ∷ u64 r.id ∷ text r.attribute ∷ text r.value ∷ text r.unit ∷ []
 
 abbrev pub entry_row : EntryRow → List Part
-entry_row r = entry_kind r.kind ∷ u64 r.id ∷ u32 r.user ∷ level r.level ∷ []
+entry_row r = entry_kind r.kind ∷ u64 r.id ∷ u32 r.user ∷ code_if (is_given r.level) (level r.level) ∷ []
 
 abbrev pub resource_row : ResourceRow → List Part
-resource_row r = u32 r.id ∷ text r.name ∷ resource_kind r.kind ∷ u8 r.slot ∷ flag r.up ∷ u32 r.parent ∷ u32 r.place ∷ []
+resource_row r = u32 r.id ∷ text r.name ∷ code (resource_kind r.kind) ∷ u8 r.slot ∷ code (flag r.up) ∷ u32 r.parent ∷ u32 r.place ∷ []
 
 abbrev pub orphan_row : OrphanRow → List Part
 orphan_row r = u64 r.vault ∷ u8 r.slot ∷ []
@@ -184,8 +194,8 @@ passed p = whole (call p.call) ∷ text p.failure ∷ []
 
 -- a flag, and the call where there is one
 abbrev pub running : Option Call → Part
-running None = flag false
-running (Some c) = whole (flag true ∷ call c)
+running None = code (flag false)
+running (Some c) = whole (code (flag true) ∷ call c)
 
 abbrev pub pending : Pending → List Part
 pending p = u64 p.run ∷ u64 p.number ∷ u32 p.user ∷ text p.line ∷ each mark p.marks ∷ each passed p.passed ∷ running p.running ∷ each call p.undo ∷ []
