@@ -1,0 +1,9 @@
+//! The catalogue's changes as bytes, both ways.
+#![tactic(auto)]
+
+mod codes;
+mod entry;
+mod fields;
+mod rows;
+mod stop;
+mod tags;
