@@ -4,7 +4,7 @@ ghost use Rattle.row_codec.specs.Reading.{Gives, byte_at, fixed_at, u32_at, u64_
 
 use crate::codes::Coded;
 use crate::stop::Stop;
-use grid_model::{Digest, Text};
+use grid_model::Text;
 use std::alloc::Global;
 
 /// Which bytes a text may have.
@@ -59,11 +59,11 @@ pub fn u64_of(bytes: &[u8]) -> Result<(u64, &[u8]), Stop>
 }
 
 #[tactic(auto, unfolding(crate::specs::Reading::fixed_at))]
-pub fn digest(bytes: &[u8]) -> Result<(Digest, &[u8]), Stop>
-    ensures { Gives (λ x. (x.0, x.1.now)) result (fixed_at 32 bytes.now) }
+pub fn hash_of(bytes: &[u8]) -> Result<(&[u8; 32], &[u8]), Stop>
+    ensures { Gives (λ x. (x.0.now, x.1.now)) result (fixed_at 32 bytes.now) }
 {
     match bytes.split_first_chunk() {
-        Some((front, rest)) => Ok((Digest::from_bytes(*front), rest)),
+        Some((front, rest)) => Ok((front, rest)),
         None => Err(Stop::Broken { left: 0 }),
     }
 }

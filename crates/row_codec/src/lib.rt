@@ -2,6 +2,7 @@
 #![tactic(auto)]
 
 mod codes;
+mod commands;
 mod entry;
 mod fields;
 mod rows;

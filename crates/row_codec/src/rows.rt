@@ -2,12 +2,12 @@ ghost use Rattle.std.specs.Prelude.{◌≡◌};
 ghost use Rattle.row_codec.specs.Reading.{Gives};
 ghost use Rattle.row_codec.specs.Rows.{user_at, member_at, collection_at, object_at, replica_at, triple_at, entry_at, resource_at, orphan_at, numbers_at, zone_at, no_replica_at, no_entry_at};
 
-use crate::fields::{Alphabet, byte, coded, digest, text, u32_of, u64_of};
+use crate::fields::{Alphabet, byte, coded, hash_of, text, u32_of, u64_of};
 use crate::stop::Stop;
 use crate::tags::EntryKind;
 use grid_model::{
-    CollectionRow, EntryRow, ItemKind, MemberRow, Numbers, ObjectRow, OrphanRow, ReplicaRow,
-    ResourceRow, Text, TripleRow, UserRow,
+    CollectionRow, Digest, EntryRow, ItemKind, MemberRow, Numbers, ObjectRow, OrphanRow,
+    ReplicaRow, ResourceRow, Text, TripleRow, UserRow,
 };
 use std::alloc::Global;
 
@@ -55,14 +55,14 @@ pub fn object(alloc: Global, bytes: &[u8]) -> Result<(ObjectRow, &[u8]), Stop>
     let (collection, rest) = u64_of(rest)?;
     let (name, rest) = text(alloc, Alphabet::Shown, rest)?;
     let (size, rest) = u64_of(rest)?;
-    let (digest, rest) = digest(rest)?;
+    let (hash, rest) = hash_of(rest)?;
     let (time, rest) = u64_of(rest)?;
     let row = ObjectRow {
         id,
         collection,
         name,
         size,
-        digest,
+        digest: Digest::from_bytes(*hash),
         time,
     };
     Ok((row, rest))
@@ -77,7 +77,7 @@ pub fn replica(bytes: &[u8]) -> Result<(ReplicaRow, &[u8]), Stop>
     let (leaf, rest) = u32_of(rest)?;
     let (good, rest) = coded(rest)?;
     let (size, rest) = u64_of(rest)?;
-    let (digest, rest) = digest(rest)?;
+    let (hash, rest) = hash_of(rest)?;
     let (vault, rest) = u64_of(rest)?;
     let row = ReplicaRow {
         object,
@@ -85,7 +85,7 @@ pub fn replica(bytes: &[u8]) -> Result<(ReplicaRow, &[u8]), Stop>
         leaf,
         good,
         size,
-        digest,
+        digest: Digest::from_bytes(*hash),
         vault,
     };
     Ok((row, rest))

@@ -1,0 +1,145 @@
+ghost use Rattle.std.specs.Prelude.{◌≡◌};
+ghost use Rattle.row_codec.specs.Reading.{Gives};
+ghost use Rattle.row_codec.specs.declared.fields.Alphabet.TheVariants.{Shown};
+ghost use Rattle.row_codec.specs.Reading.{text_at};
+ghost use Rattle.row_codec.specs.Rows.{call_at, bad_at, ran_at, fault_at, bad_read_at, mark_of, mark_at, passed_at, running_if, running_at, pending_at};
+
+use crate::entry::{Entry, list};
+use crate::fields::{Alphabet, byte, coded, hash_of, text, u32_of, u64_of};
+use crate::stop::Stop;
+use crate::tags::MarkTag;
+use grid_model::{BadReplica, Call, Digest, Mark, Passed, Pending, Text};
+use std::alloc::Global;
+
+impl Entry for Text {
+    ghost read_at = { text_at Shown };
+
+    fn read(alloc: Global, bytes: &[u8]) -> Result<(Text, &[u8]), Stop> {
+        text(alloc, Alphabet::Shown, bytes)
+    }
+}
+
+impl Entry for BadReplica {
+    ghost read_at = { bad_at };
+
+    #[tactic(auto, unfolding(crate::specs::Rows::bad_at, crate::specs::Reading::and_then, crate::specs::Reading::give))]
+    fn read(_alloc: Global, bytes: &[u8]) -> Result<(BadReplica, &[u8]), Stop> {
+        let (number, rest) = u32_of(bytes)?;
+        let (len, rest) = u64_of(rest)?;
+        let (hash, rest) = hash_of(rest)?;
+        let bad = BadReplica {
+            number,
+            len,
+            found: Digest::from_bytes(*hash),
+        };
+        Ok((bad, rest))
+    }
+}
+
+impl Entry for Call {
+    ghost read_at = { call_at };
+
+    #[tactic(auto, unfolding(crate::specs::Rows::call_at, crate::specs::Reading::and_then, crate::specs::Reading::give))]
+    fn read(alloc: Global, bytes: &[u8]) -> Result<(Call, &[u8]), Stop> {
+        let (name, rest) = text(alloc, Alphabet::Shown, bytes)?;
+        let (args, rest) = list(alloc, rest)?;
+        Ok((Call { name, args }, rest))
+    }
+}
+
+impl Entry for Passed {
+    ghost read_at = { passed_at };
+
+    #[tactic(auto, unfolding(crate::specs::Rows::passed_at, crate::specs::Reading::and_then, crate::specs::Reading::give))]
+    fn read(alloc: Global, bytes: &[u8]) -> Result<(Passed, &[u8]), Stop> {
+        let (call, rest) = Call::read(alloc, bytes)?;
+        let (failure, rest) = text(alloc, Alphabet::Shown, rest)?;
+        Ok((Passed { call, failure }, rest))
+    }
+}
+
+impl Entry for Mark {
+    ghost read_at = { mark_at };
+
+    #[tactic(auto, unfolding(crate::specs::Rows::mark_at, crate::specs::Reading::and_then))]
+    fn read(alloc: Global, bytes: &[u8]) -> Result<(Mark, &[u8]), Stop> {
+        let (tag, rest) = coded(bytes)?;
+        mark(alloc, tag, rest)
+    }
+}
+
+/// A mark behind its tag.
+#[tactic(auto, unfolding(crate::specs::Rows::mark_of, crate::specs::Rows::ran_at, crate::specs::Rows::fault_at, crate::specs::Rows::bad_read_at, crate::specs::Reading::and_then, crate::specs::Reading::give))]
+fn mark(alloc: Global, tag: MarkTag, bytes: &[u8]) -> Result<(Mark, &[u8]), Stop>
+    ensures { Gives (λ x. (x.0, x.1.now)) result (mark_of tag bytes.now) }
+{
+    match tag {
+        MarkTag::Ran => {
+            let (word, rest) = u64_of(bytes)?;
+            let (now, rest) = u64_of(rest)?;
+            let (bad, rest) = list(alloc, rest)?;
+            Ok((Mark::Ran { word, now, bad }, rest))
+        }
+        MarkTag::Fault => {
+            let (slot, rest) = byte(bytes)?;
+            let (parts, rest) = u64_of(rest)?;
+            Ok((Mark::Fault { slot, parts }, rest))
+        }
+        MarkTag::Bad => {
+            let (slot, rest) = byte(bytes)?;
+            let (len, rest) = u64_of(rest)?;
+            let (hash, rest) = hash_of(rest)?;
+            let (parts, rest) = u64_of(rest)?;
+            let found = Digest::from_bytes(*hash);
+            Ok((
+                Mark::Bad {
+                    slot,
+                    len,
+                    found,
+                    parts,
+                },
+                rest,
+            ))
+        }
+        MarkTag::Stop => Ok((Mark::Stop, bytes)),
+    }
+}
+
+/// A flag, and the call where there is one.
+#[tactic(auto, unfolding(crate::specs::Rows::running_at, crate::specs::Rows::running_if, crate::specs::Reading::and_then, crate::specs::Reading::give))]
+fn running(alloc: Global, bytes: &[u8]) -> Result<(Option<Call>, &[u8]), Stop>
+    ensures { Gives (λ x. (x.0, x.1.now)) result (running_at bytes.now) }
+{
+    let (is_running, rest) = coded(bytes)?;
+    if is_running {
+        let (call, rest) = Call::read(alloc, rest)?;
+        Ok((Some(call), rest))
+    } else {
+        Ok((None, rest))
+    }
+}
+
+#[tactic(auto, unfolding(crate::specs::Rows::pending_at, crate::specs::Reading::and_then, crate::specs::Reading::give))]
+pub fn pending(alloc: Global, bytes: &[u8]) -> Result<(Pending, &[u8]), Stop>
+    ensures { Gives (λ x. (x.0, x.1.now)) result (pending_at bytes.now) }
+{
+    let (run, rest) = u64_of(bytes)?;
+    let (number, rest) = u64_of(rest)?;
+    let (user, rest) = u32_of(rest)?;
+    let (line, rest) = text(alloc, Alphabet::Shown, rest)?;
+    let (marks, rest) = list(alloc, rest)?;
+    let (passed, rest) = list(alloc, rest)?;
+    let (running, rest) = running(alloc, rest)?;
+    let (undo, rest) = list(alloc, rest)?;
+    let pending = Pending {
+        run,
+        number,
+        user,
+        line,
+        marks,
+        passed,
+        running,
+        undo,
+    };
+    Ok((pending, rest))
+}
