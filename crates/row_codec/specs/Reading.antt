@@ -55,10 +55,15 @@ u32_at s = if nat_lt (length s) 4 then Err 0 else Ok (from_be_bytes w32 (take 4 
 unfoldable pub u64_at : Text → Read ℕ
 u64_at s = if nat_lt (length s) 8 then Err 0 else Ok (from_be_bytes w64 (take 8 s), drop 8 s)
 
+-- the value of the byte before these bytes
+abbrev pub known_or : {A : Type 0} → Option A → Text → Read A
+known_or (Some a) s = Ok (a, s)
+known_or None s = Err (suc (length s))
+
 -- a byte that stands for a value
 unfoldable pub coded_at : {A : Type 0} → (ℕ → Option A) → Text → Read A
 coded_at known [] = Err 0
-coded_at known (b ∷ s) = elim (known b) [ Some a ↦ Ok (a, s) | None ↦ Err (suc (length s)) ]
+coded_at known (b ∷ s) = known_or (known b) s
 
 -- ---- texts
 

@@ -3,6 +3,7 @@
 
 mod codes;
 mod commands;
+mod deltas;
 mod entry;
 mod fields;
 mod rows;
