@@ -58,9 +58,6 @@ pub bind_err : {A B : Type 0} (r : Read A) (f : A → Text → Read B) (k : ℕ)
 bind_err (Ok x) f k e = inr (x, refl, e)
 bind_err (Err j) f k e = inl (cc)
 
-abbrev done : {A : Type 0} → A → Read A
-done x = Ok x
-
 pub ok_is : {A : Type 0} (x y : A × Text) → (let r : Read A = Ok x in r ≡ Ok y) → x ≡ y
 ok_is x y e = cc
 

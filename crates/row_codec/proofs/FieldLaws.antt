@@ -90,14 +90,14 @@ module _ {A : Type 0} (number : A → ℕ) (may : A → Bool) (known : ℕ → O
 -- what was found passes the test, and is one of the list
 find_passes : {A : Type 0} (p may : A → Bool) (all : List A) (a : A) → list_all may all ≡ true → find p all ≡ Some a → (may a ≡ true) × (p a ≡ true)
 find_passes p may [] a h e = absurd cc
-find_passes {A = A} p may (x ∷ all) a h e = by (p x) refl e
+find_passes {A = A} p may (x ∷ all) a h e = by (p x) refl e (λ f. find_passes p may all a both.1 f)
   where
     both : (may x ≡ true) × (list_all may all ≡ true)
     both = and_parts (may x) (list_all may all) h
 
-    by : (t : Bool) → p x ≡ t → cond t (Some x) (find p all) ≡ Some a → (may a ≡ true) × (p a ≡ true)
-    by true is h = let same : x ≡ a = cc in (ap may (sym same) ∙ both.0, ap p (sym same) ∙ is)
-    by false is h = find_passes p may all a both.1 h
+    by : (t : Bool) → p x ≡ t → cond t (Some x) (find p all) ≡ Some a → (find p all ≡ Some a → (may a ≡ true) × (p a ≡ true)) → (may a ≡ true) × (p a ≡ true)
+    by true is f later = let same : x ≡ a = cc in (ap may (sym same) ∙ both.0, ap p (sym same) ∙ is)
+    by false is f later = later f
 
 pub coded_part : {A : Type 0} (number : A → ℕ) (may : A → Bool) (all : List A) → list_all may all ≡ true → ((a : A) → may a ≡ true → known_in number all (number a) ≡ Some a) → (some : A) → may some ≡ true
     → IsPart (coded_at (known_in number all)) (λ a. code_if (may a) (number a))
@@ -144,13 +144,14 @@ fixed_law n = record { takes = takes; again = again; stops = stops; some = repli
     stops s left bytes e =
         let g = guard_err (ltb (length s) n) 0 left (take n s, drop n s) e in
         let short : length s < n = ltb-true _ _ g.0 in
-        let more = replicate (n - length s) 0 in
+        let more : Text = replicate (n - length s) 0 in
+        let count : length more ≡ n - length s = length-replicate (n - length s) 0 in
         record {
           front = s;
           behind = [];
           more = more;
           value = s ++ more;
-          fits = (omega (arith, length-append s more, length-replicate (n - length s) 0), IsBytes-append s more bytes (zeros (n - length s)));
+          fits = (omega (arith, length-append s more, count), IsBytes-append s more bytes (zeros (n - length s)));
           split = sym (append-nil s);
           left_is = g.1;
           begins = refl;
