@@ -1,4 +1,6 @@
+pub mod CodeLaws
 pub mod FieldLaws
 pub mod Laws
 pub mod ListLaws
 pub mod Loop
+pub mod RowLaws

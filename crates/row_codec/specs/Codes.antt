@@ -20,26 +20,44 @@ use Rattle.row_codec.specs.declared.tags.EntryKind.{EntryKind}
 abbrev pub known_in : {A : Type 0} → (A → ℕ) → List A → ℕ → Option A
 known_in number all n = find (λ a. number a == n) all
 
+abbrev pub all_flags : List Bool
+all_flags = false ∷ true ∷ []
+
 abbrev pub known_flag : ℕ → Option Bool
-known_flag = known_in flag (false ∷ true ∷ [])
+known_flag = known_in flag all_flags
+
+abbrev pub all_user_kinds : List UserKind
+all_user_kinds = Rodsadmin ∷ Rodsuser ∷ Rodsgroup ∷ []
 
 abbrev pub known_user_kind : ℕ → Option UserKind
-known_user_kind = known_in user_kind (Rodsadmin ∷ Rodsuser ∷ Rodsgroup ∷ [])
+known_user_kind = known_in user_kind all_user_kinds
+
+abbrev pub all_item_kinds : List ItemKind
+all_item_kinds = kind.Object ∷ kind.Collection ∷ kind.Resource ∷ kind.User ∷ []
 
 abbrev pub known_item_kind : ℕ → Option ItemKind
-known_item_kind = known_in item_kind (kind.Object ∷ kind.Collection ∷ kind.Resource ∷ kind.User ∷ [])
+known_item_kind = known_in item_kind all_item_kinds
 
 abbrev pub entry_kind_number : EntryKind → ℕ
 entry_kind_number e = item_kind e.0
 
+abbrev pub all_entry_kinds : List EntryKind
+all_entry_kinds = record { 0 = kind.Object } ∷ record { 0 = kind.Collection } ∷ []
+
 abbrev pub known_entry_kind : ℕ → Option EntryKind
-known_entry_kind = known_in entry_kind_number (record { 0 = kind.Object } ∷ record { 0 = kind.Collection } ∷ [])
+known_entry_kind = known_in entry_kind_number all_entry_kinds
+
+abbrev pub all_levels : List Level
+all_levels = Read ∷ Write ∷ Own ∷ []
 
 abbrev pub known_level : ℕ → Option Level
-known_level = known_in level (Read ∷ Write ∷ Own ∷ [])
+known_level = known_in level all_levels
+
+abbrev pub all_resource_kinds : List ResourceKind
+all_resource_kinds = Storage ∷ Passthru ∷ Random ∷ Replication ∷ []
 
 abbrev pub known_resource_kind : ℕ → Option ResourceKind
-known_resource_kind = known_in resource_kind (Storage ∷ Passthru ∷ Random ∷ Replication ∷ [])
+known_resource_kind = known_in resource_kind all_resource_kinds
 
 abbrev pub mark_number : MarkTag → ℕ
 mark_number mark.Ran = 1
@@ -47,8 +65,11 @@ mark_number mark.Fault = 2
 mark_number mark.Bad = 3
 mark_number mark.Stop = 4
 
+abbrev pub all_marks : List MarkTag
+all_marks = mark.Ran ∷ mark.Fault ∷ mark.Bad ∷ mark.Stop ∷ []
+
 abbrev pub known_mark : ℕ → Option MarkTag
-known_mark = known_in mark_number (mark.Ran ∷ mark.Fault ∷ mark.Bad ∷ mark.Stop ∷ [])
+known_mark = known_in mark_number all_marks
 
 abbrev pub tag_number : Tag → ℕ
 tag_number tag.Zone = 1
@@ -73,5 +94,8 @@ tag_number tag.Numbers = 19
 tag_number tag.Pending = 20
 tag_number tag.NoPending = 21
 
+abbrev pub all_tags : List Tag
+all_tags = tag.Zone ∷ tag.User ∷ tag.Member ∷ tag.NoMember ∷ tag.Collection ∷ tag.NoCollection ∷ tag.Object ∷ tag.NoObject ∷ tag.Replica ∷ tag.NoReplica ∷ tag.Triple ∷ tag.NoTriple ∷ tag.Entry ∷ tag.NoEntry ∷ tag.Resource ∷ tag.Rules ∷ tag.Orphan ∷ tag.NoOrphan ∷ tag.Numbers ∷ tag.Pending ∷ tag.NoPending ∷ []
+
 abbrev pub known_tag : ℕ → Option Tag
-known_tag = known_in tag_number (tag.Zone ∷ tag.User ∷ tag.Member ∷ tag.NoMember ∷ tag.Collection ∷ tag.NoCollection ∷ tag.Object ∷ tag.NoObject ∷ tag.Replica ∷ tag.NoReplica ∷ tag.Triple ∷ tag.NoTriple ∷ tag.Entry ∷ tag.NoEntry ∷ tag.Resource ∷ tag.Rules ∷ tag.Orphan ∷ tag.NoOrphan ∷ tag.Numbers ∷ tag.Pending ∷ tag.NoPending ∷ [])
+known_tag = known_in tag_number all_tags
