@@ -223,6 +223,22 @@ IsPart-whole r = record { law = Law-refit (λ b h. h.1) (λ b h. (tt, h)) r.law 
 
 -- ---- a tag, and what stands behind it
 
+module _ {T B : Type 0} (f : T → Text → Read B) (row : B → List Part) where
+  -- what is read behind the tag is one constructor of a row
+  pub record Arm {R : Type 0} (con : R → B) (t : T) : Type 0 where
+    pub law : Law (f t) (λ b. (r : R) × (b ≡ con r) × (all_fit (row b) ≡ true)) (λ b. joined (row b))
+
+  pub arm : {R : Type 0} {p : Text → Read R} {rows : R → List Part} (con : R → B) (t : T) → f t ≡ and_then p (λ r. give (con r)) → IsRow p Any rows → ((r : R) → row (con r) ≡ rows r) → Arm con t
+  arm {R = R} {p = p} {rows = rows} con t is r same = record {
+    law = subst (λ q. Law q (λ b. (r : R) × (b ≡ con r) × (all_fit (row b) ≡ true)) (λ b. joined (row b))) (sym is)
+      (Law-map con r.law (λ a fits. ((a, refl, ap all_fit (same a) ∙ fits.1), ap joined (same a))) (λ b fits. (fits.0, (tt, sym (ap all_fit (ap row fits.1 ∙ same fits.0)) ∙ fits.2), fits.1)));
+  }
+
+  -- nothing stands behind the tag
+  pub lone_arm : (v : B) (t : T) → f t ≡ give v → row v ≡ [] → Arm (λ (r : Unit {0}). v) t
+  unfolding and_then give
+  lone_arm v t is none = arm (λ (r : Unit {0}). v) t is (IsRow-give {C = Any} tt tt (λ b c. refl)) (λ r. none)
+
 module _ {T B : Type 0} (f : T → Text → Read B) (tag_of : B → T) (row : B → List Part) where
   -- what is read behind the tag, but for reading it again
   pub record Behind (t : T) : Type 0 where
@@ -231,19 +247,15 @@ module _ {T B : Type 0} (f : T → Text → Read B) (tag_of : B → T) (row : B 
     pub some : B
     pub some_fits : (tag_of some ≡ t) × (all_fit (row some) ≡ true)
 
-  pub arm : {R : Type 0} {p : Text → Read R} {rows : R → List Part} (con : R → B) (t : T) → f t ≡ and_then p (λ r. give (con r)) → IsRow p Any rows → ((r : R) → row (con r) ≡ rows r)
-      → Law (f t) (λ b. (r : R) × (b ≡ con r) × (all_fit (row b) ≡ true)) (λ b. joined (row b))
-  arm {R = R} {p = p} {rows = rows} con t is r same =
-      subst (λ q. Law q (λ b. (r : R) × (b ≡ con r) × (all_fit (row b) ≡ true)) (λ b. joined (row b))) (sym is)
-      (Law-map con r.law (λ a fits. ((a, refl, ap all_fit (same a) ∙ fits.1), ap joined (same a))) (λ b fits. (fits.0, (tt, sym (ap all_fit (ap row fits.1 ∙ same fits.0)) ∙ fits.2), fits.1)))
-
-  pub behind : {R : Type 0} (con : R → B) (t : T) → Law (f t) (λ b. (r : R) × (b ≡ con r) × (all_fit (row b) ≡ true)) (λ b. joined (row b)) → ((r : R) → tag_of (con r) ≡ t) → Behind t
-  behind con t law tag = record {
-    takes = λ s b rest bytes e. let x = law.takes s b rest bytes e in ((ap tag_of x.0.1 ∙ tag x.0.0, x.0.2), x.1);
-    stops = λ s left bytes e. StopsAt-refit (λ b x. (ap tag_of x.1 ∙ tag x.0, x.2)) (law.stops s left bytes e);
-    some = law.some;
-    some_fits = (ap tag_of law.some_fits.1 ∙ tag law.some_fits.0, law.some_fits.2);
-  }
+  pub behind : {R : Type 0} (con : R → B) (t : T) → Arm f row con t → ((r : R) → tag_of (con r) ≡ t) → Behind t
+  behind con t x tag =
+      let law = x.law in
+      record {
+        takes = λ s b rest bytes e. let x = law.takes s b rest bytes e in ((ap tag_of x.0.1 ∙ tag x.0.0, x.0.2), x.1);
+        stops = λ s left bytes e. StopsAt-refit (λ b x. (ap tag_of x.1 ∙ tag x.0, x.2)) (law.stops s left bytes e);
+        some = law.some;
+        some_fits = (ap tag_of law.some_fits.1 ∙ tag law.some_fits.0, law.some_fits.2);
+      }
 
   pub IsRow-behind : ((t : T) → Behind t) → ((b : B) (rest : Text) → all_fit (row b) ≡ true → f (tag_of b) (joined (row b) ++ rest) ≡ Ok (b, rest)) → (t : T) → IsRow (f t) (λ b. Any b × (tag_of b ≡ t)) row
   IsRow-behind each again t =

@@ -1,4 +1,6 @@
 pub mod CodeLaws
+pub mod CommandLaws
+pub mod DeltaLaws
 pub mod FieldLaws
 pub mod Laws
 pub mod ListLaws

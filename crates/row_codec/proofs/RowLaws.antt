@@ -17,7 +17,7 @@ use Rattle.row_codec.specs.declared.tags.MarkTag.TheVariants as tags
 use Rattle.row_codec.specs.Codes.{mark_number}
 use Rattle.row_codec.specs.Reading.{Read, and_then, give, u64_at, text_at}
 use Rattle.row_codec.specs.Rows.{user_at, member_at, collection_at, object_at, replica_at, triple_at, entry_at, resource_at, orphan_at, numbers_at, zone_at, no_replica_at, no_entry_at, call_at, bad_at, ran_at, fault_at, bad_read_at, mark_of, mark_at, passed_at, running_if, running_at, pending_at}
-use Rattle.row_codec.proofs.Laws.{Law, Law-refit, IsPart, IsRow, Any, IsRow-then, IsRow-give, IsPart-whole, Behind, arm, behind, IsRow-behind}
+use Rattle.row_codec.proofs.Laws.{Law, Law-refit, IsPart, IsRow, Any, IsRow-then, IsRow-give, IsPart-whole}
 use Rattle.row_codec.proofs.FieldLaws.{byte_part, u32_part, u64_part, digest_part}
 use Rattle.row_codec.proofs.ListLaws.{list_part, text_part}
 use Rattle.row_codec.proofs.CodeLaws.{flag_part, user_kind_part, item_kind_part, entry_kind_part, level_part, resource_kind_part, mark_part}
@@ -28,7 +28,7 @@ alone {A = A} {p = p} {part = part} h = record {
   law = subst (λ (spell : A → Text). Law p (λ a. Any a × (all_fit (part a ∷ []) ≡ true)) spell) (λ i a. sym (append-nil (part a).bytes) i) (Law-refit (λ a fits. (tt, and_from (part a).fits true fits refl)) (λ a fits. (and_parts (part a).fits true fits.1).0) h.law);
 }
 
-shown : IsPart (text_at Shown) text
+pub shown : IsPart (text_at Shown) text
 shown = text_part Shown
 
 pub user_is : IsRow user_at Any user_row
@@ -173,60 +173,3 @@ rules_is = alone (text_part Rules)
 
 pub shown_is : IsRow (text_at Shown) Any (λ t. text t ∷ [])
 shown_is = alone shown
-
--- ---- what a command has that is not done
-
-pub call_is : IsRow call_at Any call
-unfolding call_at
-call_is =
-    IsRow-then (λ r. r.name) shown (λ name.
-    IsRow-then (λ r. r.args) (list_part shown_is) (λ args.
-    IsRow-give _ ((tt, refl), refl) (λ b h i. record { name = h.0.1 i; args = h.1 i })))
-
-pub bad_is : IsRow bad_at Any bad_replica
-unfolding bad_at
-bad_is =
-    IsRow-then (λ r. r.number) u32_part (λ number.
-    IsRow-then (λ r. r.len) u64_part (λ len.
-    IsRow-then (λ r. r.found) digest_part (λ found.
-    IsRow-give _ (((tt, refl), refl), refl) (λ b h i. record { number = h.0.0.1 i; len = h.0.1 i; found = h.1 i }))))
-
-pub passed_is : IsRow passed_at Any passed
-unfolding passed_at
-passed_is =
-    IsRow-then (λ r. r.call) (IsPart-whole call_is) (λ call.
-    IsRow-then (λ r. r.failure) shown (λ failure.
-    IsRow-give _ ((tt, refl), refl) (λ b h i. record { call = h.0.1 i; failure = h.1 i })))
-
-abbrev ran_row : ℕ × ℕ × List BadReplica → List Part
-ran_row m = u64 m.0 ∷ u64 m.1 ∷ each bad_replica m.2 ∷ []
-
-ran_is : IsRow ran_at Any ran_row
-unfolding ran_at
-ran_is =
-    IsRow-then (λ m. m.0) u64_part (λ word.
-    IsRow-then (λ m. m.1) u64_part (λ now.
-    IsRow-then (λ m. m.2) (list_part bad_is) (λ bad.
-    IsRow-give _ (((tt, refl), refl), refl) (λ b h i. (h.0.0.1 i, h.0.1 i, h.1 i)))))
-
-abbrev fault_row : ℕ × ℕ → List Part
-fault_row m = u8 m.0 ∷ u64 m.1 ∷ []
-
-fault_is : IsRow fault_at Any fault_row
-unfolding fault_at
-fault_is =
-    IsRow-then (λ m. m.0) byte_part (λ slot.
-    IsRow-then (λ m. m.1) u64_part (λ parts.
-    IsRow-give _ ((tt, refl), refl) (λ b h i. (h.0.1 i, h.1 i))))
-
-abbrev bad_read_row : ℕ × ℕ × Text × ℕ → List Part
-bad_read_row m = u8 m.0 ∷ u64 m.1 ∷ digest m.2 ∷ u64 m.3 ∷ []
-
-bad_read_is : IsRow bad_read_at Any bad_read_row
-unfolding bad_read_at
-bad_read_is =
-    IsRow-then (λ m. m.0) byte_part (λ slot.
-    IsRow-then (λ m. m.1) u64_part (λ len.
-    IsRow-then (λ m. m.2) digest_part (λ found.
-    IsRow-then (λ m. m.3) u64_part (λ parts.
-    IsRow-give _ ((((tt, refl), refl), refl), refl) (λ b h i. (h.0.0.0.1 i, h.0.0.1 i, h.0.1 i, h.1 i))))))
