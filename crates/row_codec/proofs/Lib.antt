@@ -6,3 +6,4 @@ pub mod Laws
 pub mod ListLaws
 pub mod Loop
 pub mod RowLaws
+pub mod Spelled
