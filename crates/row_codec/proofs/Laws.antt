@@ -231,7 +231,7 @@ module _ {T B : Type 0} (f : T → Text → Read B) (row : B → List Part) wher
   pub arm : {R : Type 0} {p : Text → Read R} {rows : R → List Part} (con : R → B) (t : T) → f t ≡ and_then p (λ r. give (con r)) → IsRow p Any rows → ((r : R) → row (con r) ≡ rows r) → Arm con t
   arm {R = R} {p = p} {rows = rows} con t is r same = record {
     law = subst (λ q. Law q (λ b. (r : R) × (b ≡ con r) × (all_fit (row b) ≡ true)) (λ b. joined (row b))) (sym is)
-      (Law-map con r.law (λ a fits. ((a, refl, ap all_fit (same a) ∙ fits.1), ap joined (same a))) (λ b fits. (fits.0, (tt, sym (ap all_fit (ap row fits.1 ∙ same fits.0)) ∙ fits.2), fits.1)));
+        (Law-map con r.law (λ a fits. ((a, refl, ap all_fit (same a) ∙ fits.1), ap joined (same a))) (λ b fits. (fits.0, (tt, sym (ap all_fit (ap row fits.1 ∙ same fits.0)) ∙ fits.2), fits.1)));
   }
 
   -- nothing stands behind the tag

@@ -5,5 +5,6 @@ pub mod FieldLaws
 pub mod Laws
 pub mod ListLaws
 pub mod Loop
+pub mod Refusing
 pub mod RowLaws
 pub mod Spelled

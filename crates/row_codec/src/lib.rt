@@ -3,9 +3,16 @@
 
 mod codes;
 mod commands;
+mod decoding;
 mod deltas;
 mod entry;
+mod error;
 mod fields;
+mod putting;
+mod putting_rows;
 mod rows;
 mod stop;
 mod tags;
+
+pub use decoding::decode;
+pub use error::CodecError;

@@ -1,6 +1,8 @@
 ghost use Rattle.std.specs.Prelude.{◌≡◌};
+ghost use Rattle.row_codec.specs.Stopping.{IsWithin, refusal_of};
 ghost use Rattle.row_codec.specs.declared.stop.Stop.TheVariants.{Memory};
 
+use crate::error::CodecError;
 use std::alloc::{AllocError, AllocFailed};
 
 /// Why reading stopped.
@@ -9,6 +11,21 @@ pub enum Stop {
     Memory,
     /// No spelling goes on from the place that so many bytes are left from.
     Broken { left: u64 },
+}
+
+impl Stop {
+    /// The same of bytes that are so many.
+    pub fn refusal(self, len: usize) -> CodecError
+        requires { IsWithin self len }
+        ensures { result ≡ refusal_of self len }
+    {
+        match self {
+            Stop::Memory => CodecError::Memory,
+            Stop::Broken { left } => CodecError::BadRecord {
+                at: len as u64 - left,
+            },
+        }
+    }
 }
 
 impl From<AllocError> for Stop {
