@@ -1,19 +1,27 @@
 ghost use Rattle.std.specs.Prelude.{◌≡◌, ℕ, List, Result, ◌++◌, OnOk};
-ghost use Rattle.grid_model.specs.Deltas.{Part, joined};
+ghost use Rattle.std.specs.List.{flat_map};
+ghost use Rattle.grid_model.specs.Deltas.{Part, joined, each};
 ghost use Rattle.row_codec.specs.Reading.{Gives, list_at, many_at};
 
 use crate::fields::u64_of;
+use crate::putting::put_u64;
 use crate::stop::Stop;
 use grid_model::Items;
-use std::alloc::Global;
+use std::alloc::{AllocError, Global};
 
 /// A member of a list.
 pub trait Entry: Drop {
     ghost read_at: { List ℕ → Result (Self × List ℕ) ℕ };
 
+    ghost parts: { Self → List Part };
+
     /// The member at the front, and the bytes behind it.
     fn read(alloc: Global, bytes: &[u8]) -> Result<(Self, &[u8]), Stop>
         ensures { Gives (λ x. (x.0, x.1.now)) result (read_at bytes.now) };
+
+    /// Adds the member.
+    fn put(&self, out: &mut Vec<u8>) -> Result<(), AllocError>
+        ensures { OnOk result (out.new.items ≡ out.old.items ++ joined (parts self.now)) };
 }
 
 #[tactic(auto, unfolding(crate::specs::Reading::list_at, crate::specs::Reading::and_then))]
@@ -35,4 +43,22 @@ fn members<T: Entry>(alloc: Global, count: u64, bytes: &[u8]) -> Result<(Items<T
         rest = behind;
     }
     Ok((Items::from_vec(members), rest))
+}
+
+/// Adds a list behind the number of its members.
+pub fn put_list<T: Entry>(out: &mut Vec<u8>, list: &Items<T>) -> Result<(), AllocError>
+    ensures { OnOk result (out.new.items ≡ out.old.items ++ (each T.parts list.now).bytes) }
+{
+    let members = list.as_slice();
+    put_u64(out, members.len() as u64)?;
+    put_members(out, members)
+}
+
+fn put_members<T: Entry>(out: &mut Vec<u8>, members: &[T]) -> Result<(), AllocError>
+    ensures { OnOk result (out.new.items ≡ out.old.items ++ flat_map (λ x. joined (T.parts x)) members.now) }
+{
+    for member in members {
+        member.put(out)?;
+    }
+    Ok(())
 }

@@ -8,6 +8,7 @@ mod deltas;
 mod entry;
 mod error;
 mod fields;
+mod put_deltas;
 mod putting;
 mod putting_rows;
 mod rows;
