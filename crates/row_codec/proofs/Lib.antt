@@ -1,3 +1,4 @@
+pub mod Adding
 pub mod CodeLaws
 pub mod CommandLaws
 pub mod DeltaLaws
