@@ -16,7 +16,7 @@ use Rattle.row_codec.specs.declared.tags.Tag.TheVariants as tag
 use Rattle.row_codec.specs.declared.tags.EntryKind.{EntryKind}
 use Rattle.row_codec.specs.Codes.{all_flags, all_user_kinds, all_item_kinds, all_entry_kinds, all_levels, all_resource_kinds, all_marks, all_tags, known_flag, known_user_kind, known_item_kind, entry_kind_number, known_entry_kind, known_level, known_resource_kind, mark_number, known_mark, tag_number, known_tag}
 use Rattle.row_codec.specs.Reading.{coded_at}
-use Rattle.row_codec.proofs.Laws.{IsPart}
+use Rattle.row_codec.proofs.ReaderLaws.{IsPart}
 use Rattle.row_codec.proofs.FieldLaws.{coded_part}
 
 pub flag_part : IsPart (coded_at known_flag) (λ b. code (flag b))

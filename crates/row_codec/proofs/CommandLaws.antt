@@ -11,7 +11,7 @@ use Rattle.row_codec.specs.declared.tags.MarkTag.TheVariants as tags
 use Rattle.row_codec.specs.Codes.{mark_number}
 use Rattle.row_codec.specs.Reading.{give}
 use Rattle.row_codec.specs.Rows.{call_at, bad_at, ran_at, fault_at, bad_read_at, mark_of, mark_at, passed_at, running_if, running_at, pending_at}
-use Rattle.row_codec.proofs.Laws.{IsPart, IsRow, Any, IsRow-then, IsRow-give, IsPart-whole, Behind, Arm, arm, lone_arm, behind, IsRow-behind}
+use Rattle.row_codec.proofs.ReaderLaws.{IsPart, IsRow, Any, IsRow-then, IsRow-give, IsPart-whole, Behind, Arm, arm, lone_arm, behind, IsRow-behind}
 use Rattle.row_codec.proofs.FieldLaws.{byte_part, u32_part, u64_part, digest_part}
 use Rattle.row_codec.proofs.ListLaws.{list_part}
 use Rattle.row_codec.proofs.CodeLaws.{flag_part, mark_part}

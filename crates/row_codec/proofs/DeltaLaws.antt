@@ -21,7 +21,7 @@ use Rattle.row_codec.specs.declared.tags.Tag.TheVariants as tag
 use Rattle.row_codec.specs.Codes.{tag_number}
 use Rattle.row_codec.specs.Rows.{body_of, delta_at}
 use Rattle.row_codec.specs.Tagged.{tag_of, body}
-use Rattle.row_codec.proofs.Laws.{Law, Law-refit, IsRow, Any, IsRow-then, Behind, Arm, arm, lone_arm, behind, IsRow-behind}
+use Rattle.row_codec.proofs.ReaderLaws.{Law, Law-refit, IsRow, Any, IsRow-then, Behind, Arm, arm, lone_arm, behind, IsRow-behind}
 use Rattle.row_codec.proofs.CodeLaws.{tag_part}
 use Rattle.row_codec.proofs.RowLaws.{user_is, member_is, collection_is, object_is, replica_is, triple_is, entry_is, resource_is, orphan_is, numbers_is, zone_is, no_replica_is, no_entry_is, u64_is, rules_is}
 use Rattle.row_codec.proofs.CommandLaws.{pending_is}

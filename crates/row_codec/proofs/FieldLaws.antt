@@ -12,7 +12,7 @@ use Rattle.row_codec.specs.declared.fields.Alphabet.{Alphabet}
 use Rattle.row_codec.specs.declared.fields.Alphabet.TheVariants.{Shown, Rules}
 use Rattle.row_codec.specs.Codes.{known_in}
 use Rattle.row_codec.specs.Reading.{Read, bind, and_then, give, byte_at, fixed_at, u32_at, u64_at, known_or, coded_at, is_allowed, chars_at, text_at, many_at, list_at}
-use Rattle.row_codec.proofs.Laws.{IsBytes, IsBytes-behind, IsBytes-front, IsBytes-append, StopsAt, Law, bind_ok, ok_is, Law-refit, Law-map, Law-then, IsPart, IsRow, Any}
+use Rattle.row_codec.proofs.ReaderLaws.{IsBytes, IsBytes-behind, IsBytes-front, IsBytes-append, StopsAt, Law, bind_ok, ok_is, Law-refit, Law-map, Law-then, IsPart, IsRow, Any}
 
 -- ---- a byte
 

@@ -3,7 +3,7 @@ pub mod CodeLaws
 pub mod CommandLaws
 pub mod DeltaLaws
 pub mod FieldLaws
-pub mod Laws
+pub mod ReaderLaws
 pub mod ListLaws
 pub mod Loop
 pub mod Refusing

@@ -8,7 +8,7 @@ use Rattle.grid_model.specs.Deltas.{Part, all_fit, joined, eight_bytes, is_shown
 use Rattle.row_codec.specs.declared.fields.Alphabet.{Alphabet}
 use Rattle.row_codec.specs.declared.fields.Alphabet.TheVariants.{Shown, Rules}
 use Rattle.row_codec.specs.Reading.{Read, bind, and_then, give, u64_at, known_or, coded_at, is_allowed, chars_at, text_at, many_at, list_at}
-use Rattle.row_codec.proofs.Laws.{IsBytes, StopsAt, Law, ok_is, Law-refit, Law-map, Law-then, IsPart, IsRow, Any}
+use Rattle.row_codec.proofs.ReaderLaws.{IsBytes, StopsAt, Law, ok_is, Law-refit, Law-map, Law-then, IsPart, IsRow, Any}
 use Rattle.row_codec.proofs.FieldLaws.{coded_law, u64_part}
 
 -- ---- so many members

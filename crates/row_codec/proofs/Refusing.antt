@@ -12,7 +12,7 @@ use Rattle.row_codec.specs.declared.error.CodecError.TheVariants.{BadRecord}
 use Rattle.row_codec.specs.Reading.{Stops}
 use Rattle.row_codec.specs.Rows.{delta_at}
 use Rattle.row_codec.specs.Stopping.{IsWithin, refusal_of}
-use Rattle.row_codec.proofs.Laws.{IsBytes, IsBytes-behind}
+use Rattle.row_codec.proofs.ReaderLaws.{IsBytes, IsBytes-behind}
 use Rattle.row_codec.proofs.DeltaLaws.{delta_law}
 use Rattle.row_codec.proofs.Spelled.{AllFit, AllFit-push, spellings, spellings-push, IsBytes-each, shorter, within, IsRefusedAt-left}
 

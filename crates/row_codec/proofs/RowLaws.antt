@@ -17,7 +17,7 @@ use Rattle.row_codec.specs.declared.tags.MarkTag.TheVariants as tags
 use Rattle.row_codec.specs.Codes.{mark_number}
 use Rattle.row_codec.specs.Reading.{Read, and_then, give, u64_at, text_at}
 use Rattle.row_codec.specs.Rows.{user_at, member_at, collection_at, object_at, replica_at, triple_at, entry_at, resource_at, orphan_at, numbers_at, zone_at, no_replica_at, no_entry_at, call_at, bad_at, ran_at, fault_at, bad_read_at, mark_of, mark_at, passed_at, running_if, running_at, pending_at}
-use Rattle.row_codec.proofs.Laws.{Law, Law-refit, IsPart, IsRow, Any, IsRow-then, IsRow-give, IsPart-whole}
+use Rattle.row_codec.proofs.ReaderLaws.{Law, Law-refit, IsPart, IsRow, Any, IsRow-then, IsRow-give, IsPart-whole}
 use Rattle.row_codec.proofs.FieldLaws.{byte_part, u32_part, u64_part, digest_part}
 use Rattle.row_codec.proofs.ListLaws.{list_part, text_part}
 use Rattle.row_codec.proofs.CodeLaws.{flag_part, user_kind_part, item_kind_part, entry_kind_part, level_part, resource_kind_part, mark_part}

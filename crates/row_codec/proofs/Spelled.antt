@@ -11,7 +11,7 @@ use Rattle.grid_model.specs.Places.{Begins, IsRefusedAt}
 use Rattle.grid_model.specs.declared.deltas.Delta.{Delta}
 use Rattle.row_codec.specs.Reading.{Read, bind, and_then, coded_at}
 use Rattle.row_codec.specs.Rows.{delta_at}
-use Rattle.row_codec.proofs.Laws.{IsBytes, IsBytes-behind, StopsAt, ok_is}
+use Rattle.row_codec.proofs.ReaderLaws.{IsBytes, IsBytes-behind, StopsAt, ok_is}
 use Rattle.row_codec.proofs.DeltaLaws.{delta_law}
 
 -- all of them have a spelling

@@ -5,9 +5,11 @@ mod codes;
 mod commands;
 mod decoding;
 mod deltas;
+mod encoding;
 mod entry;
 mod error;
 mod fields;
+mod laws;
 mod put_deltas;
 mod putting;
 mod putting_rows;
@@ -16,4 +18,6 @@ mod stop;
 mod tags;
 
 pub use decoding::decode;
+pub use encoding::encode;
 pub use error::CodecError;
+pub use laws::{begins_no_other, spelled_once};
