@@ -16,6 +16,8 @@ mod putting_rows;
 mod rows;
 mod stop;
 mod tags;
+#[cfg(test)]
+mod tests;
 
 pub use decoding::decode;
 pub use encoding::encode;

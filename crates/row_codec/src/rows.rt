@@ -1,3 +1,5 @@
+#![tactic(auto, unfolding(crate::specs::Reading::and_then, crate::specs::Reading::give, crate::specs::Rows::user_at, crate::specs::Rows::member_at, crate::specs::Rows::collection_at, crate::specs::Rows::object_at, crate::specs::Rows::replica_at, crate::specs::Rows::triple_at, crate::specs::Rows::entry_at, crate::specs::Rows::resource_at, crate::specs::Rows::orphan_at, crate::specs::Rows::numbers_at, crate::specs::Rows::zone_at, crate::specs::Rows::no_replica_at, crate::specs::Rows::no_entry_at))]
+
 ghost use Rattle.std.specs.Prelude.{◌≡◌};
 ghost use Rattle.row_codec.specs.Reading.{Gives};
 ghost use Rattle.row_codec.specs.Rows.{user_at, member_at, collection_at, object_at, replica_at, triple_at, entry_at, resource_at, orphan_at, numbers_at, zone_at, no_replica_at, no_entry_at};
@@ -11,7 +13,6 @@ use grid_model::{
 };
 use std::alloc::Global;
 
-#[tactic(auto, unfolding(crate::specs::Rows::user_at, crate::specs::Reading::and_then, crate::specs::Reading::give))]
 pub fn user(alloc: Global, bytes: &[u8]) -> Result<(UserRow, &[u8]), Stop>
     ensures { Gives (λ x. (x.0, x.1.now)) result (user_at bytes.now) }
 {
@@ -21,7 +22,6 @@ pub fn user(alloc: Global, bytes: &[u8]) -> Result<(UserRow, &[u8]), Stop>
     Ok((UserRow { id, kind, name }, rest))
 }
 
-#[tactic(auto, unfolding(crate::specs::Rows::member_at, crate::specs::Reading::and_then, crate::specs::Reading::give))]
 pub fn member(bytes: &[u8]) -> Result<(MemberRow, &[u8]), Stop>
     ensures { Gives (λ x. (x.0, x.1.now)) result (member_at bytes.now) }
 {
@@ -30,7 +30,6 @@ pub fn member(bytes: &[u8]) -> Result<(MemberRow, &[u8]), Stop>
     Ok((MemberRow { group, user }, rest))
 }
 
-#[tactic(auto, unfolding(crate::specs::Rows::collection_at, crate::specs::Reading::and_then, crate::specs::Reading::give))]
 pub fn collection(alloc: Global, bytes: &[u8]) -> Result<(CollectionRow, &[u8]), Stop>
     ensures { Gives (λ x. (x.0, x.1.now)) result (collection_at bytes.now) }
 {
@@ -47,7 +46,6 @@ pub fn collection(alloc: Global, bytes: &[u8]) -> Result<(CollectionRow, &[u8]),
     Ok((row, rest))
 }
 
-#[tactic(auto, unfolding(crate::specs::Rows::object_at, crate::specs::Reading::and_then, crate::specs::Reading::give))]
 pub fn object(alloc: Global, bytes: &[u8]) -> Result<(ObjectRow, &[u8]), Stop>
     ensures { Gives (λ x. (x.0, x.1.now)) result (object_at bytes.now) }
 {
@@ -68,7 +66,6 @@ pub fn object(alloc: Global, bytes: &[u8]) -> Result<(ObjectRow, &[u8]), Stop>
     Ok((row, rest))
 }
 
-#[tactic(auto, unfolding(crate::specs::Rows::replica_at, crate::specs::Reading::and_then, crate::specs::Reading::give))]
 pub fn replica(bytes: &[u8]) -> Result<(ReplicaRow, &[u8]), Stop>
     ensures { Gives (λ x. (x.0, x.1.now)) result (replica_at bytes.now) }
 {
@@ -91,7 +88,6 @@ pub fn replica(bytes: &[u8]) -> Result<(ReplicaRow, &[u8]), Stop>
     Ok((row, rest))
 }
 
-#[tactic(auto, unfolding(crate::specs::Rows::triple_at, crate::specs::Reading::and_then, crate::specs::Reading::give))]
 pub fn triple(alloc: Global, bytes: &[u8]) -> Result<(TripleRow, &[u8]), Stop>
     ensures { Gives (λ x. (x.0, x.1.now)) result (triple_at bytes.now) }
 {
@@ -110,7 +106,6 @@ pub fn triple(alloc: Global, bytes: &[u8]) -> Result<(TripleRow, &[u8]), Stop>
     Ok((row, rest))
 }
 
-#[tactic(auto, unfolding(crate::specs::Rows::entry_at, crate::specs::Reading::and_then, crate::specs::Reading::give))]
 pub fn entry(bytes: &[u8]) -> Result<(EntryRow, &[u8]), Stop>
     ensures { Gives (λ x. (x.0, x.1.now)) result (entry_at bytes.now) }
 {
@@ -127,7 +122,6 @@ pub fn entry(bytes: &[u8]) -> Result<(EntryRow, &[u8]), Stop>
     Ok((row, rest))
 }
 
-#[tactic(auto, unfolding(crate::specs::Rows::resource_at, crate::specs::Reading::and_then, crate::specs::Reading::give))]
 pub fn resource(alloc: Global, bytes: &[u8]) -> Result<(ResourceRow, &[u8]), Stop>
     ensures { Gives (λ x. (x.0, x.1.now)) result (resource_at bytes.now) }
 {
@@ -150,7 +144,6 @@ pub fn resource(alloc: Global, bytes: &[u8]) -> Result<(ResourceRow, &[u8]), Sto
     Ok((row, rest))
 }
 
-#[tactic(auto, unfolding(crate::specs::Rows::orphan_at, crate::specs::Reading::and_then, crate::specs::Reading::give))]
 pub fn orphan(bytes: &[u8]) -> Result<(OrphanRow, &[u8]), Stop>
     ensures { Gives (λ x. (x.0, x.1.now)) result (orphan_at bytes.now) }
 {
@@ -159,7 +152,6 @@ pub fn orphan(bytes: &[u8]) -> Result<(OrphanRow, &[u8]), Stop>
     Ok((OrphanRow { vault, slot }, rest))
 }
 
-#[tactic(auto, unfolding(crate::specs::Rows::numbers_at, crate::specs::Reading::and_then, crate::specs::Reading::give))]
 pub fn numbers(bytes: &[u8]) -> Result<(Numbers, &[u8]), Stop>
     ensures { Gives (λ x. (x.0, x.1.now)) result (numbers_at bytes.now) }
 {
@@ -175,7 +167,6 @@ pub fn numbers(bytes: &[u8]) -> Result<(Numbers, &[u8]), Stop>
 }
 
 /// The name of the zone, and how many stores there are.
-#[tactic(auto, unfolding(crate::specs::Rows::zone_at, crate::specs::Reading::and_then, crate::specs::Reading::give))]
 pub fn zone(alloc: Global, bytes: &[u8]) -> Result<((Text, u8), &[u8]), Stop>
     ensures { Gives (λ x. (x.0, x.1.now)) result (zone_at bytes.now) }
 {
@@ -185,7 +176,6 @@ pub fn zone(alloc: Global, bytes: &[u8]) -> Result<((Text, u8), &[u8]), Stop>
 }
 
 /// The object and the number of a replica that is removed.
-#[tactic(auto, unfolding(crate::specs::Rows::no_replica_at, crate::specs::Reading::and_then, crate::specs::Reading::give))]
 pub fn no_replica(bytes: &[u8]) -> Result<((u64, u32), &[u8]), Stop>
     ensures { Gives (λ x. (x.0, x.1.now)) result (no_replica_at bytes.now) }
 {
@@ -195,7 +185,6 @@ pub fn no_replica(bytes: &[u8]) -> Result<((u64, u32), &[u8]), Stop>
 }
 
 /// The item and the user of an entry that is removed.
-#[tactic(auto, unfolding(crate::specs::Rows::no_entry_at, crate::specs::Reading::and_then, crate::specs::Reading::give))]
 pub fn no_entry(bytes: &[u8]) -> Result<((ItemKind, u64, u32), &[u8]), Stop>
     ensures { Gives (λ x. (x.0, x.1.now)) result (no_entry_at bytes.now) }
 {
