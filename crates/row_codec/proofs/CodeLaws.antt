@@ -1,5 +1,5 @@
 -- The readers of bytes that stand for values.
-use Rattle.std.proofs.Common.{◌≡◌, ℕ, true, false, Bool, [], ◌∷◌, Some, refl}
+use Rattle.std.proofs.Common.{◌≡◌, true, false, Bool, Some, refl}
 use Rattle.grid_model.specs.Deltas.{code, code_if, flag, user_kind, item_kind, has_entries, entry_kind, level, is_given, resource_kind}
 use Rattle.grid_model.specs.declared.grid.UserKind.{UserKind}
 use Rattle.grid_model.specs.declared.grid.UserKind.TheVariants.{Rodsadmin, Rodsuser, Rodsgroup}
@@ -13,7 +13,6 @@ use Rattle.row_codec.specs.declared.tags.MarkTag.{MarkTag}
 use Rattle.row_codec.specs.declared.tags.MarkTag.TheVariants as mark
 use Rattle.row_codec.specs.declared.tags.Tag.{Tag}
 use Rattle.row_codec.specs.declared.tags.Tag.TheVariants as tag
-use Rattle.row_codec.specs.declared.tags.EntryKind.{EntryKind}
 use Rattle.row_codec.specs.Codes.{all_flags, all_user_kinds, all_item_kinds, all_entry_kinds, all_levels, all_resource_kinds, all_marks, all_tags, known_flag, known_user_kind, known_item_kind, entry_kind_number, known_entry_kind, known_level, known_resource_kind, mark_number, known_mark, tag_number, known_tag}
 use Rattle.row_codec.specs.Reading.{coded_at}
 use Rattle.row_codec.proofs.ReaderLaws.{IsPart}

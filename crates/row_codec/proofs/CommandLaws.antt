@@ -1,5 +1,5 @@
 -- The readers of what a command has that is not done.
-use Rattle.std.proofs.Common.{◌≡◌, ℕ, true, false, Bool, List, [], ◌∷◌, ◌++◌, Option, Some, None, Ok, refl, ap, sym, subst, ◌∙◌}
+use Rattle.std.proofs.Common.{◌≡◌, ℕ, true, false, Bool, List, [], ◌∷◌, ◌++◌, Option, Some, None, Ok, refl, subst}
 use Rattle.grid_model.specs.Names.{Text}
 use Rattle.grid_model.specs.Deltas.{Part, all_fit, joined, whole, code, flag, u8, u64, digest, each, call, bad_replica, mark, passed, running, pending}
 use Rattle.grid_model.specs.declared.calls.Call.{Call}
@@ -9,7 +9,6 @@ use Rattle.grid_model.specs.declared.marks.Mark.TheVariants as marks
 use Rattle.row_codec.specs.declared.tags.MarkTag.{MarkTag}
 use Rattle.row_codec.specs.declared.tags.MarkTag.TheVariants as tags
 use Rattle.row_codec.specs.Codes.{mark_number}
-use Rattle.row_codec.specs.Reading.{give}
 use Rattle.row_codec.specs.Rows.{call_at, bad_at, ran_at, fault_at, bad_read_at, mark_of, mark_at, passed_at, running_if, running_at, pending_at}
 use Rattle.row_codec.proofs.ReaderLaws.{IsPart, IsRow, Any, IsRow-then, IsRow-give, IsPart-whole, Behind, Arm, arm, lone_arm, behind, IsRow-behind}
 use Rattle.row_codec.proofs.FieldLaws.{byte_part, u32_part, u64_part, digest_part}

@@ -1,7 +1,7 @@
 -- The readers of changes, each behind its tag.
-use Rattle.std.proofs.Common.{◌≡◌, ℕ, true, List, [], ◌∷◌, ◌++◌, Ok, refl, ap, subst}
+use Rattle.std.proofs.Common.{◌≡◌, ℕ, true, List, ◌∷◌, ◌++◌, Ok, refl, ap, subst}
 use Rattle.grid_model.specs.Names.{Text}
-use Rattle.grid_model.specs.Deltas.{Part, all_fit, joined, code, u8, u32, u64, text, text_of, is_rule_byte, entry_kind, user_row, member_row, collection_row, object_row, replica_row, triple_row, entry_row, resource_row, orphan_row, numbers, pending, parts_of, delta_fits, spelling}
+use Rattle.grid_model.specs.Deltas.{Part, all_fit, joined, code, parts_of, delta_fits, spelling}
 use Rattle.grid_model.specs.declared.grid.ItemKind.{ItemKind}
 use Rattle.grid_model.specs.declared.deltas.UserRow.{UserRow}
 use Rattle.grid_model.specs.declared.deltas.MemberRow.{MemberRow}

@@ -1,18 +1,16 @@
 -- The readers of fields.
-use Rattle.std.proofs.Common.{◌≡◌, ℕ, zero, suc, ◌+◌, ◌-◌, ◌^◌, ◌<◌, ◌≤◌, true, false, Bool, cond, eqb, ltb, List, [], ◌∷◌, ◌++◌, length, get_or, take, drop, Option, Some, None, Result, Ok, Err, refl, sym, ap, subst, ◌∙◌, append_assoc, arith}
-use Rattle.std.specs.Prelude.{◌&&◌, not, replicate}
-use Rattle.std.specs.List.{list_all, find, prefix_len, flat_map}
+use Rattle.std.proofs.Common.{◌≡◌, ℕ, zero, suc, ◌-◌, ◌^◌, ◌<◌, ◌≤◌, true, false, Bool, cond, eqb, ltb, List, [], ◌∷◌, ◌++◌, length, get_or, take, drop, Option, Some, None, Ok, Err, refl, sym, ap, subst, ◌∙◌, arith}
+use Rattle.std.specs.Prelude.{replicate}
+use Rattle.std.specs.List.{list_all, find}
 use Rattle.std.specs.Int.{w32, w64, byte_at as byte_of, bytes_high_first, from_be_bytes, to_be_bytes}
-use Rattle.std.proofs.lemmas.Bool.{and_parts, and_from, ltb-true, ltb-false, lt-ltb, le-ltb, eqb-true, eq-eqb, ne_eqb, cond-true, cases_Bool}
+use Rattle.std.proofs.lemmas.Bool.{and_parts, and_from, ltb-true, ltb-false, lt-ltb, le-ltb, eqb-true, eq-eqb}
 use Rattle.std.proofs.lemmas.List.{append-nil, length-append, length-take, length-replicate, take-append-drop, take_at, drop_at}
 use Rattle.std.proofs.lemmas.Nat.{be_bytes_4, be_bytes_8, from_be_bytes-to_be_bytes_4, from_be_bytes-to_be_bytes_8, mod_below}
 use Rattle.grid_model.specs.Names.{Text}
-use Rattle.grid_model.specs.Deltas.{Part, all_fit, joined, is_byte, is_shown_byte, is_rule_byte, u8, u32, u64, four_bytes, eight_bytes, code_if, digest, text_of, each}
-use Rattle.row_codec.specs.declared.fields.Alphabet.{Alphabet}
-use Rattle.row_codec.specs.declared.fields.Alphabet.TheVariants.{Shown, Rules}
+use Rattle.grid_model.specs.Deltas.{is_byte, u8, u32, u64, four_bytes, eight_bytes, code_if, digest}
 use Rattle.row_codec.specs.Codes.{known_in}
-use Rattle.row_codec.specs.Reading.{Read, bind, and_then, give, byte_at, fixed_at, u32_at, u64_at, known_or, coded_at, is_allowed, chars_at, text_at, many_at, list_at}
-use Rattle.row_codec.proofs.ReaderLaws.{IsBytes, IsBytes-behind, IsBytes-front, IsBytes-append, StopsAt, Law, bind_ok, ok_is, Law-refit, Law-map, Law-then, IsPart, IsRow, Any}
+use Rattle.row_codec.specs.Reading.{Read, bind, and_then, give, byte_at, fixed_at, u32_at, u64_at, known_or, coded_at}
+use Rattle.row_codec.proofs.ReaderLaws.{IsBytes, IsBytes-front, IsBytes-append, StopsAt, Law, ok_is, Law-refit, Law-map, IsPart}
 
 -- ---- a byte
 

@@ -1,5 +1,5 @@
 -- The readers of lists and texts.
-use Rattle.std.proofs.Common.{◌≡◌, ℕ, zero, suc, ◌+◌, ◌-◌, ◌^◌, ◌<◌, true, false, Bool, cond, eqb, ltb, List, [], ◌∷◌, ◌++◌, length, take, drop, Option, Some, None, Ok, Err, refl, sym, ap, subst, ◌∙◌, append_assoc, arith}
+use Rattle.std.proofs.Common.{◌≡◌, ℕ, zero, suc, ◌+◌, ◌-◌, ◌^◌, true, false, Bool, cond, eqb, ltb, List, [], ◌∷◌, ◌++◌, length, take, drop, Option, Some, None, Ok, Err, refl, sym, ap, subst, ◌∙◌, arith}
 use Rattle.std.specs.Prelude.{◌&&◌}
 use Rattle.std.specs.List.{list_all, prefix_len, flat_map}
 use Rattle.std.proofs.lemmas.Bool.{and_parts, and_from, eqb-true, eqb-false, eq-eqb, ne_eqb, cond-true}
@@ -8,7 +8,7 @@ use Rattle.grid_model.specs.Deltas.{Part, all_fit, joined, eight_bytes, is_shown
 use Rattle.row_codec.specs.declared.fields.Alphabet.{Alphabet}
 use Rattle.row_codec.specs.declared.fields.Alphabet.TheVariants.{Shown, Rules}
 use Rattle.row_codec.specs.Reading.{Read, bind, and_then, give, u64_at, known_or, coded_at, is_allowed, chars_at, text_at, many_at, list_at}
-use Rattle.row_codec.proofs.ReaderLaws.{IsBytes, StopsAt, Law, ok_is, Law-refit, Law-map, Law-then, IsPart, IsRow, Any}
+use Rattle.row_codec.proofs.ReaderLaws.{Law, ok_is, Law-refit, Law-map, Law-then, IsPart, IsRow, Any}
 use Rattle.row_codec.proofs.FieldLaws.{coded_law, u64_part}
 
 -- ---- so many members

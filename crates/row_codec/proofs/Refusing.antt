@@ -1,9 +1,9 @@
 -- What a call of the reader of changes answered, as the answer of the whole.
-use Rattle.std.proofs.Common.{◌≡◌, ℕ, suc, ◌-◌, ◌<◌, ◌≤◌, true, false, eqb, List, [], ◌∷◌, ◌++◌, length, get_or, Ok, Err, refl, sym, ap, subst, ◌∙◌, append_assoc, arith}
+use Rattle.std.proofs.Common.{◌≡◌, ℕ, ◌-◌, ◌<◌, true, false, eqb, List, [], ◌∷◌, ◌++◌, length, get_or, Ok, sym, ap, subst, ◌∙◌, append_assoc}
 use Rattle.std.proofs.lemmas.Bool.{eqb-true}
 use Rattle.std.proofs.lemmas.List.{append-nil, nil_from_length}
 use Rattle.grid_model.specs.Names.{Text}
-use Rattle.grid_model.specs.Deltas.{delta_fits, spelling, SpellsDeltas}
+use Rattle.grid_model.specs.Deltas.{spelling, SpellsDeltas}
 use Rattle.grid_model.specs.Places.{IsRefusedAt}
 use Rattle.grid_model.specs.declared.deltas.Delta.{Delta}
 use Rattle.row_codec.specs.declared.stop.Stop.{Stop}

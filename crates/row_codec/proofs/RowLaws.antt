@@ -1,26 +1,19 @@
 -- The readers of rows, and of what a command has that is not done.
-use Rattle.std.proofs.Common.{◌≡◌, ℕ, true, false, Bool, List, [], ◌∷◌, Option, Some, None, Ok, refl, ap, sym, subst, ◌∙◌}
+use Rattle.std.proofs.Common.{◌≡◌, ℕ, true, List, [], ◌∷◌, refl, sym, subst}
 use Rattle.std.proofs.lemmas.Bool.{and_parts, and_from}
 use Rattle.std.proofs.lemmas.List.{append-nil}
 use Rattle.grid_model.specs.Names.{Text}
-use Rattle.grid_model.specs.Deltas.{Part, all_fit, joined, whole, code, flag, u8, u32, u64, text, digest, is_rule_byte, text_of, each, entry_kind, user_row, member_row, collection_row, object_row, replica_row, triple_row, entry_row, resource_row, orphan_row, numbers, call, bad_replica, mark, passed, running, pending}
+use Rattle.grid_model.specs.Deltas.{Part, all_fit, u8, u32, u64, text, is_rule_byte, text_of, entry_kind, user_row, member_row, collection_row, object_row, replica_row, triple_row, entry_row, resource_row, orphan_row, numbers}
 use Rattle.grid_model.specs.declared.grid.ItemKind.{ItemKind}
-use Rattle.grid_model.specs.declared.calls.Call.{Call}
-use Rattle.grid_model.specs.declared.marks.BadReplica.{BadReplica}
-use Rattle.grid_model.specs.declared.marks.Mark.{Mark}
-use Rattle.grid_model.specs.declared.marks.Mark.TheVariants as marks
 use Rattle.grid_model.specs.declared.deltas.EntryRow.{EntryRow}
 use Rattle.row_codec.specs.declared.fields.Alphabet.TheVariants.{Shown, Rules}
 use Rattle.row_codec.specs.declared.tags.EntryKind.{EntryKind}
-use Rattle.row_codec.specs.declared.tags.MarkTag.{MarkTag}
-use Rattle.row_codec.specs.declared.tags.MarkTag.TheVariants as tags
-use Rattle.row_codec.specs.Codes.{mark_number}
-use Rattle.row_codec.specs.Reading.{Read, and_then, give, u64_at, text_at}
-use Rattle.row_codec.specs.Rows.{user_at, member_at, collection_at, object_at, replica_at, triple_at, entry_at, resource_at, orphan_at, numbers_at, zone_at, no_replica_at, no_entry_at, call_at, bad_at, ran_at, fault_at, bad_read_at, mark_of, mark_at, passed_at, running_if, running_at, pending_at}
-use Rattle.row_codec.proofs.ReaderLaws.{Law, Law-refit, IsPart, IsRow, Any, IsRow-then, IsRow-give, IsPart-whole}
+use Rattle.row_codec.specs.Reading.{Read, u64_at, text_at}
+use Rattle.row_codec.specs.Rows.{user_at, member_at, collection_at, object_at, replica_at, triple_at, entry_at, resource_at, orphan_at, numbers_at, zone_at, no_replica_at, no_entry_at}
+use Rattle.row_codec.proofs.ReaderLaws.{Law, Law-refit, IsPart, IsRow, Any, IsRow-then, IsRow-give}
 use Rattle.row_codec.proofs.FieldLaws.{byte_part, u32_part, u64_part, digest_part}
-use Rattle.row_codec.proofs.ListLaws.{list_part, text_part}
-use Rattle.row_codec.proofs.CodeLaws.{flag_part, user_kind_part, item_kind_part, entry_kind_part, level_part, resource_kind_part, mark_part}
+use Rattle.row_codec.proofs.ListLaws.{text_part}
+use Rattle.row_codec.proofs.CodeLaws.{flag_part, user_kind_part, item_kind_part, entry_kind_part, level_part, resource_kind_part}
 
 -- a part alone
 alone : {A : Type 0} {p : Text → Read A} {part : A → Part} → IsPart p part → IsRow p Any (λ a. part a ∷ [])

@@ -1,6 +1,5 @@
 -- Lists of changes: what their spellings have in common, and where bytes stop being one.
-use Rattle.std.proofs.Common.{◌≡◌, ℕ, suc, ◌+◌, ◌-◌, ◌<◌, ◌≤◌, true, Bool, List, [], ◌∷◌, ◌++◌, length, get_or, take, Ok, Err, refl, sym, ap, subst, ◌∙◌, append_assoc, length-append, arith}
-use Rattle.std.specs.Prelude.{◌&&◌}
+use Rattle.std.proofs.Common.{◌≡◌, ℕ, suc, ◌+◌, ◌-◌, ◌<◌, ◌≤◌, true, List, [], ◌∷◌, ◌++◌, length, get_or, take, Ok, Err, refl, sym, ap, subst, ◌∙◌, append_assoc, length-append, arith}
 use Rattle.std.specs.List.{list_all, flat_map}
 use Rattle.std.proofs.lemmas.Bool.{and_parts, and_from, lt-ltb}
 use Rattle.std.proofs.lemmas.List.{append-nil, take_at}
@@ -9,9 +8,9 @@ use Rattle.grid_model.specs.Names.{Text}
 use Rattle.grid_model.specs.Deltas.{is_byte, delta_fits, spelling, SpellsDeltas}
 use Rattle.grid_model.specs.Places.{Begins, IsRefusedAt}
 use Rattle.grid_model.specs.declared.deltas.Delta.{Delta}
-use Rattle.row_codec.specs.Reading.{Read, bind, and_then, coded_at}
+use Rattle.row_codec.specs.Reading.{Read, and_then, coded_at}
 use Rattle.row_codec.specs.Rows.{delta_at}
-use Rattle.row_codec.proofs.ReaderLaws.{IsBytes, IsBytes-behind, StopsAt, ok_is}
+use Rattle.row_codec.proofs.ReaderLaws.{IsBytes, StopsAt, ok_is}
 use Rattle.row_codec.proofs.DeltaLaws.{delta_law}
 
 -- all of them have a spelling

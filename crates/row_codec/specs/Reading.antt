@@ -1,9 +1,9 @@
 -- Readers of the parts of a spelling, as functions on lists.
-use Rattle.std.specs.Prelude.{◌≡◌, ℕ, zero, suc, ◌-◌, ◌^◌, Bool, true, false, List, [], ◌∷◌, length, take, drop, Option, Some, None, Result, Ok, Err, nat_lt, ◌==◌, if◌then◌else◌}
+use Rattle.std.specs.Prelude.{◌≡◌, ℕ, zero, suc, ◌-◌, Bool, List, [], ◌∷◌, length, take, drop, Option, Some, None, Result, Ok, Err, nat_lt, ◌==◌, if◌then◌else◌}
 use Rattle.std.specs.List.{prefix_len}
 use Rattle.std.specs.Int.{w32, w64, from_be_bytes}
 use Rattle.grid_model.specs.Names.{Text}
-use Rattle.grid_model.specs.Deltas.{is_byte, is_shown_byte, is_rule_byte}
+use Rattle.grid_model.specs.Deltas.{is_shown_byte, is_rule_byte}
 use Rattle.row_codec.specs.declared.stop.Stop.{Stop}
 use Rattle.row_codec.specs.declared.stop.Stop.TheVariants.{Memory, Broken}
 use Rattle.row_codec.specs.declared.fields.Alphabet.{Alphabet}

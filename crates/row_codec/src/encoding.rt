@@ -3,6 +3,7 @@ ghost use Rattle.std.specs.List.{list_all};
 ghost use Rattle.grid_model.specs.Deltas.{delta_fits, SpellsDeltas};
 
 use crate::put_deltas::put_delta;
+use crate::room::room_for;
 use grid_model::{Bytes, Deltas};
 use std::alloc::{AllocError, Global};
 
@@ -18,8 +19,9 @@ pub fn encode(alloc: Global, deltas: &Deltas) -> Result<Bytes, AllocError>
     ensures spells { IfOk result (λ bytes. SpellsDeltas bytes deltas.now) }
     ensures short { IfOk result (λ bytes. length bytes ≤ 2 ^ 62 - 16) }
 {
-    let mut out = Vec::new(alloc);
-    for delta in deltas.as_slice() {
+    let deltas = deltas.as_slice();
+    let mut out = Vec::with_capacity(alloc, room_for(deltas))?;
+    for delta in deltas {
         put_delta(&mut out, delta)?;
     }
     if out.len() > LONGEST {

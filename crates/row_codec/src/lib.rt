@@ -13,6 +13,7 @@ mod laws;
 mod put_deltas;
 mod putting;
 mod putting_rows;
+mod room;
 mod rows;
 mod stop;
 mod tags;

@@ -1,4 +1,4 @@
-use Rattle.std.proofs.Common.{◌≡◌, ◌∙◌, sym, arith}
+use Rattle.std.proofs.Common.{◌∙◌, sym, arith}
 use Rattle.row_codec.proofs.Spelled.{SpellsDeltas-unique}
 use Rattle.row_codec.proofs.Refusing.{stop_within, stop_refuses, taken, some_left, all_read}
 use Rattle.row_codec.proofs.decoding.decode.Goals as goal

@@ -3,4 +3,4 @@ use Rattle.row_codec.proofs.Spelled.{spellings}
 use Rattle.row_codec.proofs.encoding.encode.Given as goal
 
 abbrev pub invariant-loop-delta : goal.invariant-loop-delta
-invariant-loop-delta l = l.out.items ≡ spellings (take l.delta-index l.delta-items)
+invariant-loop-delta l = l.out.items ≡ spellings (take l.delta-index l.deltas-2)
