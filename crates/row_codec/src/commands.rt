@@ -1,3 +1,5 @@
+//! What a command has that is not done: marks, calls and refused recoveries, read and added.
+
 ghost use Rattle.std.specs.Prelude.{◌≡◌, [], ◌∷◌, ◌++◌, OnOk};
 ghost use Rattle.grid_model.specs.Deltas.{joined, text as text_part, bad_replica, call, passed, mark, running as running_part, pending as pending_row};
 ghost use Rattle.row_codec.specs.Reading.{Gives};
@@ -180,6 +182,7 @@ fn running(alloc: Global, bytes: &[u8]) -> Result<(Option<Call>, &[u8]), Stop>
     }
 }
 
+/// The command at the front that is not done, and the bytes behind it.
 #[tactic(auto, unfolding(crate::specs::Rows::pending_at, crate::specs::Reading::and_then, crate::specs::Reading::give))]
 pub fn pending(alloc: Global, bytes: &[u8]) -> Result<(Pending, &[u8]), Stop>
     ensures { Gives (λ x. (x.0, x.1.now)) result (pending_at bytes.now) }
@@ -205,6 +208,7 @@ pub fn pending(alloc: Global, bytes: &[u8]) -> Result<(Pending, &[u8]), Stop>
     Ok((pending, rest))
 }
 
+/// Adds a flag, and the call where there is one.
 fn put_running(out: &mut Vec<u8>, running: &Option<Call>) -> Result<(), AllocError>
     ensures { OnOk result (out.new.items ≡ out.old.items ++ (running_part running.now).bytes) }
 {
@@ -215,6 +219,7 @@ fn put_running(out: &mut Vec<u8>, running: &Option<Call>) -> Result<(), AllocErr
     }
 }
 
+/// Adds a command that is not done.
 pub fn put_pending(out: &mut Vec<u8>, row: &Pending) -> Result<(), AllocError>
     ensures { OnOk result (out.new.items ≡ out.old.items ++ joined (pending_row row.now)) }
 {

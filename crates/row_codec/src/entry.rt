@@ -24,6 +24,7 @@ pub trait Entry: Drop {
         ensures { OnOk result (out.new.items ≡ out.old.items ++ joined (parts self.now)) };
 }
 
+/// The list at the front, behind the number of its members, and the bytes behind it.
 #[tactic(auto, unfolding(crate::specs::Reading::list_at, crate::specs::Reading::and_then))]
 pub fn list<T: Entry>(alloc: Global, bytes: &[u8]) -> Result<(Items<T>, &[u8]), Stop>
     ensures { Gives (λ x. (x.0, x.1.now)) result (list_at T.read_at bytes.now) }
@@ -32,6 +33,7 @@ pub fn list<T: Entry>(alloc: Global, bytes: &[u8]) -> Result<(Items<T>, &[u8]), 
     members(alloc, count, rest)
 }
 
+/// So many members, and the bytes behind them. Memory is taken for each as it is read.
 fn members<T: Entry>(alloc: Global, count: u64, bytes: &[u8]) -> Result<(Items<T>, &[u8]), Stop>
     ensures { Gives (λ x. (x.0, x.1.now)) result (many_at T.read_at count bytes.now) }
 {
@@ -54,6 +56,7 @@ pub fn put_list<T: Entry>(out: &mut Vec<u8>, list: &Items<T>) -> Result<(), Allo
     put_members(out, members)
 }
 
+/// Adds the members, one behind the other.
 fn put_members<T: Entry>(out: &mut Vec<u8>, members: &[T]) -> Result<(), AllocError>
     ensures { OnOk result (out.new.items ≡ out.old.items ++ flat_map (λ x. joined (T.parts x)) members.now) }
 {

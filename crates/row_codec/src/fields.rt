@@ -17,6 +17,7 @@ pub enum Alphabet {
 }
 
 impl Alphabet {
+    /// Whether a text may have the byte.
     fn has(self, byte: u8) -> bool
         ensures { result ≡ is_allowed self byte }
     {
@@ -28,6 +29,7 @@ impl Alphabet {
     }
 }
 
+/// The byte at the front, and the bytes behind it.
 #[tactic(auto, unfolding(crate::specs::Reading::byte_at))]
 pub fn byte(bytes: &[u8]) -> Result<(u8, &[u8]), Stop>
     ensures { Gives (λ x. (x.0, x.1.now)) result (byte_at bytes.now) }
@@ -38,6 +40,7 @@ pub fn byte(bytes: &[u8]) -> Result<(u8, &[u8]), Stop>
     }
 }
 
+/// The number at the front, its greatest byte first, and the bytes behind it.
 #[tactic(auto, unfolding(crate::specs::Reading::u32_at))]
 pub fn u32_of(bytes: &[u8]) -> Result<(u32, &[u8]), Stop>
     ensures { Gives (λ x. (x.0, x.1.now)) result (u32_at bytes.now) }
@@ -48,6 +51,7 @@ pub fn u32_of(bytes: &[u8]) -> Result<(u32, &[u8]), Stop>
     }
 }
 
+/// The number at the front, its greatest byte first, and the bytes behind it.
 #[tactic(auto, unfolding(crate::specs::Reading::u64_at))]
 pub fn u64_of(bytes: &[u8]) -> Result<(u64, &[u8]), Stop>
     ensures { Gives (λ x. (x.0, x.1.now)) result (u64_at bytes.now) }
@@ -58,6 +62,7 @@ pub fn u64_of(bytes: &[u8]) -> Result<(u64, &[u8]), Stop>
     }
 }
 
+/// The 32 bytes of the digest at the front, and the bytes behind it.
 #[tactic(auto, unfolding(crate::specs::Reading::fixed_at))]
 pub fn hash_of(bytes: &[u8]) -> Result<(&[u8; 32], &[u8]), Stop>
     ensures { Gives (λ x. (x.0.now, x.1.now)) result (fixed_at 32 bytes.now) }
@@ -68,6 +73,7 @@ pub fn hash_of(bytes: &[u8]) -> Result<(&[u8; 32], &[u8]), Stop>
     }
 }
 
+/// The value that the byte at the front stands for, and the bytes behind it.
 #[tactic(auto, unfolding(crate::specs::Reading::coded_at))]
 pub fn coded<T: Coded>(bytes: &[u8]) -> Result<(T, &[u8]), Stop>
     ensures { Gives (λ x. (x.0, x.1.now)) result (coded_at T.known bytes.now) }
@@ -83,6 +89,7 @@ pub fn coded<T: Coded>(bytes: &[u8]) -> Result<(T, &[u8]), Stop>
     }
 }
 
+/// So many bytes of a text, and the bytes behind them. Of bytes that are fewer the first that may not stand there counts.
 #[tactic(auto, unfolding(crate::specs::Reading::chars_at))]
 fn chars(alloc: Global, alphabet: Alphabet, count: u64, bytes: &[u8]) -> Result<(Text, &[u8]), Stop>
     ensures { Gives (λ x. (x.0, x.1.now)) result (chars_at alphabet count bytes.now) }
@@ -106,6 +113,7 @@ fn good_front(alphabet: Alphabet, bytes: &[u8]) -> usize
     bytes.iter().take_while(|b| alphabet.has(**b)).count()
 }
 
+/// The text at the front, behind its length, and the bytes behind it.
 #[tactic(auto, unfolding(crate::specs::Reading::text_at, crate::specs::Reading::and_then))]
 pub fn text(alloc: Global, alphabet: Alphabet, bytes: &[u8]) -> Result<(Text, &[u8]), Stop>
     ensures { Gives (λ x. (x.0, x.1.now)) result (text_at alphabet bytes.now) }

@@ -20,6 +20,7 @@ pub fn put_delta(out: &mut Vec<u8>, delta: &Delta) -> Result<(), AllocError>
     put_body(out, delta)
 }
 
+/// Adds what stands behind the tag.
 fn put_body(out: &mut Vec<u8>, delta: &Delta) -> Result<(), AllocError>
     ensures { OnOk result (out.new.items ≡ out.old.items ++ joined (body delta.now)) }
 {

@@ -1,3 +1,5 @@
+//! Rows, added field by field.
+
 ghost use Rattle.std.specs.Prelude.{◌≡◌, ◌++◌, OnOk};
 ghost use Rattle.grid_model.specs.Deltas.{joined, user_row, member_row, collection_row, object_row, replica_row, triple_row, entry_row, resource_row, orphan_row, numbers};
 

@@ -32,6 +32,7 @@ fn variable(delta: &Delta) -> usize {
     }
 }
 
+/// Room for the texts and the members of a command that is not done.
 fn pending(row: &Pending) -> usize {
     let mut room = len(&row.line);
     for mark in row.marks.as_slice() {
@@ -48,6 +49,7 @@ fn pending(row: &Pending) -> usize {
         .map_or(room, |call| room.saturating_add(called(call)))
 }
 
+/// Room for a mark.
 fn marked(mark: &Mark) -> usize {
     match mark {
         Mark::Ran { bad, .. } => bad
@@ -59,12 +61,14 @@ fn marked(mark: &Mark) -> usize {
     }
 }
 
+/// Room for a refused recovery.
 fn refused(passed: &Passed) -> usize {
     called(&passed.call)
         .saturating_add(MEMBER)
         .saturating_add(len(&passed.failure))
 }
 
+/// Room for a call.
 fn called(call: &Call) -> usize {
     let mut room = len(&call.name).saturating_add(MEMBER);
     for arg in call.args.as_slice() {
@@ -73,6 +77,7 @@ fn called(call: &Call) -> usize {
     room
 }
 
+/// How many bytes a text has.
 fn len(text: &Text) -> usize {
     text.as_slice().len()
 }

@@ -1,3 +1,4 @@
+//! Rows at the front of bytes: each reader answers the row and the bytes behind it.
 #![tactic(auto, unfolding(crate::specs::Reading::and_then, crate::specs::Reading::give, crate::specs::Rows::user_at, crate::specs::Rows::member_at, crate::specs::Rows::collection_at, crate::specs::Rows::object_at, crate::specs::Rows::replica_at, crate::specs::Rows::triple_at, crate::specs::Rows::entry_at, crate::specs::Rows::resource_at, crate::specs::Rows::orphan_at, crate::specs::Rows::numbers_at, crate::specs::Rows::zone_at, crate::specs::Rows::no_replica_at, crate::specs::Rows::no_entry_at))]
 
 ghost use Rattle.std.specs.Prelude.{◌≡◌};
