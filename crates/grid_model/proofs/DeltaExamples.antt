@@ -1,5 +1,5 @@
 -- Spellings of changes, by computation.
-use Rattle.std.proofs.Common.{◌≡◌, [], ◌∷◌, refl}
+use Rattle.std.proofs.Common.{[], ◌∷◌, refl}
 use Rattle.grid_model.specs.Deltas.{SpellsDeltas, four_bytes, eight_bytes}
 use Rattle.grid_model.specs.declared.deltas.Delta.TheVariants.{NoPending, Member, Rules, Zone}
 

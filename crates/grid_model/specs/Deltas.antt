@@ -1,5 +1,5 @@
 -- The bytes that changes of the catalogue are kept as. The format is this project's own.
-use Rattle.std.specs.Prelude.{◌≡◌, ℕ, ◌^◌, Bool, true, false, not, ◌&&◌, ◌||◌, List, [], ◌∷◌, ◌++◌, Option, Some, None, IsTrue, length, flat_map, nat_le, nat_lt, ◌==◌, cond}
+use Rattle.std.specs.Prelude.{◌≡◌, ℕ, ◌^◌, Bool, true, false, not, ◌&&◌, ◌||◌, List, [], ◌∷◌, ◌++◌, Option, Some, None, IsTrue, length, flat_map, nat_le, nat_lt, ◌==◌}
 use Rattle.std.specs.List.{list_all}
 use Rattle.std.specs.Int.{w32, w64, to_be_bytes}
 use Rattle.grid_model.specs.Names.{Text}
@@ -49,12 +49,15 @@ whole parts = record { fits = all_fit parts; bytes = joined parts }
 
 -- ---- numbers, the greatest byte first
 
+-- a number of 32 bits
 unfoldable pub four_bytes : ℕ → Text
 four_bytes n = to_be_bytes w32 n
 
+-- a number of 64 bits
 unfoldable pub eight_bytes : ℕ → Text
 eight_bytes n = to_be_bytes w64 n
 
+-- a number of 8 bits
 abbrev pub is_byte : ℕ → Bool
 is_byte b = nat_lt b 256
 
