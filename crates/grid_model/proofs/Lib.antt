@@ -1,6 +1,7 @@
 pub mod DigestReading
 pub mod Below
 pub mod Comparing
+pub mod DeltaExamples
 pub mod Fronts
 pub mod GridExamples
 pub mod MapLemmas

@@ -1,6 +1,7 @@
 pub mod Catalogue
 pub mod Commands
 pub mod DataLines
+pub mod Deltas
 pub mod Digests
 pub mod Grid
 pub mod Inputs

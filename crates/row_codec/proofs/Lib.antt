@@ -1,0 +1,11 @@
+pub mod Adding
+pub mod CodeLaws
+pub mod CommandLaws
+pub mod DeltaLaws
+pub mod FieldLaws
+pub mod ReaderLaws
+pub mod ListLaws
+pub mod Loop
+pub mod Refusing
+pub mod RowLaws
+pub mod Spelled
