@@ -1,0 +1,11 @@
+//! Files of the vault, written, read and removed through the stores that a run was handed.
+#![tactic(auto)]
+
+mod fault;
+mod removal;
+mod write;
+
+pub use fault::Fault;
+pub use grid_model::{NewFile, OldFile};
+pub use removal::remove;
+pub use write::write_all;
