@@ -2,6 +2,8 @@
 #![tactic(auto)]
 
 mod fault;
+mod line;
+mod reading;
 mod removal;
 mod write;
 
