@@ -44,7 +44,7 @@ pub framed : (number count at data_at six front : ℕ) (buf counted worded whole
     → drop at counted ≡ decimal count ++ drop front (set (set buf (front + 1 + count) 0x0A) front 0x0A)
     → worded ≡ take data_at counted ++ (data_word ++ drop six (drop data_at counted))
     → (start : ℕ) → start + length (decimal number) ≡ data_at → drop start whole ≡ decimal number ++ drop data_at worded
-    → slice_range whole start (front + 2 + count) ≡ data_line number (take count (drop (front + 1) buf))
+    → slice_range whole start (front + 1 + count + 1) ≡ data_line number (take count (drop (front + 1) buf))
 framed number count at data_at six front buf counted worded whole room data_is six_is count_is within counts words start start_is numbers =
     let part : List ℕ = take count (drop (front + 1) buf) in
     let rest : List ℕ = drop (suc count) (drop (front + 1) buf) in
@@ -55,5 +55,5 @@ framed number count at data_at six front buf counted worded whole room data_is s
     let all : drop start whole ≡ data_line number part ++ rest =
         numbers ∙ ap (λ (xs : List ℕ). decimal number ++ drop data_at xs) words ∙ ap (λ (xs : List ℕ). decimal number ++ xs) (drop_changed data_at counted (data_word ++ drop six (drop data_at counted)) within)
         ∙ ap (λ (xs : List ℕ). decimal number ++ (data_word ++ xs)) behind ∙ line_is number part rest in
-    let size : front + 2 + count - start ≡ length (data_line number part) = omega (arith, length-data_line number part, ap (λ (n : ℕ). length (decimal n)) part_len) in
-    ap (λ (xs : List ℕ). take (front + 2 + count - start) xs) all ∙ ap (λ (k : ℕ). take k (data_line number part ++ rest)) size ∙ take-append_seam (data_line number part) rest
+    let size : front + 1 + count + 1 - start ≡ length (data_line number part) = omega (arith, length-data_line number part, ap (λ (n : ℕ). length (decimal n)) part_len) in
+    ap (λ (xs : List ℕ). take (front + 1 + count + 1 - start) xs) all ∙ ap (λ (k : ℕ). take k (data_line number part ++ rest)) size ∙ take-append_seam (data_line number part) rest

@@ -5,9 +5,12 @@ mod fault;
 mod line;
 mod reading;
 mod removal;
+mod sending;
+mod sent;
 mod write;
 
 pub use fault::Fault;
 pub use grid_model::{NewFile, OldFile};
 pub use removal::remove;
+pub use sent::{SendError, Sent};
 pub use write::write_all;

@@ -19,7 +19,7 @@ pub fn frame_part(buf: &mut [u8], number: u64, count: usize) -> usize
     requires room { length buf.old ≡ 65569 }
     requires count { count ≤ 65536 }
     ensures start { result ≤ 32 }
-    ensures line { slice_range buf.new result (33 + count) ≡ data_line number (take count (drop 32 buf.old)) }
+    ensures line { slice_range buf.new result (32 + count + 1) ≡ data_line number (take count (drop 32 buf.old)) }
 {
     buf[FRONT + count] = b'\n';
     buf[FRONT - 1] = b'\n';
