@@ -12,5 +12,6 @@ mod write;
 pub use fault::Fault;
 pub use grid_model::{NewFile, OldFile};
 pub use removal::remove;
+pub use sending::send;
 pub use sent::{SendError, Sent};
 pub use write::write_all;

@@ -33,7 +33,6 @@ fn put_part<K: Sink>(
         (K.sink sink.new).holds ≡ (K.sink sink.old).holds ++ data_lines number (take count (drop 32 buf.old))) }
     ensures count { IfOk result (λ n. n ≡ parts count) }
     ensures cause { OnErr result (Rose (K.sink sink.old).faults (K.sink sink.new).faults) }
-    ensures some { OnErr result (0 < count) }
     ensures drawn { moments.new ≡ moments.old + parts count }
 {
     if count == 0 {
@@ -59,7 +58,7 @@ fn answer_of(reader: FileReader, from: &OldFile, parts: u64) -> Sent
     }
 }
 
-// The same from one store, with a buffer that is handed in.
+// Sends a file of one store, with a buffer that is handed in.
 fn send_from<P: Plugin, K: Sink>(
     store: &mut P,
     moments: &mut Moments,
@@ -97,4 +96,82 @@ fn send_from<P: Plugin, K: Sink>(
             return Ok(answer_of(reader, from, parts));
         }
     }
+}
+
+// The same for stores of any one type.
+fn send_in<P: Plugin, K: Sink>(
+    alloc: Global,
+    stores: &mut Vec<P>,
+    moments: &mut Moments,
+    from: &OldFile,
+    number: u64,
+    sink: &mut K,
+) -> Result<Sent, SendError>
+    requires slot { from.now.slot < vec_len stores.old }
+    requires last { EachMember (λ k store. (P.plugin store).last ≤ moments.old) stores.old.items }
+    requires sink_last { (K.sink sink.old).last ≤ moments.old }
+    requires room { moments.old + parts from.now.size < 2 ^ 128 }
+    ensures sent { IfOk result (λ sent. AtSlot P.plugin from.now.slot stores.old.items (λ store.
+        Sends store moments.old moments.new from.now number (K.sink sink.old) (K.sink sink.new) sent)) }
+    ensures broken { IsErrOf result SendError.Sink → AtSlot P.plugin from.now.slot stores.old.items (λ store.
+        Breaks store moments.old moments.new from.now number (K.sink sink.old) (K.sink sink.new)) }
+    ensures unchanged { IsErrOf result SendError.Memory →
+        (sink.new ≡ sink.old) × (stores.new.items ≡ stores.old.items) × (moments.new ≡ moments.old) }
+    ensures any_moment { AllKeep P.plugin moments.old moments.new from.now.slot stores.old.items stores.new.items }
+    ensures last { EachMember (λ k store. (P.plugin store).last ≤ moments.new) stores.new.items }
+    ensures sink_last { (K.sink sink.new).last ≤ moments.new }
+    ensures fault { IfOk result (λ sent. OnFault sent (RoseAt P.plugin from.now.slot stores.old.items stores.new.items)) }
+    ensures cause { IsErrOf result SendError.Sink → Rose (K.sink sink.old).faults (K.sink sink.new).faults }
+    ensures drawn_from { moments.old ≤ moments.new }
+    ensures drawn { moments.new ≤ moments.old + parts from.now.size }
+{
+    let Ok(mut buf) = vec![in alloc; 0; ROOM] else {
+        return Err(SendError::Memory);
+    };
+    let slot = from.slot as usize;
+    match send_from(&mut stores[slot], moments, from, number, sink, &mut buf) {
+        Ok(sent) => Ok(sent),
+        Err(SinkFault) => Err(SendError::Sink),
+    }
+}
+
+/// Reads a file part by part and puts each part of at most 65,536 bytes on the sink as a data line of the reply to
+/// the request of this number. What was read is compared with the recorded size and digest.
+///
+/// A byte past the recorded size is read and not sent, and never more than 2^61 - 1 bytes are read. The slot is below
+/// the number of stores, and no device was given a moment past those drawn. Draws at most one moment for each part of
+/// the recorded size. Errors are `Memory`, which comes before any call of a device, and `Sink`, after which a first
+/// part of the data lines stands.
+pub fn send<K: Sink>(
+    alloc: Global,
+    stores: &mut Vec<Box<dyn Plugin>>,
+    moments: &mut Moments,
+    from: &OldFile,
+    number: u64,
+    sink: &mut K,
+) -> Result<Sent, SendError>
+    requires slot { from.now.slot < vec_len stores.old }
+    requires last { EachMember (λ k store. (⟦<Box<dyn Plugin> as Plugin>⟧.plugin store).last ≤ moments.old) stores.old.items }
+    requires sink_last { (K.sink sink.old).last ≤ moments.old }
+    requires room { moments.old + parts from.now.size < 2 ^ 128 }
+
+    // Which bytes were added to the sink, and what the answer says of them.
+    ensures sent { IfOk result (λ sent. AtSlot ⟦<Box<dyn Plugin> as Plugin>⟧.plugin from.now.slot stores.old.items (λ store.
+        Sends store moments.old moments.new from.now number (K.sink sink.old) (K.sink sink.new) sent)) }
+    ensures broken { IsErrOf result SendError.Sink → AtSlot ⟦<Box<dyn Plugin> as Plugin>⟧.plugin from.now.slot stores.old.items (λ store.
+        Breaks store moments.old moments.new from.now number (K.sink sink.old) (K.sink sink.new)) }
+    ensures unchanged { IsErrOf result SendError.Memory →
+        (sink.new ≡ sink.old) × (stores.new.items ≡ stores.old.items) × (moments.new ≡ moments.old) }
+
+    // At each moment each store has what it had.
+    ensures any_moment { AllKeep ⟦<Box<dyn Plugin> as Plugin>⟧.plugin moments.old moments.new from.now.slot stores.old.items stores.new.items }
+    ensures last { EachMember (λ k store. (⟦<Box<dyn Plugin> as Plugin>⟧.plugin store).last ≤ moments.new) stores.new.items }
+    ensures sink_last { (K.sink sink.new).last ≤ moments.new }
+
+    ensures fault { IfOk result (λ sent. OnFault sent (RoseAt ⟦<Box<dyn Plugin> as Plugin>⟧.plugin from.now.slot stores.old.items stores.new.items)) }
+    ensures cause { IsErrOf result SendError.Sink → Rose (K.sink sink.old).faults (K.sink sink.new).faults }
+    ensures drawn_from { moments.old ≤ moments.new }
+    ensures drawn { moments.new ≤ moments.old + parts from.now.size }
+{
+    send_in(alloc, stores, moments, from, number, sink)
 }
