@@ -26,7 +26,7 @@ parts-append (suc k) (suc d) (suc e) f (b ∷ bytes) more size one two three =
     let long : 65536 ≤ length (b ∷ bytes) = omega arith in
     let rest : drop 65536 (b ∷ (bytes ++ more)) ≡ drop 65536 (b ∷ bytes) ++ more = drop-append-le 65536 (b ∷ bytes) more long in
     let next : parts_within d (drop 65536 (b ∷ (bytes ++ more))) ≡ parts_within e (drop 65536 (b ∷ bytes)) ++ parts_within f more =
-        ap (parts_within d) rest ∙ parts-append k d e f (drop 65536 (b ∷ bytes)) more (omega (arith, length-drop 65536 (b ∷ bytes))) (omega (arith, length-drop 65536 (b ∷ bytes), length-append (drop 65536 (b ∷ bytes)) more, length-append bytes more)) (omega (arith, length-drop 65536 (b ∷ bytes))) three in
+    ap (parts_within d) rest ∙ parts-append k d e f (drop 65536 (b ∷ bytes)) more (omega (arith, length-drop 65536 (b ∷ bytes))) (omega (arith, length-drop 65536 (b ∷ bytes), length-append (drop 65536 (b ∷ bytes)) more, length-append bytes more)) (omega (arith, length-drop 65536 (b ∷ bytes))) three in
     ap (λ (ps : List (List ℕ)). take 65536 (b ∷ (bytes ++ more)) ∷ ps) next ∙ ap (λ (p : List ℕ). p ∷ (parts_within e (drop 65536 (b ∷ bytes)) ++ parts_within f more)) (take-append-le 65536 (b ∷ bytes) more long)
 
 pub data_lines-append : (n k : ℕ) (bytes more : List ℕ) → length bytes ≡ k * 65536 → data_lines n (bytes ++ more) ≡ data_lines n bytes ++ data_lines n more

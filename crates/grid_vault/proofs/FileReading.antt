@@ -38,10 +38,11 @@ module _ (name at count given : ℕ) (files : Files) (buf chunk tail : List ℕ)
       let same : read.file ≡ file = same_file files name read.file file read.is is in
       let before = so_far file is in
       let P : File → Type 0 = λ f. (given ≤ length f.bytes - (at + count)) × (take given chunk ≡ take given (drop (at + count) f.bytes)) in
-      let now : P file = subst P same (read.within, read.part) in
-      (omega (arith, before.0, now.0),
-       joined count given buf chunk tail within more ∙ ap (λ (xs : List ℕ). xs ++ take given chunk) before.1 ∙ ap (λ (xs : List ℕ). take count (drop at file.bytes) ++ xs) (now.1 ∙ ap (λ (xs : List ℕ). take given xs) (sym (drop-drop count at file.bytes)))
-       ∙ sym (take-add count given (drop at file.bytes)))
+      let now : P file = subst P same (read.within, read.part) in (
+        omega (arith, before.0, now.0),
+        joined count given buf chunk tail within more ∙ ap (λ (xs : List ℕ). xs ++ take given chunk) before.1 ∙ ap (λ (xs : List ℕ). take count (drop at file.bytes) ++ xs) (now.1 ∙ ap (λ (xs : List ℕ). take given xs) (sym (drop-drop count at file.bytes)))
+            ∙ sym (take-add count given (drop at file.bytes)),
+      )
 
   -- and nothing is left, or there is no more room
   pub part_whole : length chunk ≡ length buf - count → (given ≡ 0) ⊎ (count + given ≡ length buf) → length (take count buf ++ (chunk ++ tail)) ≡ length buf → GivesPart name at (count + given) files (take count buf ++ (chunk ++ tail))

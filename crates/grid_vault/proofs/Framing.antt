@@ -50,10 +50,10 @@ framed number count at data_at six front buf counted worded whole room data_is s
     let rest : List ℕ = drop (suc count) (drop (front + 1) buf) in
     let part_len : length part ≡ count = length-take-le count (drop (front + 1) buf) (omega (arith, length-drop (front + 1) buf)) in
     let behind : drop six (drop data_at counted) ≡ decimal (length part) ++ (0x0A ∷ (part ++ (0x0A ∷ rest))) =
-        drop-drop six data_at counted ∙ ap (λ (k : ℕ). drop k counted) (omega arith) ∙ counts ∙ ap (λ (xs : List ℕ). decimal count ++ xs) (newlines buf front count room)
-        ∙ ap (λ (n : ℕ). decimal n ++ (0x0A ∷ (part ++ (0x0A ∷ rest)))) (sym part_len) in
+    drop-drop six data_at counted ∙ ap (λ (k : ℕ). drop k counted) (omega arith) ∙ counts ∙ ap (λ (xs : List ℕ). decimal count ++ xs) (newlines buf front count room)
+    ∙ ap (λ (n : ℕ). decimal n ++ (0x0A ∷ (part ++ (0x0A ∷ rest)))) (sym part_len) in
     let all : drop start whole ≡ data_line number part ++ rest =
-        numbers ∙ ap (λ (xs : List ℕ). decimal number ++ drop data_at xs) words ∙ ap (λ (xs : List ℕ). decimal number ++ xs) (drop_changed data_at counted (data_word ++ drop six (drop data_at counted)) within)
-        ∙ ap (λ (xs : List ℕ). decimal number ++ (data_word ++ xs)) behind ∙ line_is number part rest in
+    numbers ∙ ap (λ (xs : List ℕ). decimal number ++ drop data_at xs) words ∙ ap (λ (xs : List ℕ). decimal number ++ xs) (drop_changed data_at counted (data_word ++ drop six (drop data_at counted)) within)
+    ∙ ap (λ (xs : List ℕ). decimal number ++ (data_word ++ xs)) behind ∙ line_is number part rest in
     let size : front + 1 + count + 1 - start ≡ length (data_line number part) = omega (arith, length-data_line number part, ap (λ (n : ℕ). length (decimal n)) part_len) in
     ap (λ (xs : List ℕ). take (front + 1 + count + 1 - start) xs) all ∙ ap (λ (k : ℕ). take k (data_line number part ++ rest)) size ∙ take-append_seam (data_line number part) rest

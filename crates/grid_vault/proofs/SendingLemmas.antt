@@ -78,9 +78,10 @@ take_both m given count buf is = elim (cases_lt m given) [
 front_more : (sent buf : List ℕ) (given k : ℕ) (file : File) → IsFront sent file → given ≤ length file.bytes - length sent → take given buf ≡ take given (drop (length sent) file.bytes) → k ≤ given → given ≤ length buf → IsFront (sent ++ take k buf) file
 front_more sent buf given k file front within part le room =
     let size : length (sent ++ take k buf) ≡ length sent + k = omega (arith, length-append sent (take k buf), length-take-le k buf (omega arith)) in
-    let piece : take k buf ≡ take k (drop (length sent) file.bytes) = sym (take-take k given buf le) ∙ ap (λ (xs : List ℕ). take k xs) part ∙ take-take k given (drop (length sent) file.bytes) le in
-    (omega (arith, size, front.0, within, le),
-     ap (λ (xs : List ℕ). sent ++ xs) piece ∙ ap (λ (xs : List ℕ). xs ++ take k (drop (length sent) file.bytes)) front.1 ∙ sym (take-add (length sent) k file.bytes) ∙ ap (λ (n : ℕ). take n file.bytes) (sym size))
+    let piece : take k buf ≡ take k (drop (length sent) file.bytes) = sym (take-take k given buf le) ∙ ap (λ (xs : List ℕ). take k xs) part ∙ take-take k given (drop (length sent) file.bytes) le in (
+      omega (arith, size, front.0, within, le),
+      ap (λ (xs : List ℕ). sent ++ xs) piece ∙ ap (λ (xs : List ℕ). xs ++ take k (drop (length sent) file.bytes)) front.1 ∙ sym (take-add (length sent) k file.bytes) ∙ ap (λ (n : ℕ). take n file.bytes) (sym size),
+    )
 
 module _ (store : StoreState) (from now : ℕ) (recorded : OldFile) (number : ℕ) (old mid : SinkState) (reader : FileReader) (count : ℕ) (so_far : SentSoFar store from now recorded number old mid reader count) where
   -- no part more was read

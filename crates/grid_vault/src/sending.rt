@@ -11,7 +11,7 @@ use crate::line::{FRONT, PART, frame_part};
 use crate::reading::FileReader;
 use crate::{OldFile, SendError, Sent};
 use grid_outside::{Moments, Plugin, Sink, SinkFault, StoreFault};
-use std::alloc::Global;
+use std::alloc::{AllocError, Global};
 
 // A part with room for the words in front of it, and for one byte behind it.
 const ROOM: usize = FRONT + PART + 1;
@@ -98,6 +98,12 @@ fn send_from<P: Plugin, K: Sink>(
     }
 }
 
+fn part_buffer(alloc: Global) -> Result<Vec<u8>, AllocError>
+    ensures { IfOk result (λ buf. vec_len buf ≡ 65569) }
+{
+    Ok(vec![in alloc; 0; ROOM]?)
+}
+
 // The same for stores of any one type.
 fn send_in<P: Plugin, K: Sink>(
     alloc: Global,
@@ -125,7 +131,7 @@ fn send_in<P: Plugin, K: Sink>(
     ensures drawn_from { moments.old ≤ moments.new }
     ensures drawn { moments.new ≤ moments.old + parts from.now.size }
 {
-    let Ok(mut buf) = vec![in alloc; 0; ROOM] else {
+    let Ok(mut buf) = part_buffer(alloc) else {
         return Err(SendError::Memory);
     };
     let slot = from.slot as usize;

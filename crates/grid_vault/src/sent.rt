@@ -7,7 +7,10 @@ pub enum Sent {
     /// What was sent has the recorded size and digest.
     Whole,
     /// A call of the store in this slot failed, after so many data lines.
-    Fault { slot: u8, parts: u64 },
+    Fault {
+        slot: u8,
+        parts: u64,
+    },
     /// The file is not what is recorded: so many of its bytes were read, at most one more than recorded, they have
     /// this digest, and so many data lines were sent.
     Bad {
