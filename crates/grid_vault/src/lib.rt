@@ -7,6 +7,8 @@ mod reading;
 mod removal;
 mod sending;
 mod sent;
+#[cfg(test)]
+mod tests;
 mod write;
 
 pub use fault::Fault;
@@ -15,3 +17,6 @@ pub use removal::remove;
 pub use sending::send;
 pub use sent::{SendError, Sent};
 pub use write::write_all;
+
+// How many bytes of a file are written, read or sent at once.
+const PART: usize = 65_536;

@@ -3,9 +3,6 @@ ghost use Rattle.grid_model.specs.DataLines.{data_line};
 
 use itoa::write_digits;
 
-/// How many bytes of a file are sent at once.
-pub const PART: usize = 65_536;
-
 /// Room for the words of a data line: a number of at most 20 digits, a count of at most 5, and what stands between
 /// and behind them.
 pub const FRONT: usize = 32;

@@ -4,8 +4,7 @@ ghost use Rattle.grid_outside.specs.Device.{Looks};
 ghost use Rattle.grid_outside.specs.Fault.{HasCause};
 ghost use Rattle.grid_vault.specs.Reading.{GivesPart, ReadsOn, IsAsRecorded, Differs};
 
-use crate::OldFile;
-use crate::line::PART;
+use crate::{OldFile, PART};
 use grid_model::Digest;
 use grid_outside::{Plugin, StoreFault};
 use sha2::{Digest as Hash, Sha256};

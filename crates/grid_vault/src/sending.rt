@@ -7,9 +7,9 @@ ghost use Rattle.grid_vault.specs.Vault.{RoseAt};
 ghost use Rattle.grid_vault.specs.Reading.{IsAsRecorded};
 ghost use Rattle.grid_vault.specs.Sending.{Puts, Sends, Breaks, OnFault, AtSlot, AllKeep, SaysOf};
 
-use crate::line::{FRONT, PART, frame_part};
+use crate::line::{FRONT, frame_part};
 use crate::reading::FileReader;
-use crate::{OldFile, SendError, Sent};
+use crate::{OldFile, PART, SendError, Sent};
 use grid_outside::{Moments, Plugin, Sink, SinkFault, StoreFault};
 use std::alloc::{AllocError, Global};
 

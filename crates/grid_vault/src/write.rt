@@ -6,12 +6,9 @@ ghost use Rattle.grid_model.specs.DataLines.{parts};
 ghost use Rattle.grid_vault.specs.Vault.{WritesOnly, HasSlot, RoseAt, IsStableAt};
 ghost use Rattle.grid_vault.specs.Write.{Extends};
 
-use crate::{Fault, NewFile};
+use crate::{Fault, NewFile, PART};
 use grid_model::NewFiles;
 use grid_outside::{Moments, Plugin, StoreFault};
-
-// How many bytes are written at once.
-const PART: usize = 65_536;
 
 // Appends the bytes to a file that was begun, in parts.
 fn append_all<P: Plugin>(
