@@ -1,5 +1,5 @@
 -- How the reading of a file goes on.
-use Rattle.std.proofs.Common.{◌≡◌, ℕ, ◌+◌, ◌-◌, ◌<◌, ◌≤◌, List, [], ◌++◌, length, take, drop, IsTrue, Some, arith, refl, sym, subst, ap, ◌∙◌}
+use Rattle.std.proofs.Common.{◌≡◌, ℕ, ◌+◌, ◌-◌, ◌≤◌, List, ◌++◌, length, take, drop, IsTrue, Some, arith, refl, sym, subst, ap, ◌∙◌}
 use Rattle.std.proofs.Common.{◌⊎◌, inl, inr, take-add}
 use Rattle.std.proofs.Math.Seq.{take-append-add}
 use Rattle.std.proofs.lemmas.List.{length-take-le, take-append-le, drop-drop}

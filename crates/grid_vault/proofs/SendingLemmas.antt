@@ -1,17 +1,16 @@
 -- How a file is sent part by part.
-use Rattle.std.proofs.Common.{◌≡◌, ◌⊎◌, inl, inr, ℕ, ◌+◌, ◌-◌, ◌*◌, ◌^◌, ◌<◌, ◌≤◌, Bool, true, false, IsTrue, List, [], ◌++◌, Some, min, length, take, drop, arith, refl, sym, subst, ap, ◌∙◌, length-append, take-add, Result, Ok, Err, OnErr}
+use Rattle.std.proofs.Common.{◌≡◌, inl, inr, ℕ, ◌+◌, ◌-◌, ◌*◌, ◌^◌, ◌<◌, ◌≤◌, true, false, IsTrue, List, [], ◌++◌, Some, min, length, take, drop, arith, refl, sym, subst, ap, ◌∙◌, length-append, take-add, Result, Ok, Err, OnErr}
 use Rattle.std.proofs.Math.Seq.{take-append-add}
 use Rattle.std.proofs.lemmas.List.{take-take, take_all, length-take, length-take-le, append-nil, take-append-le}
 use Rattle.std.proofs.lemmas.Bool.{cases_lt}
 use Rattle.sha2.specs.Hashers.{Holds256}
-use Rattle.sha2.specs.Sha256.{sha256}
 use Rattle.grid_outside.specs.Device.{Looks}
 use Rattle.grid_outside.specs.Files.{File, Files, StoreState, file_at}
 use Rattle.grid_outside.specs.Sink.{SinkState}
 use Rattle.grid_model.specs.DataLines.{data_lines, parts}
 use Rattle.grid_model.specs.declared.plans.OldFile.{OldFile}
 use Rattle.grid_vault.specs.Reading.{IsPartOf, ReadsOn, IsAsRecorded}
-use Rattle.grid_vault.specs.Sending.{Puts, PutsAll, HoldsBytes, BeginsWith, IsReadOf, IsWhole, IsFaulty, IsBad, Answers, Sends, Breaks, SaysOf}
+use Rattle.grid_vault.specs.Sending.{Puts, PutsAll, BeginsWith, IsReadOf, IsWhole, Answers, Sends, Breaks, SaysOf}
 use Rattle.grid_vault.specs.declared.reading.Part.{Part}
 use Rattle.grid_vault.specs.declared.reading.FileReader.{FileReader}
 use Rattle.grid_vault.specs.declared.sent.Sent.{Sent}

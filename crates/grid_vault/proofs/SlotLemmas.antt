@@ -1,9 +1,9 @@
 -- A call of the store in one slot.
-use Rattle.std.proofs.Common.{◌≡◌, ℕ, ◌+◌, ◌<◌, ◌≤◌, inl, inr, List, set, length, slice_get, Some, arith, refl, sym, subst, ap, ◌∙◌}
+use Rattle.std.proofs.Common.{◌≡◌, ℕ, ◌≤◌, inl, inr, List, set, slice_get, Some, refl, sym, subst, ap, ◌∙◌}
 use Rattle.std.proofs.lemmas.Option.{slice_get_within}
-use Rattle.grid_outside.specs.Device.{Looks, Between, EachMember}
+use Rattle.grid_outside.specs.Device.{Looks, EachMember}
 use Rattle.grid_outside.specs.Fault.{Rose}
-use Rattle.grid_outside.specs.Files.{Files, StoreState}
+use Rattle.grid_outside.specs.Files.{StoreState}
 use Rattle.grid_outside.proofs.Spans.{looked, none_called, one_called, last_moments, same_place, some_is, slice_get-set_same, slice_get-set_other, nat_cases}
 use Rattle.grid_vault.specs.Vault.{RoseAt}
 use Rattle.grid_vault.specs.Sending.{AllKeep, OnFault}

@@ -1,8 +1,7 @@
-use Rattle.std.proofs.Common.{◌≡◌, ◌≤◌, ◌+◌, ◌-◌, inl, inr, length, IsTrue, arith, sym, subst, ◌∙◌}
+use Rattle.std.proofs.Common.{◌+◌, ◌-◌, inl, inr, length, IsTrue, arith, sym, subst, ◌∙◌}
 use borrow.Rule.Slice.PartMut.{same_len_mid}
 use Rattle.std.proofs.Common.{drop}
 use Rattle.std.proofs.lemmas.List.{length-take-le, length-drop}
-use Rattle.grid_outside.specs.Device.{Looks}
 use Rattle.grid_outside.specs.Files.{Files, ReadsFile}
 use Rattle.grid_vault.proofs.FileReading.{looks_on, part_more, part_whole}
 use Rattle.grid_vault.proofs.reading.read_part.Goals as goal

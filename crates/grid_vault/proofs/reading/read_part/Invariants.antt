@@ -1,6 +1,5 @@
-use Rattle.std.proofs.Common.{◌≡◌, ◌≤◌, ◌-◌, ℕ, take, drop, length, IsTrue, Some}
+use Rattle.std.proofs.Common.{◌≤◌, ◌-◌, length, IsTrue}
 use Rattle.grid_outside.specs.Device.{Looks}
-use Rattle.grid_outside.specs.Files.{File, file_at}
 use Rattle.grid_vault.proofs.FileReading.{PartSoFar}
 use Rattle.grid_vault.proofs.reading.read_part.Given as goal
 

@@ -1,6 +1,5 @@
-use Rattle.std.proofs.Common.{◌≡◌, ◌+◌, ◌-◌, ◌<◌, ◌≤◌, ℕ, List, ◌++◌, take, drop, length, slice_range, arith, refl, sym, subst, ap, ◌∙◌}
-use Rattle.std.proofs.lemmas.List.{length-take-le, length-drop, append-nil}
-use Rattle.grid_model.specs.DataLines.{data_lines}
+use Rattle.std.proofs.Common.{ℕ, List, ◌++◌, take, drop, arith, sym, subst, ap, ◌∙◌}
+use Rattle.std.proofs.lemmas.List.{length-take-le, length-drop}
 use Rattle.grid_vault.specs.Sending.{Puts}
 use Rattle.grid_vault.proofs.DataLineLemmas.{data_lines-part}
 use Rattle.grid_vault.proofs.Putting.{puts_none, puts_one}

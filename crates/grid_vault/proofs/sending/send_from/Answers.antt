@@ -1,6 +1,6 @@
-use Rattle.std.proofs.Common.{◌≡◌, ◌+◌, ◌-◌, ◌≤◌, ℕ, List, length, take, drop, arith, refl, sym, subst, ap, ◌∙◌}
+use Rattle.std.proofs.Common.{◌-◌, length, arith}
 use Rattle.grid_vault.proofs.FileReading.{looks_same, looks_on}
-use Rattle.grid_vault.proofs.SendingLemmas.{starts, faulty, breaks, sent_more, ends, read_is, shown_is, on_err}
+use Rattle.grid_vault.proofs.SendingLemmas.{starts, breaks, sent_more, ends, read_is, shown_is, on_err}
 use Rattle.grid_vault.proofs.sending.send_from.Goals as goal
 
 pub parts-init : goal.parts-init

@@ -1,4 +1,4 @@
-use Rattle.std.proofs.Common.{◌≡◌, ◌≤◌, length, set, slice_get, Some, arith, refl}
+use Rattle.std.proofs.Common.{length, arith, refl}
 use Rattle.std.proofs.lemmas.Option.{slice_get_read}
 use Rattle.grid_vault.proofs.SlotLemmas.{all_kept, one_asked, one_lasts, one_rose, on_fault}
 use Rattle.grid_vault.proofs.sending.send_in.Goals as goal

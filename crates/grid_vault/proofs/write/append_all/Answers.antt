@@ -1,5 +1,4 @@
-use Rattle.std.proofs.Common.{rules, ◌≡◌, ◌+◌, ◌<◌, ◌≤◌, length, ◌++◌, IsTrue, arith, refl, sym, subst, ap, ◌∙◌, take-append-drop}
-use Rattle.grid_outside.specs.Files.{Writes}
+use Rattle.std.proofs.Common.{rules, ◌≡◌, ◌+◌, ◌≤◌, length, ◌++◌, IsTrue, arith, refl, sym, subst, take-append-drop}
 use Rattle.grid_outside.proofs.Spans.{stays}
 use Rattle.grid_model.specs.DataLines.{parts}
 use Rattle.grid_vault.proofs.Writing.{Writes-same, wrote_more, extended_more, parts_more}

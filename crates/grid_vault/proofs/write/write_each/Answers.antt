@@ -1,8 +1,7 @@
-use Rattle.std.proofs.Common.{◌≡◌, ◌+◌, ◌*◌, ◌≤◌, length, slice_get, slice_index_or, Some, IsTrue, arith, refl, rules}
+use Rattle.std.proofs.Common.{length, slice_index_or, arith, refl}
 use Rattle.std.proofs.lemmas.Option.{slice_get-get_or, slice_get_read, slice_get_within}
 use Rattle.grid_outside.proofs.Spans.{none_called, lasts, last_moments}
 use Rattle.grid_vault.specs.Vault.{WritesAmong, HasSlot}
-use Rattle.grid_model.specs.DataLines.{parts}
 use Rattle.grid_vault.proofs.Writing.{slot_within, all_of, Among-same, wrote_one, rose_at, stable_next}
 use Rattle.grid_vault.proofs.write.write_each.Goals as goal
 
