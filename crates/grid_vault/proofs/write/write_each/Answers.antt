@@ -1,0 +1,84 @@
+use Rattle.std.proofs.Common.{length, slice_index_or, arith, refl}
+use Rattle.std.proofs.lemmas.Option.{slice_get-get_or, slice_get_read, slice_get_within}
+use Rattle.grid_outside.proofs.Spans.{none_called, lasts, last_moments}
+use Rattle.grid_vault.specs.Vault.{WritesAmong, HasSlot}
+use Rattle.grid_vault.proofs.Writing.{slot_within, all_of, Among-same, wrote_one, rose_at, stable_next}
+use Rattle.grid_vault.proofs.write.write_each.Goals as goal
+
+pub loop-file-init : goal.loop-file-init
+loop-file-init g c = record {
+  span = none_called g.P.Plugin.plugin (WritesAmong c.args.files.now) (Among-same c.args.files.now) (HasSlot c.args.files.now) _ _ _ (omega arith) c.requires.last;
+  stable = λ i file none. absurd (omega (arith, none));
+  later = omega arith;
+  room = omega arith;
+}
+
+pub index_mut-requires : goal.index_mut-requires
+index_mut-requires g c =
+    let slot = slot_within _ _ _ _ c.requires.slots (slice_get-get_or c.args.files.now c.loop-file.file-index (record { slot = 0; name = 0 }) c.loop-file-test.true) in
+    omega (arith, slot, c.loop-file.invariant.span.count)
+
+pub write_file-requires-clause-last : goal.write_file-requires-clause-last
+write_file-requires-clause-last g c =
+    let files = c.args.files.now in
+    let stores = c.loop-file.stores.items in
+    let file = slice_index_or files c.loop-file.file-index (record { slot = 0; name = 0 }) in
+    let slot = slot_within _ _ _ _ c.requires.slots (slice_get-get_or files c.loop-file.file-index (record { slot = 0; name = 0 }) c.loop-file-test.true) in
+    let at = slice_get_read stores (length stores) file.slot c.index_mut.result.now refl (omega (arith, slot, c.loop-file.invariant.span.count)) c.index_mut.ensures.value in
+    lasts g.P.Plugin.plugin (WritesAmong files) (Among-same files) (HasSlot files) _ _ _ _ c.loop-file.invariant.span _ _ at
+
+pub returns-in-Err-clause-any_moment : goal.returns-in-Err-clause-any_moment
+returns-in-Err-clause-any_moment g c =
+    let files = c.args.files.now in
+    let stores = c.loop-file.stores.items in
+    let file = slice_index_or files c.loop-file.file-index (record { slot = 0; name = 0 }) in
+    let is = slice_get-get_or files c.loop-file.file-index (record { slot = 0; name = 0 }) c.loop-file-test.true in
+    let slot = slot_within _ _ _ _ c.requires.slots is in
+    let at = slice_get_read stores (length stores) file.slot c.index_mut.result.now refl (omega (arith, slot, c.loop-file.invariant.span.count)) c.index_mut.ensures.value in
+    wrote_one files g.P.Plugin.plugin _ _ _ _ _ _ file _ _ is c.loop-file.invariant.later c.write_file.ensures.drawn_from c.loop-file.invariant.span at c.write_file.ensures.span
+
+pub returns-in-Err-clause-slot : goal.returns-in-Err-clause-slot
+returns-in-Err-clause-slot g c =
+    record { place = c.loop-file.file-index; file = _; is = slice_get-get_or c.args.files.now c.loop-file.file-index (record { slot = 0; name = 0 }) c.loop-file-test.true; slot_is = refl }
+
+pub returns-in-Err-clause-cause : goal.returns-in-Err-clause-cause
+returns-in-Err-clause-cause g c =
+    let files = c.args.files.now in
+    let stores = c.loop-file.stores.items in
+    let file = slice_index_or files c.loop-file.file-index (record { slot = 0; name = 0 }) in
+    let is = slice_get-get_or files c.loop-file.file-index (record { slot = 0; name = 0 }) c.loop-file-test.true in
+    let slot = slot_within _ _ _ _ c.requires.slots is in
+    let at = slice_get_read stores (length stores) file.slot c.index_mut.result.now refl (omega (arith, slot, c.loop-file.invariant.span.count)) c.index_mut.ensures.value in
+    rose_at files g.P.Plugin.plugin _ _ _ _ _ _ file _ _ is c.loop-file.invariant.later c.write_file.ensures.drawn_from c.loop-file.invariant.span at c.write_file.ensures.span c.in-Err.ensures.cause
+
+pub loop-file-preserved : goal.loop-file-preserved
+loop-file-preserved g c =
+    let files = c.args.files.now in
+    let stores = c.loop-file.stores.items in
+    let file = slice_index_or files c.loop-file.file-index (record { slot = 0; name = 0 }) in
+    let is = slice_get-get_or files c.loop-file.file-index (record { slot = 0; name = 0 }) c.loop-file-test.true in
+    let slot = slot_within _ _ _ _ c.requires.slots is in
+    let at = slice_get_read stores (length stores) file.slot c.index_mut.result.now refl (omega (arith, slot, c.loop-file.invariant.span.count)) c.index_mut.ensures.value in
+    record {
+      span = wrote_one files g.P.Plugin.plugin _ _ _ _ _ _ file _ _ is c.loop-file.invariant.later c.write_file.ensures.drawn_from c.loop-file.invariant.span at c.write_file.ensures.span;
+      stable = stable_next files g.P.Plugin.plugin _ _ _ _ _ _ file _ _ is c.loop-file.invariant.later c.write_file.ensures.drawn_from c.loop-file.invariant.span at c.write_file.ensures.span c.args.bytes.now
+          c.loop-file.invariant.stable c.in-Ok.ensures.stable;
+      later = omega arith;
+      room = omega arith;
+    }
+
+pub returns-clause-stable : goal.returns-clause-stable
+returns-clause-stable g c = all_of _ c.args.files.now (λ i file is. c.loop-file.invariant.stable i file (omega (arith, slice_get_within c.args.files.now i file is)) is)
+
+pub returns-clause-last : goal.returns-clause-last
+returns-clause-last g c = last_moments g.P.Plugin.plugin _ _ (WritesAmong c.args.files.now) (HasSlot c.args.files.now) _ _ c.loop-file.invariant.span
+
+pub returns-in-Err-clause-last : goal.returns-in-Err-clause-last
+returns-in-Err-clause-last g c =
+    let files = c.args.files.now in
+    let stores = c.loop-file.stores.items in
+    let file = slice_index_or files c.loop-file.file-index (record { slot = 0; name = 0 }) in
+    let is = slice_get-get_or files c.loop-file.file-index (record { slot = 0; name = 0 }) c.loop-file-test.true in
+    let slot = slot_within _ _ _ _ c.requires.slots is in
+    let at = slice_get_read stores (length stores) file.slot c.index_mut.result.now refl (omega (arith, slot, c.loop-file.invariant.span.count)) c.index_mut.ensures.value in
+    last_moments g.P.Plugin.plugin _ _ (WritesAmong files) (HasSlot files) _ _ (wrote_one files g.P.Plugin.plugin _ _ _ _ _ _ file _ _ is c.loop-file.invariant.later c.write_file.ensures.drawn_from c.loop-file.invariant.span at c.write_file.ensures.span)
