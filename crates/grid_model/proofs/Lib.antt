@@ -8,4 +8,6 @@ pub mod PathExamples
 pub mod PathReading
 pub mod PathSpelling
 pub mod Refusals
+pub mod RowOrders
+pub mod TableLemmas
 pub mod WordExamples

@@ -1,3 +1,4 @@
+pub mod Applying
 pub mod Catalogue
 pub mod Commands
 pub mod DataLines
@@ -11,4 +12,5 @@ pub mod Places
 pub mod Printing
 pub mod Replies
 pub mod Requests
+pub mod Rows
 pub mod Words

@@ -1,0 +1,7 @@
+use Rattle.std.specs.Fn.{CalledAt}
+use Rattle.grid_model.proofs.TableLemmas.{IsStrictlySortedBy-kept}
+use Rattle.grid_tables.proofs.table.Table.retain.Goals as goal
+
+pub invariant_of-self : goal.invariant_of-self
+invariant_of-self g c =
+    IsStrictlySortedBy-kept g.T.Row.row_cmp (CalledAt g.F.FnMut) c.args.is_kept c.self.inside.rows.items c.retain.new.self.items c.retain.ensures.filtered c.self.invariant

@@ -1,0 +1,136 @@
+ghost use Rattle.std.specs.Prelude.{◌≡◌};
+ghost use Rattle.std.specs.declared.cmp.Ordering.{Ordering};
+ghost use Rattle.std.specs.Cmp.{IsTotalOrder};
+ghost use Rattle.grid_model.specs.Rows.{item_number, user_cmp, member_cmp, collection_cmp, object_cmp, replica_cmp, triple_cmp, entry_cmp, resource_cmp, orphan_cmp};
+ghost use Rattle.grid_model.proofs.RowOrders.{user_cmp_total, member_cmp_total, collection_cmp_total, object_cmp_total, replica_cmp_total, triple_cmp_total, entry_cmp_total, resource_cmp_total, orphan_cmp_total};
+
+use grid_model::{
+    CollectionRow, EntryRow, ItemKind, MemberRow, ObjectRow, OrphanRow, ReplicaRow, ResourceRow,
+    TripleRow, UserRow,
+};
+use std::cmp::Ordering;
+
+/// A row of a table, which is put there by its key.
+pub(crate) trait Row {
+    ghost row_cmp: { Self → Self → Ordering };
+
+    /// How the keys of two rows stand to one another.
+    fn cmp_key(&self, other: &Self) -> Ordering
+        ensures { result ≡ row_cmp self.now other.now };
+
+    ghost total: { IsTotalOrder row_cmp };
+}
+
+/// The number by which an item's kind is ordered.
+pub(crate) fn item_number(kind: ItemKind) -> u8
+    ensures { result ≡ item_number kind }
+{
+    match kind {
+        ItemKind::Object => 1,
+        ItemKind::Collection => 2,
+        ItemKind::Resource => 3,
+        ItemKind::User => 4,
+    }
+}
+
+impl Row for UserRow {
+    ghost row_cmp = { user_cmp };
+
+    ghost total = { user_cmp_total };
+
+    fn cmp_key(&self, other: &UserRow) -> Ordering {
+        self.id.cmp(&other.id)
+    }
+}
+
+impl Row for MemberRow {
+    ghost row_cmp = { member_cmp };
+
+    ghost total = { member_cmp_total };
+
+    fn cmp_key(&self, other: &MemberRow) -> Ordering {
+        self.group
+            .cmp(&other.group)
+            .then(self.user.cmp(&other.user))
+    }
+}
+
+impl Row for CollectionRow {
+    ghost row_cmp = { collection_cmp };
+
+    ghost total = { collection_cmp_total };
+
+    fn cmp_key(&self, other: &CollectionRow) -> Ordering {
+        self.id.cmp(&other.id)
+    }
+}
+
+impl Row for ObjectRow {
+    ghost row_cmp = { object_cmp };
+
+    ghost total = { object_cmp_total };
+
+    fn cmp_key(&self, other: &ObjectRow) -> Ordering {
+        self.id.cmp(&other.id)
+    }
+}
+
+impl Row for ReplicaRow {
+    ghost row_cmp = { replica_cmp };
+
+    ghost total = { replica_cmp_total };
+
+    fn cmp_key(&self, other: &ReplicaRow) -> Ordering {
+        self.object
+            .cmp(&other.object)
+            .then(self.number.cmp(&other.number))
+    }
+}
+
+impl Row for TripleRow {
+    ghost row_cmp = { triple_cmp };
+
+    ghost total = { triple_cmp_total };
+
+    fn cmp_key(&self, other: &TripleRow) -> Ordering {
+        item_number(self.kind)
+            .cmp(&item_number(other.kind))
+            .then(self.id.cmp(&other.id))
+            .then(self.attribute.cmp(&other.attribute))
+            .then(self.value.cmp(&other.value))
+            .then(self.unit.cmp(&other.unit))
+    }
+}
+
+impl Row for EntryRow {
+    ghost row_cmp = { entry_cmp };
+
+    ghost total = { entry_cmp_total };
+
+    fn cmp_key(&self, other: &EntryRow) -> Ordering {
+        item_number(self.kind)
+            .cmp(&item_number(other.kind))
+            .then(self.id.cmp(&other.id))
+            .then(self.user.cmp(&other.user))
+    }
+}
+
+impl Row for ResourceRow {
+    ghost row_cmp = { resource_cmp };
+
+    ghost total = { resource_cmp_total };
+
+    fn cmp_key(&self, other: &ResourceRow) -> Ordering {
+        self.id.cmp(&other.id)
+    }
+}
+
+impl Row for OrphanRow {
+    ghost row_cmp = { orphan_cmp };
+
+    ghost total = { orphan_cmp_total };
+
+    fn cmp_key(&self, other: &OrphanRow) -> Ordering {
+        self.vault.cmp(&other.vault)
+    }
+}

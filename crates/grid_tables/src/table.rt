@@ -1,0 +1,99 @@
+ghost use Rattle.std.specs.Prelude.{◌≡◌, [], OnOk, OnErr};
+ghost use Rattle.std.specs.Fn.{CalledAt};
+ghost use Rattle.std.specs.List.Sorted.{IsStrictlySortedBy};
+ghost use Rattle.std.specs.List.Retain.{IsFiltered};
+ghost use Rattle.grid_model.specs.Rows.{with_row};
+ghost use Rattle.grid_tables.specs.Places.{IsPlace};
+
+use crate::row::Row;
+use std::alloc::{AllocError, Global};
+use std::cmp::Ordering;
+use std::marker::Model;
+
+/// Rows in rising order of their keys, no two with the same one. It goes over all rows to find the place of one: the
+/// plain first body.
+#[derive(Debug, Drop)]
+pub(crate) struct Table<T: Row> {
+    rows: Vec<T>,
+}
+
+impl<T: Row> Model for Table<T> {
+    ghost use Rattle.std.specs.Prelude.{List};
+    ghost use Rattle.std.specs.List.Sorted.{IsStrictlySortedBy};
+
+    ghost Value = { List T };
+
+    ghost view = { λ t. t.rows.items };
+
+    ghost invariant = { λ t. IsStrictlySortedBy T.row_cmp t.rows.items };
+}
+
+/// Where a row with some key belongs.
+#[derive(Clone, Copy, Debug, PartialEq, Eq)]
+pub(crate) enum Place {
+    /// The row at this index has the key.
+    At(usize),
+    /// No row has it, and it belongs before the row at this index, or at the end.
+    Before(usize),
+}
+
+/// The place of a row among these.
+fn place_of<T: Row>(rows: &[T], row: &T) -> Place
+    ensures { IsPlace T.row_cmp rows.now row.now result }
+{
+    for (index, other) in rows.iter().enumerate() {
+        match row.cmp_key(other) {
+            Ordering::Less => return Place::Before(index),
+            Ordering::Equal => return Place::At(index),
+            Ordering::Greater => {}
+        }
+    }
+    Place::Before(rows.len())
+}
+
+impl<T: Row> Table<T> {
+    /// No rows. It takes no memory.
+    pub(crate) fn empty(alloc: Global) -> Table<T>
+        ensures { result ≡ [] }
+    {
+        Table {
+            rows: Vec::new(alloc),
+        }
+    }
+
+    /// The rows, whose keys strictly rise.
+    pub(crate) fn as_slice(&self) -> &[T]
+        ensures rows { result.now ≡ self.now }
+        ensures ordered { IsStrictlySortedBy T.row_cmp self.now }
+    {
+        self.rows.as_slice()
+    }
+}
+
+impl<T: Row + Drop> Table<T> {
+    /// Puts a row in the place of the one with its key, or where it belongs. Fails for want of memory alone, and then
+    /// nothing is put.
+    pub(crate) fn put(&mut self, row: T) -> Result<(), AllocError>
+        ensures put { OnOk result (self.new ≡ with_row T.row_cmp self.old row) }
+        ensures failed { OnErr result (self.new ≡ self.old) }
+    {
+        match place_of(&self.rows, &row) {
+            Place::At(index) => {
+                self.rows[index] = row;
+                Ok(())
+            }
+            Place::Before(index) => {
+                self.rows.insert(index, row)?;
+                Ok(())
+            }
+        }
+    }
+
+    /// Keeps the rows that the test passes, and drops the others.
+    pub(crate) fn retain<F: FnMut(&T) -> bool>(&mut self, is_kept: F)
+        requires { F.IsAlwaysCallable is_kept }
+        ensures { IsFiltered (CalledAt F.FnMut) is_kept self.old self.new }
+    {
+        self.rows.retain(is_kept);
+    }
+}
