@@ -65,7 +65,7 @@ lies_within (suc steps) c upper id =
 
 -- whether a collection is the upper one or lies below it
 abbrev pub lies_in : Cat → ℕ → ℕ → Bool
-lies_in c upper id = lies_within (suc (length c.collections)) c upper id
+lies_in c upper id = lies_within (length c.collections) c upper id
 
 -- a collection lies in a parent. `/` lies in none
 abbrev pub is_child : ℕ → CollectionRow → Bool
@@ -196,7 +196,7 @@ stands_within (suc steps) c upper id =
 
 -- whether a resource is the upper one or stands below it
 abbrev pub stands_in : Cat → ℕ → ℕ → Bool
-stands_in c upper id = stands_within (suc (length c.resources)) c upper id
+stands_in c upper id = stands_within (length c.resources) c upper id
 
 -- a leaf is at the slot of a store, and what is no leaf has the slot 0
 abbrev pub slot_fits : Cat → ResourceKind → ℕ → Bool

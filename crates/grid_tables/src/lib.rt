@@ -1,11 +1,18 @@
 //! The rows of the catalogue in memory: what a delta makes of them, and look-ups.
 #![tactic(auto)]
 
+mod access;
+mod collections;
 mod error;
+mod kinds;
+mod numbers;
+mod objects;
+mod replicas;
+mod resources;
 mod row;
 mod table;
 mod tables;
-mod tests_of_rows;
+mod triples;
 mod users;
 
 pub use error::TableError;

@@ -1,12 +1,13 @@
 ghost use Rattle.std.specs.Prelude.{◌≡◌};
 ghost use Rattle.std.specs.declared.cmp.Ordering.{Ordering};
 ghost use Rattle.std.specs.Cmp.{IsTotalOrder};
-ghost use Rattle.grid_model.specs.Rows.{item_number, user_cmp, member_cmp, collection_cmp, object_cmp, replica_cmp, triple_cmp, entry_cmp, resource_cmp, orphan_cmp};
+ghost use Rattle.grid_model.specs.Rows.{user_cmp, member_cmp, collection_cmp, object_cmp, replica_cmp, triple_cmp, entry_cmp, resource_cmp, orphan_cmp};
 ghost use Rattle.grid_model.proofs.RowOrders.{user_cmp_total, member_cmp_total, collection_cmp_total, object_cmp_total, replica_cmp_total, triple_cmp_total, entry_cmp_total, resource_cmp_total, orphan_cmp_total};
 
+use crate::kinds::item_number;
 use grid_model::{
-    CollectionRow, EntryRow, ItemKind, MemberRow, ObjectRow, OrphanRow, ReplicaRow, ResourceRow,
-    TripleRow, UserRow,
+    CollectionRow, EntryRow, MemberRow, ObjectRow, OrphanRow, ReplicaRow, ResourceRow, TripleRow,
+    UserRow,
 };
 use std::cmp::Ordering;
 
@@ -19,18 +20,6 @@ pub(crate) trait Row {
         ensures { result ≡ row_cmp self.now other.now };
 
     ghost total: { IsTotalOrder row_cmp };
-}
-
-/// The number by which an item's kind is ordered.
-pub(crate) fn item_number(kind: ItemKind) -> u8
-    ensures { result ≡ item_number kind }
-{
-    match kind {
-        ItemKind::Object => 1,
-        ItemKind::Collection => 2,
-        ItemKind::Resource => 3,
-        ItemKind::User => 4,
-    }
 }
 
 impl Row for UserRow {

@@ -1,7 +1,6 @@
-ghost use Rattle.std.specs.Prelude.{◌≡◌, [], OnOk, OnErr};
-ghost use Rattle.std.specs.Fn.{CalledAt};
+ghost use Rattle.std.specs.Prelude.{◌≡◌, Bool, [], filter, OnOk, OnErr};
+ghost use Rattle.std.specs.Fn.{ComputesKey};
 ghost use Rattle.std.specs.List.Sorted.{IsStrictlySortedBy};
-ghost use Rattle.std.specs.List.Retain.{IsFiltered};
 ghost use Rattle.grid_model.specs.Rows.{with_row};
 ghost use Rattle.grid_tables.specs.Places.{IsPlace};
 
@@ -92,7 +91,7 @@ impl<T: Row + Drop> Table<T> {
     /// Keeps the rows that the test passes, and drops the others.
     pub(crate) fn retain<F: FnMut(&T) -> bool>(&mut self, is_kept: F)
         requires { F.IsAlwaysCallable is_kept }
-        ensures { IsFiltered (CalledAt F.FnMut) is_kept self.old self.new }
+        ensures { (test : T → Bool) → ComputesKey F.FnMut test is_kept → self.new ≡ filter test self.old }
     {
         self.rows.retain(is_kept);
     }
