@@ -1,5 +1,8 @@
 -- The keys of each table are in a total order.
-use Rattle.std.specs.Cmp.{IsTotalOrder, nat_cmp_total, on_total, then_total}
+use Rattle.std.proofs.Common.{◌≡◌, ℕ, ◌<◌, subst, sym}
+use Rattle.std.specs.declared.cmp.Ordering.TheVariants.{Less}
+use Rattle.std.specs.Ordering.{nat_cmp, MatchOrdering}
+use Rattle.std.specs.Cmp.{IsTotalOrder, ranked, nat_cmp_total, on_total, then_total}
 use Rattle.std.specs.Cmp.Lexicographic.{nat_list_cmp_total}
 use Rattle.grid_model.specs.Rows.{item_number, user_cmp, member_cmp, collection_cmp, object_cmp, replica_cmp, triple_cmp, entry_cmp, resource_cmp, orphan_cmp}
 use Rattle.grid_model.specs.declared.deltas.UserRow.{UserRow}
@@ -44,3 +47,6 @@ resource_cmp_total = on_total (λ (r : ResourceRow). r.id) nat_cmp_total
 
 pub orphan_cmp_total : IsTotalOrder orphan_cmp
 orphan_cmp_total = on_total (λ (r : OrphanRow). r.vault) nat_cmp_total
+
+pub lower_id : (a b : ℕ) → nat_cmp a b ≡ Less → a < b
+lower_id a b e = ranked a b Less (sym e)

@@ -1,12 +1,12 @@
 -- The catalogue as rows. A table is the list of its rows in rising order of their keys, so that it is a finite map
 -- from key to row, written out; the key of a row is part of it.
-use Rattle.std.specs.Prelude.{ℕ, Bool, not, ◌&&◌, ◌==◌, List, [], ◌∷◌, Option, None, find, filter}
-use Rattle.std.specs.List.{list_any}
+use Rattle.std.specs.Prelude.{ℕ, Bool, true, ◌&&◌, ◌||◌, ◌==◌, IsTrue, List, [], ◌∷◌, Option, None, find, filter}
+use Rattle.std.specs.List.{list_any, AllByRecursion}
 use Rattle.std.specs.List.Sorted.{IsStrictlySortedBy}
 use Rattle.std.specs.declared.cmp.Ordering.{Ordering}
 use Rattle.std.specs.declared.cmp.Ordering.TheVariants.{Less, Equal, Greater}
 use Rattle.std.specs.Ordering.{nat_cmp, ordering_then}
-use Rattle.grid_model.specs.Names.{Text, text_cmp}
+use Rattle.grid_model.specs.Names.{Text, text_cmp, is_name}
 use Rattle.grid_model.specs.declared.deltas.UserRow.{UserRow}
 use Rattle.grid_model.specs.declared.deltas.MemberRow.{MemberRow}
 use Rattle.grid_model.specs.declared.deltas.CollectionRow.{CollectionRow}
@@ -72,12 +72,33 @@ resource_cmp a b = nat_cmp a.id b.id
 abbrev pub orphan_cmp : OrphanRow → OrphanRow → Ordering
 orphan_cmp a b = nat_cmp a.vault b.vault
 
+-- ---- rows by themselves
+
+abbrev pub is_named_user : UserRow → Bool
+is_named_user r = is_name r.name
+
+-- `/` alone has no name
+abbrev pub is_named_collection : CollectionRow → Bool
+is_named_collection r = (r.id == 0) || is_name r.name
+
+abbrev pub is_named_object : ObjectRow → Bool
+is_named_object r = is_name r.name
+
+abbrev pub is_named_resource : ResourceRow → Bool
+is_named_resource r = is_name r.name
+
 -- ---- tables
 
 -- the table with this row, which takes the place of the one with its key
 abbrev pub with_row : {X : Type 0} → (X → X → Ordering) → List X → X → List X
 with_row cmp [] row = row ∷ []
 with_row cmp (r ∷ rows) row = elim (cmp row r) [ Less ↦ row ∷ r ∷ rows | Equal ↦ row ∷ rows | Greater ↦ r ∷ with_row cmp rows row ]
+
+-- a table whose rows pass a test
+pub record IsTable {X : Type 0} (cmp : X → X → Ordering) (fits : X → Bool) (rows : List X) : Type 0 where
+  -- the keys strictly rise
+  pub ordered : IsStrictlySortedBy cmp rows
+  pub fit : AllByRecursion (λ r. IsTrue (fits r)) rows
 
 -- ---- the catalogue
 
@@ -119,17 +140,17 @@ empty_cat = record {
   pending = None;
 }
 
--- the keys of each table strictly rise
+-- each table is one, and what has a name has one
 pub record IsCat (c : Cat) : Type 0 where
-  pub users : IsStrictlySortedBy user_cmp c.users
-  pub members : IsStrictlySortedBy member_cmp c.members
-  pub collections : IsStrictlySortedBy collection_cmp c.collections
-  pub objects : IsStrictlySortedBy object_cmp c.objects
-  pub replicas : IsStrictlySortedBy replica_cmp c.replicas
-  pub triples : IsStrictlySortedBy triple_cmp c.triples
-  pub entries : IsStrictlySortedBy entry_cmp c.entries
-  pub resources : IsStrictlySortedBy resource_cmp c.resources
-  pub orphans : IsStrictlySortedBy orphan_cmp c.orphans
+  pub users : IsTable user_cmp is_named_user c.users
+  pub members : IsTable member_cmp (λ _. true) c.members
+  pub collections : IsTable collection_cmp is_named_collection c.collections
+  pub objects : IsTable object_cmp is_named_object c.objects
+  pub replicas : IsTable replica_cmp (λ _. true) c.replicas
+  pub triples : IsTable triple_cmp (λ _. true) c.triples
+  pub entries : IsTable entry_cmp (λ _. true) c.entries
+  pub resources : IsTable resource_cmp is_named_resource c.resources
+  pub orphans : IsTable orphan_cmp (λ _. true) c.orphans
 
 -- ---- rows by their ids
 

@@ -3,8 +3,10 @@
 
 mod access;
 mod collections;
+mod counts;
 mod error;
 mod kinds;
+mod lookups;
 mod numbers;
 mod objects;
 mod replicas;
@@ -15,5 +17,6 @@ mod tables;
 mod triples;
 mod users;
 
+pub use counts::{Ids, Kind};
 pub use error::TableError;
 pub use tables::Tables;

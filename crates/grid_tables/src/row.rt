@@ -1,8 +1,9 @@
-ghost use Rattle.std.specs.Prelude.{◌≡◌};
+ghost use Rattle.std.specs.Prelude.{◌≡◌, ◌<◌, ℕ, Bool, true};
 ghost use Rattle.std.specs.declared.cmp.Ordering.{Ordering};
+ghost use Rattle.std.specs.declared.cmp.Ordering.TheVariants.{Less};
 ghost use Rattle.std.specs.Cmp.{IsTotalOrder};
-ghost use Rattle.grid_model.specs.Rows.{user_cmp, member_cmp, collection_cmp, object_cmp, replica_cmp, triple_cmp, entry_cmp, resource_cmp, orphan_cmp};
-ghost use Rattle.grid_model.proofs.RowOrders.{user_cmp_total, member_cmp_total, collection_cmp_total, object_cmp_total, replica_cmp_total, triple_cmp_total, entry_cmp_total, resource_cmp_total, orphan_cmp_total};
+ghost use Rattle.grid_model.specs.Rows.{is_named_user, is_named_collection, is_named_object, is_named_resource, user_cmp, member_cmp, collection_cmp, object_cmp, replica_cmp, triple_cmp, entry_cmp, resource_cmp, orphan_cmp};
+ghost use Rattle.grid_model.proofs.RowOrders.{lower_id, user_cmp_total, member_cmp_total, collection_cmp_total, object_cmp_total, replica_cmp_total, triple_cmp_total, entry_cmp_total, resource_cmp_total, orphan_cmp_total};
 
 use crate::kinds::item_number;
 use grid_model::{
@@ -11,9 +12,11 @@ use grid_model::{
 };
 use std::cmp::Ordering;
 
-/// A row of a table, which is put there by its key.
+/// A row of a table, which is put there by its key. What `fits` says of it holds of every row of a table.
 pub(crate) trait Row {
     ghost row_cmp: { Self → Self → Ordering };
+
+    ghost fits: { Self → Bool };
 
     /// How the keys of two rows stand to one another.
     fn cmp_key(&self, other: &Self) -> Ordering
@@ -25,6 +28,8 @@ pub(crate) trait Row {
 impl Row for UserRow {
     ghost row_cmp = { user_cmp };
 
+    ghost fits = { is_named_user };
+
     ghost total = { user_cmp_total };
 
     fn cmp_key(&self, other: &UserRow) -> Ordering {
@@ -34,6 +39,8 @@ impl Row for UserRow {
 
 impl Row for MemberRow {
     ghost row_cmp = { member_cmp };
+
+    ghost fits = { λ _. true };
 
     ghost total = { member_cmp_total };
 
@@ -47,6 +54,8 @@ impl Row for MemberRow {
 impl Row for CollectionRow {
     ghost row_cmp = { collection_cmp };
 
+    ghost fits = { is_named_collection };
+
     ghost total = { collection_cmp_total };
 
     fn cmp_key(&self, other: &CollectionRow) -> Ordering {
@@ -57,6 +66,8 @@ impl Row for CollectionRow {
 impl Row for ObjectRow {
     ghost row_cmp = { object_cmp };
 
+    ghost fits = { is_named_object };
+
     ghost total = { object_cmp_total };
 
     fn cmp_key(&self, other: &ObjectRow) -> Ordering {
@@ -66,6 +77,8 @@ impl Row for ObjectRow {
 
 impl Row for ReplicaRow {
     ghost row_cmp = { replica_cmp };
+
+    ghost fits = { λ _. true };
 
     ghost total = { replica_cmp_total };
 
@@ -78,6 +91,8 @@ impl Row for ReplicaRow {
 
 impl Row for TripleRow {
     ghost row_cmp = { triple_cmp };
+
+    ghost fits = { λ _. true };
 
     ghost total = { triple_cmp_total };
 
@@ -94,6 +109,8 @@ impl Row for TripleRow {
 impl Row for EntryRow {
     ghost row_cmp = { entry_cmp };
 
+    ghost fits = { λ _. true };
+
     ghost total = { entry_cmp_total };
 
     fn cmp_key(&self, other: &EntryRow) -> Ordering {
@@ -107,6 +124,8 @@ impl Row for EntryRow {
 impl Row for ResourceRow {
     ghost row_cmp = { resource_cmp };
 
+    ghost fits = { is_named_resource };
+
     ghost total = { resource_cmp_total };
 
     fn cmp_key(&self, other: &ResourceRow) -> Ordering {
@@ -117,9 +136,62 @@ impl Row for ResourceRow {
 impl Row for OrphanRow {
     ghost row_cmp = { orphan_cmp };
 
+    ghost fits = { λ _. true };
+
     ghost total = { orphan_cmp_total };
 
     fn cmp_key(&self, other: &OrphanRow) -> Ordering {
         self.vault.cmp(&other.vault)
+    }
+}
+
+/// A row whose key is a number.
+pub(crate) trait Numbered: Row {
+    ghost number: { Self → ℕ };
+
+    /// Its id.
+    fn number(&self) -> u64
+        ensures { result ≡ number self.now };
+
+    ghost rises: { (one other : Self) → Self.row_cmp one other ≡ Less → number one < number other };
+}
+
+impl Numbered for UserRow {
+    ghost number = { λ r. r.id };
+
+    ghost rises = { λ one other. lower_id one.id other.id };
+
+    fn number(&self) -> u64 {
+        u64::from(self.id)
+    }
+}
+
+impl Numbered for CollectionRow {
+    ghost number = { λ r. r.id };
+
+    ghost rises = { λ one other. lower_id one.id other.id };
+
+    fn number(&self) -> u64 {
+        self.id
+    }
+}
+
+impl Numbered for ObjectRow {
+    ghost number = { λ r. r.id };
+
+    ghost rises = { λ one other. lower_id one.id other.id };
+
+    fn number(&self) -> u64 {
+        self.id
+    }
+}
+
+impl Numbered for ResourceRow {
+    ghost number = { λ r. r.id };
+
+    ghost rises = { λ one other. lower_id one.id other.id };
+
+    fn number(&self) -> u64 {
+        u64::from(self.id)
     }
 }

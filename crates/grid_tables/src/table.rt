@@ -1,10 +1,10 @@
-ghost use Rattle.std.specs.Prelude.{◌≡◌, Bool, [], filter, OnOk, OnErr};
+ghost use Rattle.std.specs.Prelude.{◌≡◌, Bool, [], filter, map, IsTrue, IfOk, OnOk, OnErr};
 ghost use Rattle.std.specs.Fn.{ComputesKey};
-ghost use Rattle.std.specs.List.Sorted.{IsStrictlySortedBy};
-ghost use Rattle.grid_model.specs.Rows.{with_row};
+ghost use Rattle.std.specs.List.Sorted.{IsStrictlyIncreasing};
+ghost use Rattle.grid_model.specs.Rows.{IsTable, with_row};
 ghost use Rattle.grid_tables.specs.Places.{IsPlace};
 
-use crate::row::Row;
+use crate::row::{Numbered, Row};
 use std::alloc::{AllocError, Global};
 use std::cmp::Ordering;
 use std::marker::Model;
@@ -18,13 +18,13 @@ pub(crate) struct Table<T: Row> {
 
 impl<T: Row> Model for Table<T> {
     ghost use Rattle.std.specs.Prelude.{List};
-    ghost use Rattle.std.specs.List.Sorted.{IsStrictlySortedBy};
+    ghost use Rattle.grid_model.specs.Rows.{IsTable};
 
     ghost Value = { List T };
 
     ghost view = { λ t. t.rows.items };
 
-    ghost invariant = { λ t. IsStrictlySortedBy T.row_cmp t.rows.items };
+    ghost invariant = { λ t. IsTable T.row_cmp T.fits t.rows.items };
 }
 
 /// Where a row with some key belongs.
@@ -60,10 +60,10 @@ impl<T: Row> Table<T> {
         }
     }
 
-    /// The rows, whose keys strictly rise.
+    /// The rows.
     pub(crate) fn as_slice(&self) -> &[T]
         ensures rows { result.now ≡ self.now }
-        ensures ordered { IsStrictlySortedBy T.row_cmp self.now }
+        ensures table { IsTable T.row_cmp T.fits self.now }
     {
         self.rows.as_slice()
     }
@@ -73,6 +73,7 @@ impl<T: Row + Drop> Table<T> {
     /// Puts a row in the place of the one with its key, or where it belongs. Fails for want of memory alone, and then
     /// nothing is put.
     pub(crate) fn put(&mut self, row: T) -> Result<(), AllocError>
+        requires { IsTrue (T.fits row) }
         ensures put { OnOk result (self.new ≡ with_row T.row_cmp self.old row) }
         ensures failed { OnErr result (self.new ≡ self.old) }
     {
@@ -94,5 +95,24 @@ impl<T: Row + Drop> Table<T> {
         ensures { (test : T → Bool) → ComputesKey F.FnMut test is_kept → self.new ≡ filter test self.old }
     {
         self.rows.retain(is_kept);
+    }
+}
+
+/// The ids of these rows, in their order. Fails for want of memory alone.
+fn numbers_of<T: Numbered>(alloc: Global, rows: &[T]) -> Result<Vec<u64>, AllocError>
+    ensures { IfOk result (λ ids. ids.items ≡ map T.number rows.now) }
+{
+    rows.iter().map(|row| row.number()).collect(alloc)
+}
+
+impl<T: Numbered> Table<T> {
+    /// The ids of the rows, in rising order. Fails for want of memory alone.
+    pub(crate) fn ids(&self, alloc: Global) -> Result<Vec<u64>, AllocError>
+        ensures ids { IfOk result (λ ids. ids.items ≡ map T.number self.now) }
+        ensures rising { IfOk result (λ ids. IsStrictlyIncreasing ids.items) }
+    {
+        let rows = self.as_slice();
+        let ids = numbers_of(alloc, rows)?;
+        Ok(ids)
     }
 }

@@ -1,8 +1,7 @@
 use Rattle.std.proofs.Common.{◌≡◌, List, subst, sym, ap, ◌∙◌, slice_set}
 use Rattle.std.specs.Prelude.{insert}
-use Rattle.std.specs.List.Sorted.{IsStrictlySortedBy}
-use Rattle.grid_model.specs.Rows.{with_row}
-use Rattle.grid_model.proofs.TableLemmas.{with_row-at, with_row-before, IsStrictlySortedBy-with_row}
+use Rattle.grid_model.specs.Rows.{IsTable, with_row}
+use Rattle.grid_model.proofs.TableLemmas.{with_row-at, with_row-before, IsTable-with_row}
 use Rattle.grid_tables.proofs.table.Table.put.Goals as goal
 
 put-at : (g : _) (c : goal.After-drop-index_mut g) → with_row g.T.Row.row_cmp c.self.inside.rows.items c.args.row ≡ slice_set c.self.inside.rows.items c.in-At.index c.args.row
@@ -20,13 +19,13 @@ put-before g c =
 
 pub invariant_of-self : goal.invariant_of-self
 invariant_of-self g c =
-    subst (λ (l : List g.row.T.Denot). IsStrictlySortedBy g.T.Row.row_cmp l) (put-at g c)
-    (IsStrictlySortedBy-with_row g.T.Row.row_cmp g.met.T.Row.total c.self.inside.rows.items c.args.row c.self.invariant)
+    subst (λ (l : List g.row.T.Denot). IsTable g.T.Row.row_cmp g.T.Row.fits l) (put-at g c)
+    (IsTable-with_row g.T.Row.row_cmp g.met.T.Row.total g.T.Row.fits c.self.inside.rows.items c.args.row c.requires c.self.invariant)
 
 pub invariant_of-self-in-Before : goal.invariant_of-self-in-Before
 invariant_of-self-in-Before g c =
-    subst (λ (l : List g.row.T.Denot). IsStrictlySortedBy g.T.Row.row_cmp l) (put-before g c)
-    (IsStrictlySortedBy-with_row g.T.Row.row_cmp g.met.T.Row.total c.self.inside.rows.items c.args.row c.self.invariant)
+    subst (λ (l : List g.row.T.Denot). IsTable g.T.Row.row_cmp g.T.Row.fits l) (put-before g c)
+    (IsTable-with_row g.T.Row.row_cmp g.met.T.Row.total g.T.Row.fits c.self.inside.rows.items c.args.row c.requires c.self.invariant)
 
 pub returns-in-At-clause-put : goal.returns-in-At-clause-put
 returns-in-At-clause-put g c = sym (put-at g c) ∙ ap (λ (l : List g.row.T.Denot). with_row g.T.Row.row_cmp l c.args.row) c.self.view_is
