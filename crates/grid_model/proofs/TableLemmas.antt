@@ -1,7 +1,8 @@
 -- Tables: lists of rows whose keys strictly rise.
-use Rattle.std.proofs.Common.{◌≡◌, ℕ, zero, suc, ◌<◌, ◌≤◌, Bool, true, false, List, [], ◌∷◌, ◌++◌, length, take, drop, slice_index_or, slice_set, slice_index, Option, Some, None, refl, sym, ap, ◌∙◌, subst, arith, add-one}
-use Rattle.std.specs.Prelude.{insert, map, find, cond, IsTrue}
-use Rattle.std.specs.List.{AllByRecursion, items_where_true}
+use Rattle.std.proofs.Common.{◌≡◌, ℕ, zero, suc, ◌<◌, ◌≤◌, Bool, true, false, List, [], ◌∷◌, ◌++◌, length, take, drop, slice_index_or, slice_set, slice_index, Option, Some, None, refl, sym, ap, ◌∙◌, subst, arith, add-one, one-add}
+use Rattle.std.specs.Prelude.{insert, map, find, filter, cond, not, ◌+◌, IsTrue}
+use Rattle.std.proofs.lemmas.Bool.{false_from_ne_true}
+use Rattle.std.specs.List.{AllByRecursion, items_where_true, prefix_len, position_or_len}
 use Rattle.std.specs.List.Retain.{IsFiltered}
 use Rattle.std.specs.List.Sorted.{IsStrictlySortedBy, IsStrictlyIncreasing}
 use Rattle.std.specs.declared.cmp.Ordering.{Ordering}
@@ -124,3 +125,42 @@ found P test (x ∷ rows) all r e =
       | true ↦ λ is. let same : x ≡ r = cc in subst P same all.0
       | false ↦ λ is. found P test rows all.1 r is
     ] e
+
+-- rows that pass a test and stand next to one another
+module _ {X : Type 0} (cmp : X → X → Ordering) (test : X → Bool) (together : (a b c : X) → cmp a b ≡ Less → cmp b c ≡ Less → test a ≡ true → test c ≡ true → test b ≡ true) where
+  -- none of them stands behind one that fails
+  none_behind : (first next : X) → cmp first next ≡ Less → test first ≡ true → test next ≡ false → (rows : List X) → AllByRecursion (λ r. cmp next r ≡ Less) rows
+      → filter test rows ≡ []
+  none_behind first next low passes fails [] all = refl
+  none_behind first next low passes fails (r ∷ rows) all =
+      let this : test r ≡ false = false_from_ne_true (test r) (λ e. let wrong : test next ≡ true = together first next r low all.0 passes e in absurd (cc)) in
+      rw this (none_behind first next low passes fails rows all.1)
+
+  from_first : (first : X) → test first ≡ true → (rows : List X) → AllByRecursion (λ r. cmp first r ≡ Less) rows → IsStrictlySortedBy cmp rows
+      → filter test rows ≡ take (prefix_len test rows) rows
+  unfolding IsStrictlySortedBy
+  from_first first passes [] all sorted = refl
+  from_first first passes (r ∷ rows) all sorted =
+      elim (test r) as (λ b. test r ≡ b → cond b (r ∷ filter test rows) (filter test rows) ≡ take (cond b (1 + prefix_len test rows) 0) (r ∷ rows)) [
+        | true ↦ λ e. rw one-add (ap (λ (xs : List X). r ∷ xs) (from_first first passes rows all.1 sorted.1))
+        | false ↦ λ e. none_behind first r all.0 passes e rows sorted.0
+      ] refl
+
+  -- they are what passes from the first one on
+  pub filter-together : (rows : List X) → IsStrictlySortedBy cmp rows
+      → filter test rows ≡ take (prefix_len test (drop (position_or_len test rows) rows)) (drop (position_or_len test rows) rows)
+  unfolding IsStrictlySortedBy
+  filter-together [] sorted = refl
+  filter-together (r ∷ rows) sorted =
+      elim (test r) as (λ b. test r ≡ b → cond b (r ∷ filter test rows) (filter test rows)
+      ≡ take (prefix_len test (drop (cond (not b) (1 + position_or_len test rows) 0) (r ∷ rows))) (drop (cond (not b) (1 + position_or_len test rows) 0) (r ∷ rows))) [
+        | true ↦ λ e. rw (e, one-add) (ap (λ (xs : List X). r ∷ xs) (from_first r e rows sorted.0 sorted.1))
+        | false ↦ λ e. rw one-add (filter-together rows sorted.1)
+      ] refl
+
+  -- so two cuts find them
+  pub filter-cut : (self rows rest front : List X) (start count : ℕ) → IsStrictlySortedBy cmp self → rows ≡ self → start ≡ position_or_len test rows
+      → rest ≡ drop start rows → count ≡ prefix_len test rest → front ≡ take count rest → front ≡ filter test self
+  filter-cut self rows rest front start count sorted whole before cut behind taken =
+      let kept : filter test self ≡ take (prefix_len test (drop (position_or_len test self) self)) (drop (position_or_len test self) self) = filter-together self sorted in
+      cc

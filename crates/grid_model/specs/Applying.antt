@@ -59,9 +59,15 @@ can_join c m = is_group c m.group && is_user c m.user
 abbrev pub lies_within : ℕ → Cat → ℕ → ℕ → Bool
 lies_within zero c upper id = false
 lies_within (suc steps) c upper id =
-    elim (id == upper) [ true ↦ true | false ↦
-      elim (id == 0) [ true ↦ false | false ↦
-        elim (collection c id) [ None ↦ false | Some r ↦ lies_within steps c upper r.parent ] ] ]
+    elim (id == upper) [
+      | true ↦ true
+      | false ↦
+          elim (id == 0) [
+            | true ↦ false
+            | false ↦
+                elim (collection c id) [ None ↦ false | Some r ↦ lies_within steps c upper r.parent ]
+          ]
+    ]
 
 -- whether a collection is the upper one or lies below it
 abbrev pub lies_in : Cat → ℕ → ℕ → Bool
@@ -191,8 +197,11 @@ has_entry c k id user = list_any (λ e. is_entry k id user e) c.entries
 abbrev pub stands_within : ℕ → Cat → ℕ → ℕ → Bool
 stands_within zero c upper id = false
 stands_within (suc steps) c upper id =
-    elim (id == upper) [ true ↦ true | false ↦
-      elim (resource c id) [ None ↦ false | Some r ↦ stands_within steps c upper r.parent ] ]
+    elim (id == upper) [
+      | true ↦ true
+      | false ↦
+          elim (resource c id) [ None ↦ false | Some r ↦ stands_within steps c upper r.parent ]
+    ]
 
 -- whether a resource is the upper one or stands below it
 abbrev pub stands_in : Cat → ℕ → ℕ → Bool

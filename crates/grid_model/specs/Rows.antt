@@ -18,6 +18,8 @@ use Rattle.grid_model.specs.declared.deltas.ResourceRow.{ResourceRow}
 use Rattle.grid_model.specs.declared.deltas.OrphanRow.{OrphanRow}
 use Rattle.grid_model.specs.declared.deltas.Numbers.{Numbers}
 use Rattle.grid_model.specs.declared.deltas.Pending.{Pending}
+use Rattle.grid_model.specs.declared.deltas.Item.{Item}
+use Rattle.grid_model.specs.declared.deltas.Item.TheVariants as item
 use Rattle.grid_model.specs.declared.grid.ItemKind.{ItemKind}
 use Rattle.grid_model.specs.declared.grid.ItemKind.TheVariants as kind
 
@@ -206,3 +208,16 @@ triples_of c k id = filter (λ t. same_item t.kind t.id k id) c.triples
 -- the access that an item gives, by user
 abbrev pub access_of : Cat → ItemKind → ℕ → List EntryRow
 access_of c k id = filter (λ e. same_item e.kind e.id k id) c.entries
+
+-- an item by kind and id
+abbrev pub kind_of : Item → ItemKind
+kind_of (item.Object id) = kind.Object
+kind_of (item.Collection id) = kind.Collection
+kind_of (item.Resource id) = kind.Resource
+kind_of (item.User id) = kind.User
+
+abbrev pub id_of : Item → ℕ
+id_of (item.Object id) = id
+id_of (item.Collection id) = id
+id_of (item.Resource id) = id
+id_of (item.User id) = id

@@ -1,10 +1,13 @@
 ghost use Rattle.std.specs.Prelude.{◌≡◌, find, option_map};
 ghost use Rattle.std.specs.Option.{option_copied};
 ghost use Rattle.grid_model.specs.Names.{same_text};
-ghost use Rattle.grid_model.specs.Rows.{user};
+ghost use Rattle.grid_model.specs.Rows.{user, replicas_of, triples_of, access_of, kind_of, id_of};
 
 use crate::Tables;
-use grid_model::{MemberRow, Numbers, OrphanRow, Pending, Text, UserRow};
+use grid_model::{
+    EntryRow, Item, ItemKind, MemberRow, Numbers, OrphanRow, Pending, ReplicaRow, Text, TripleRow,
+    UserRow,
+};
 
 /// Look-ups. None of them takes memory.
 impl Tables {
@@ -84,5 +87,41 @@ impl Tables {
         ensures { result ≡ self.now.numbers }
     {
         self.numbers
+    }
+
+    /// The replicas of an object, by number.
+    pub fn replicas_of(&self, object: u64) -> &[ReplicaRow]
+        ensures { result.now ≡ replicas_of self.now object }
+    {
+        self.replicas.of_item(ItemKind::Object, object)
+    }
+
+    /// The metadata of an item, in the order of attribute, value and unit.
+    pub fn triples_of(&self, item: Item) -> &[TripleRow]
+        ensures { result.now ≡ triples_of self.now (kind_of item) (id_of item) }
+    {
+        let (kind, id) = kind_and_id(item);
+        self.triples.of_item(kind, id)
+    }
+
+    /// The access that an item gives, by user.
+    pub fn access_of(&self, item: Item) -> &[EntryRow]
+        ensures { result.now ≡ access_of self.now (kind_of item) (id_of item) }
+    {
+        let (kind, id) = kind_and_id(item);
+        self.entries.of_item(kind, id)
+    }
+}
+
+/// The kind and the id of an item.
+fn kind_and_id(item: Item) -> (ItemKind, u64)
+    ensures kind { result.0 ≡ kind_of item }
+    ensures id { result.1 ≡ id_of item }
+{
+    match item {
+        Item::Object(id) => (ItemKind::Object, id),
+        Item::Collection(id) => (ItemKind::Collection, id),
+        Item::Resource(id) => (ItemKind::Resource, u64::from(id)),
+        Item::User(id) => (ItemKind::User, u64::from(id)),
     }
 }

@@ -2,13 +2,15 @@ ghost use Rattle.std.specs.Prelude.{◌≡◌, ◌<◌, ℕ, Bool, true};
 ghost use Rattle.std.specs.declared.cmp.Ordering.{Ordering};
 ghost use Rattle.std.specs.declared.cmp.Ordering.TheVariants.{Less};
 ghost use Rattle.std.specs.Cmp.{IsTotalOrder};
-ghost use Rattle.grid_model.specs.Rows.{is_named_user, is_named_collection, is_named_object, is_named_resource, user_cmp, member_cmp, collection_cmp, object_cmp, replica_cmp, triple_cmp, entry_cmp, resource_cmp, orphan_cmp};
-ghost use Rattle.grid_model.proofs.RowOrders.{lower_id, user_cmp_total, member_cmp_total, collection_cmp_total, object_cmp_total, replica_cmp_total, triple_cmp_total, entry_cmp_total, resource_cmp_total, orphan_cmp_total};
+ghost use Rattle.grid_model.specs.declared.grid.ItemKind.{ItemKind};
+ghost use Rattle.grid_model.specs.declared.grid.ItemKind.TheVariants as kinds;
+ghost use Rattle.grid_model.specs.Rows.{same_item, is_named_user, is_named_collection, is_named_object, is_named_resource, user_cmp, member_cmp, collection_cmp, object_cmp, replica_cmp, triple_cmp, entry_cmp, resource_cmp, orphan_cmp};
+ghost use Rattle.grid_model.proofs.RowOrders.{replicas_together, triples_together, entries_together, lower_id, user_cmp_total, member_cmp_total, collection_cmp_total, object_cmp_total, replica_cmp_total, triple_cmp_total, entry_cmp_total, resource_cmp_total, orphan_cmp_total};
 
-use crate::kinds::item_number;
+use crate::kinds::{is_same_item, item_number};
 use grid_model::{
-    CollectionRow, EntryRow, MemberRow, ObjectRow, OrphanRow, ReplicaRow, ResourceRow, TripleRow,
-    UserRow,
+    CollectionRow, EntryRow, ItemKind, MemberRow, ObjectRow, OrphanRow, ReplicaRow, ResourceRow,
+    TripleRow, UserRow,
 };
 use std::cmp::Ordering;
 
@@ -142,6 +144,47 @@ impl Row for OrphanRow {
 
     fn cmp_key(&self, other: &OrphanRow) -> Ordering {
         self.vault.cmp(&other.vault)
+    }
+}
+
+/// A row that belongs to an item. The rows of one item stand next to one another.
+pub(crate) trait OfItem: Row {
+    ghost is_of: { Self → ItemKind → ℕ → Bool };
+
+    /// Whether it belongs to the item of this kind and id.
+    fn is_of(&self, kind: ItemKind, id: u64) -> bool
+        ensures { result ≡ is_of self.now kind id };
+
+    ghost together: { (a b c : Self) (kind : ItemKind) (id : ℕ) → Self.row_cmp a b ≡ Less → Self.row_cmp b c ≡ Less → is_of a kind id ≡ true → is_of c kind id ≡ true → is_of b kind id ≡ true };
+}
+
+impl OfItem for ReplicaRow {
+    ghost is_of = { λ r. same_item kinds.Object r.object };
+
+    ghost together = { replicas_together };
+
+    fn is_of(&self, kind: ItemKind, id: u64) -> bool {
+        is_same_item(ItemKind::Object, self.object, kind, id)
+    }
+}
+
+impl OfItem for TripleRow {
+    ghost is_of = { λ t. same_item t.kind t.id };
+
+    ghost together = { triples_together };
+
+    fn is_of(&self, kind: ItemKind, id: u64) -> bool {
+        is_same_item(self.kind, self.id, kind, id)
+    }
+}
+
+impl OfItem for EntryRow {
+    ghost is_of = { λ e. same_item e.kind e.id };
+
+    ghost together = { entries_together };
+
+    fn is_of(&self, kind: ItemKind, id: u64) -> bool {
+        is_same_item(self.kind, self.id, kind, id)
     }
 }
 

@@ -1,10 +1,12 @@
-ghost use Rattle.std.specs.Prelude.{◌≡◌, Bool, [], filter, map, IsTrue, IfOk, OnOk, OnErr};
+ghost use Rattle.std.specs.Prelude.{◌≡◌, ◌≤◌, Bool, [], length, filter, map, IsTrue, IfOk, OnOk, OnErr};
 ghost use Rattle.std.specs.Fn.{ComputesKey};
+ghost use Rattle.std.specs.List.{position_or_len, prefix_len};
 ghost use Rattle.std.specs.List.Sorted.{IsStrictlyIncreasing};
 ghost use Rattle.grid_model.specs.Rows.{IsTable, with_row};
 ghost use Rattle.grid_tables.specs.Places.{IsPlace};
 
-use crate::row::{Numbered, Row};
+use crate::row::{Numbered, OfItem, Row};
+use grid_model::ItemKind;
 use std::alloc::{AllocError, Global};
 use std::cmp::Ordering;
 use std::marker::Model;
@@ -114,5 +116,35 @@ impl<T: Numbered> Table<T> {
         let rows = self.as_slice();
         let ids = numbers_of(alloc, rows)?;
         Ok(ids)
+    }
+}
+
+/// How many rows stand before the first one of an item.
+fn before_item<T: OfItem>(rows: &[T], kind: ItemKind, id: u64) -> usize
+    ensures count { result ≡ position_or_len (λ r. T.is_of r kind id) rows.now }
+    ensures within { result ≤ length rows.now }
+{
+    rows.iter().take_while(|row| !row.is_of(kind, id)).count()
+}
+
+/// How many rows from the front on are of an item.
+fn first_of_item<T: OfItem>(rows: &[T], kind: ItemKind, id: u64) -> usize
+    ensures count { result ≡ prefix_len (λ r. T.is_of r kind id) rows.now }
+    ensures within { result ≤ length rows.now }
+{
+    rows.iter().take_while(|row| row.is_of(kind, id)).count()
+}
+
+impl<T: OfItem> Table<T> {
+    /// The rows of an item, which stand next to one another.
+    pub(crate) fn of_item(&self, kind: ItemKind, id: u64) -> &[T]
+        ensures { result.now ≡ filter (λ r. T.is_of r kind id) self.now }
+    {
+        let rows = self.as_slice();
+        let start = before_item(rows, kind, id);
+        let (_, rest) = rows.split_at(start);
+        let count = first_of_item(rest, kind, id);
+        let (of_item, _) = rest.split_at(count);
+        of_item
     }
 }

@@ -7,6 +7,6 @@ use Rattle.grid_tables.proofs.table.Table.ids.Goals as goal
 pub returns-clause-rising : goal.returns-clause-rising
 returns-clause-rising g c =
     let is : c.in_ok-ids.ids.items ≡ map g.T.Numbered.number c.args.self.now =
-        c.in_ok-ids.ensures ∙ ap (λ (rows : List g.row.T.Denot). map g.T.Numbered.number rows) c.as_slice-rows.ensures.rows in
+    c.in_ok-ids.ensures ∙ ap (λ (rows : List g.row.T.Denot). map g.T.Numbered.number rows) c.as_slice-rows.ensures.rows in
     subst (λ (ids : List ℕ). IsStrictlyIncreasing ids) (sym is)
     (IsStrictlyIncreasing-map g.T.Row.row_cmp g.T.Numbered.number g.met.T.Numbered.rises c.args.self.now c.as_slice-rows.ensures.table.ordered)
