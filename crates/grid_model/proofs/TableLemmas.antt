@@ -117,14 +117,14 @@ module _ {X : Type 0} (cmp : X → X → Ordering) where
       subst (λ i. i < length (map number rows) → slice_index (map number rows) k < slice_index (map number rows) i) (sym (add-one k))
       (increasing_at number rises rows sorted k) inside
 
--- a row that is found has what all have
-pub found : {X : Type 0} (P : X → Type 0) (test : X → Bool) (rows : List X) → AllByRecursion P rows → (r : X) → Some r ≡ find test rows → P r
-found P test [] all r e = absurd (cc)
-found P test (x ∷ rows) all r e =
-    elim (test x) as (λ b. Some r ≡ cond b (Some x) (find test rows) → P r) [
-      | true ↦ λ is. let same : x ≡ r = cc in subst P same all.0
-      | false ↦ λ is. found P test rows all.1 r is
-    ] e
+-- a row that is found passes
+pub find-passes : {X : Type 0} (test : X → Bool) (rows : List X) (r : X) → Some r ≡ find test rows → test r ≡ true
+find-passes test [] r e = absurd (cc)
+find-passes test (x ∷ rows) r e =
+    elim (test x) as (λ b. test x ≡ b → Some r ≡ cond b (Some x) (find test rows) → test r ≡ true) [
+      | true ↦ λ passes is. let same : x ≡ r = cc in subst (λ y. test y ≡ true) same passes
+      | false ↦ λ fails is. find-passes test rows r is
+    ] refl e
 
 -- rows that pass a test and stand next to one another
 module _ {X : Type 0} (cmp : X → X → Ordering) (test : X → Bool) (together : (a b c : X) → cmp a b ≡ Less → cmp b c ≡ Less → test a ≡ true → test c ≡ true → test b ≡ true) where

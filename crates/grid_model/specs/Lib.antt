@@ -12,5 +12,6 @@ pub mod Places
 pub mod Printing
 pub mod Replies
 pub mod Requests
+pub mod RowPaths
 pub mod Rows
 pub mod Words

@@ -1,8 +1,8 @@
-ghost use Rattle.std.specs.Prelude.{◌≡◌, ◌==◌, ◌&&◌, not, filter, Ok, Err, IsOk, OnOk, OnErr, IfErr};
+ghost use Rattle.std.specs.Prelude.{◌≡◌, ◌==◌, ◌&&◌, not, filter, Ok, Err, IsOk, OnOk, OnErr, IfErr, IfSome, IsTrue};
 ghost use Rattle.std.specs.List.{list_any};
 ghost use Rattle.std.specs.Option.{option_copied};
 ghost use Rattle.grid_model.specs.Applying.{apply, lies_in, is_child, is_child_named, is_object_named, free_for_collection, collection_fits, is_told_of, is_empty_collection, may_drop_collection};
-ghost use Rattle.grid_model.specs.Rows.{has_collection, collection};
+ghost use Rattle.grid_model.specs.Rows.{has_collection, collection, is_named_collection};
 ghost use Rattle.grid_tables.specs.declared.error.TableError.TheVariants.{BadDelta, Memory};
 
 use crate::kinds::is_name;
@@ -19,9 +19,10 @@ impl Tables {
         self.collections.as_slice().iter().any(|row| row.id == id)
     }
 
-    /// The collection with this id. It takes no memory.
+    /// The collection with this id, whose name is one but for `/`. It takes no memory.
     pub fn collection(&self, id: u64) -> Option<&CollectionRow>
-        ensures { option_copied result ≡ collection self.now id }
+        ensures row { option_copied result ≡ collection self.now id }
+        ensures named { IfSome result (λ row. IsTrue (is_named_collection row.now)) }
     {
         self.collections.as_slice().iter().find(|row| row.id == id)
     }

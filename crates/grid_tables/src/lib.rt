@@ -9,6 +9,7 @@ mod kinds;
 mod lookups;
 mod numbers;
 mod objects;
+mod paths;
 mod replicas;
 mod resources;
 mod row;

@@ -1,8 +1,8 @@
-ghost use Rattle.std.specs.Prelude.{◌≡◌, ◌==◌, ◌&&◌, not, filter, Ok, Err, IsOk, OnOk, OnErr, IfErr};
+ghost use Rattle.std.specs.Prelude.{◌≡◌, ◌==◌, ◌&&◌, not, filter, Ok, Err, IsOk, OnOk, OnErr, IfErr, IfSome, IsTrue};
 ghost use Rattle.std.specs.List.{list_any};
 ghost use Rattle.std.specs.Option.{option_copied};
 ghost use Rattle.grid_model.specs.Applying.{apply, is_child_named, is_object_named, free_for_object, object_fits, may_drop_object};
-ghost use Rattle.grid_model.specs.Rows.{has_object, object};
+ghost use Rattle.grid_model.specs.Rows.{has_object, object, is_named_object};
 ghost use Rattle.grid_tables.specs.declared.error.TableError.TheVariants.{BadDelta, Memory};
 
 use crate::collections::is_child_named;
@@ -19,9 +19,10 @@ impl Tables {
         self.objects.as_slice().iter().any(|row| row.id == id)
     }
 
-    /// The object with this id. It takes no memory.
+    /// The object with this id, whose name is one. It takes no memory.
     pub fn object(&self, id: u64) -> Option<&ObjectRow>
-        ensures { option_copied result ≡ object self.now id }
+        ensures row { option_copied result ≡ object self.now id }
+        ensures named { IfSome result (λ row. IsTrue (is_named_object row.now)) }
     {
         self.objects.as_slice().iter().find(|row| row.id == id)
     }

@@ -20,12 +20,12 @@ returns-then-current-eq0 c =
 
 pub returns-in-None : goal.returns-in-None
 returns-in-None c =
-    sym (lies-lost c.args.self.now c.args.upper c.loop-step.current (length c.as_slice-step-end.result.now) c.loop-step._step c.loop-step-test.true c.if-current-upper.false c.if-current-eq0.false c.in-None.ensures)
+    sym (lies-lost c.args.self.now c.args.upper c.loop-step.current (length c.as_slice-step-end.result.now) c.loop-step._step c.loop-step-test.true c.if-current-upper.false c.if-current-eq0.false c.in-None.ensures.row)
     ∙ c.loop-step.invariant
 
 pub loop-step-preserved : goal.loop-step-preserved
 loop-step-preserved c =
-    sym (lies-up c.args.self.now c.args.upper c.loop-step.current (length c.as_slice-step-end.result.now) c.loop-step._step c.in-Some.row.now c.loop-step-test.true c.if-current-upper.false c.if-current-eq0.false c.in-Some.ensures)
+    sym (lies-up c.args.self.now c.args.upper c.loop-step.current (length c.as_slice-step-end.result.now) c.loop-step._step c.in-Some.row.now c.loop-step-test.true c.if-current-upper.false c.if-current-eq0.false c.in-Some.ensures.row)
     ∙ c.loop-step.invariant
 
 pub returns : goal.returns
