@@ -171,3 +171,33 @@ compared-same c names i id inside within j at name is r not_root some same =
     same_so : (b rest : Bool) → false ≡ not b → (b && rest) ≡ rest
     same_so true rest e = refl
     same_so false rest e = absurd (cc)
+
+fused : (up : Option Path) (a : Text) → option_map (λ names. reverse (a ∷ names)) up ≡ option_map reverse (option_map (λ names. a ∷ names) up)
+fused None a = refl
+fused (Some p) a = refl
+
+-- the path of an object: its name last
+last_name : (up : Option Path) (a name : Text) (above : Path) → is_path_of (option_map (λ names. reverse (a ∷ names)) up) (above ++ name ∷ [])
+    ≡ (same_text a name && is_path_of (option_map reverse up) above)
+last_name up a name above =
+    ap (λ (o : Option Path). is_path_of o (above ++ name ∷ [])) (fused up a)
+    ∙ turned-up (option_map (λ names. a ∷ names) up) (above ++ name ∷ [])
+    ∙ ap (λ (p : Path). is_path_of (option_map (λ names. a ∷ names) up) p) (reverse-append above (name ∷ []))
+    ∙ with_name up a name (reverse above)
+    ∙ ap (λ b. same_text a name && b) (sym (turned-up up above))
+
+pub object-same : (up : Option Path) (a name : Text) (above names : Path) → names ≡ above ++ name ∷ [] → true ≡ same_text a name
+    → is_path_of (option_map (λ names. reverse (a ∷ names)) up) names ≡ is_path_of (option_map reverse up) above
+object-same up a name above names is same =
+    ap (λ (p : Path). is_path_of (option_map (λ names. reverse (a ∷ names)) up) p) is ∙ last_name up a name above ∙ ap (λ b. b && is_path_of (option_map reverse up) above) (sym same)
+
+pub object-other : (up : Option Path) (a name : Text) (above names : Path) → names ≡ above ++ name ∷ [] → false ≡ same_text a name
+    → is_path_of (option_map (λ names. reverse (a ∷ names)) up) names ≡ false
+object-other up a name above names is other =
+    ap (λ (p : Path). is_path_of (option_map (λ names. reverse (a ∷ names)) up) p) is ∙ last_name up a name above ∙ ap (λ b. b && is_path_of (option_map reverse up) above) (sym other)
+
+-- `/` is the path of no object
+pub object-root : (up : Option Path) (a : Text) (names : Path) → length names ≡ 0 → is_path_of (option_map (λ names. reverse (a ∷ names)) up) names ≡ false
+object-root up a [] e =
+    ap (λ (o : Option Path). is_path_of o []) (fused up a) ∙ turned-up (option_map (λ names. a ∷ names) up) [] ∙ no_name up a
+object-root up a (name ∷ names) e = absurd (omega arith)

@@ -120,4 +120,26 @@ impl Tables {
             .find(|row| self.is_at(row.id, names))
             .map(|row| row.id)
     }
+
+    // Whether these names lead from `/` down to an object.
+    fn is_object_at(&self, row: &ObjectRow, names: &[Text]) -> bool
+        ensures { result ≡ is_path_of (object_path self.now row.now) names.now }
+    {
+        match names.split_last() {
+            Some((name, above)) => row.name == *name && self.is_at(row.collection, above),
+            None => false,
+        }
+    }
+
+    /// The id of the object at this path. It takes no memory.
+    pub fn object_at(&self, path: &Path) -> Option<u64>
+        ensures { result ≡ object_at self.now path.now }
+    {
+        let names = path.names();
+        self.objects
+            .as_slice()
+            .iter()
+            .find(|row| self.is_object_at(row, names))
+            .map(|row| row.id)
+    }
 }

@@ -1,0 +1,2 @@
+mod deltas;
+mod refusals;
