@@ -10,8 +10,11 @@ use Rattle.grid_model.specs.declared.deltas.ObjectRow.{ObjectRow}
 abbrev pub names_within : ℕ → Cat → ℕ → Option Path
 names_within zero c id = None
 names_within (suc rows) c id =
-    elim (id == 0) [ true ↦ Some [] | false ↦
-      elim (collection c id) [ None ↦ None | Some r ↦ option_map (λ names. r.name ∷ names) (names_within rows c r.parent) ] ]
+    elim (id == 0) [
+      | true ↦ Some []
+      | false ↦
+          elim (collection c id) [ None ↦ None | Some r ↦ option_map (λ names. r.name ∷ names) (names_within rows c r.parent) ]
+    ]
 
 abbrev pub names_up : Cat → ℕ → Option Path
 names_up c id = names_within (length c.collections) c id

@@ -15,6 +15,8 @@ mod resources;
 mod row;
 mod table;
 mod tables;
+#[cfg(test)]
+mod tests;
 mod triples;
 mod users;
 

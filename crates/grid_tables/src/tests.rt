@@ -1,2 +1,4 @@
-mod deltas;
+mod applying;
+mod lookups;
 mod refusals;
+mod rows;
