@@ -10,4 +10,7 @@ pub mod PathExamples
 pub mod PathReading
 pub mod PathSpelling
 pub mod Refusals
+pub mod RowExamples
+pub mod RowOrders
+pub mod TableLemmas
 pub mod WordExamples

@@ -1,3 +1,4 @@
+pub mod Applying
 pub mod Catalogue
 pub mod Commands
 pub mod DataLines
@@ -13,5 +14,7 @@ pub mod Places
 pub mod Printing
 pub mod Replies
 pub mod Requests
+pub mod RowPaths
+pub mod Rows
 pub mod Words
 pub mod Writable

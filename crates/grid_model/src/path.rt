@@ -58,6 +58,14 @@ impl Path {
         }
     }
 
+    /// The path with these names from the root down, each of which is a name. It takes no memory.
+    pub fn from_names(names: Vec<Text>) -> Path
+        requires { IsTrue (is_path names.items) }
+        ensures { result ≡ names.items }
+    {
+        Path { names }
+    }
+
     /// Reads a path: `/`, or a `/` before each of its names. Refuses with `BadPath` exactly what is no path.
     pub fn parse(alloc: Global, bytes: &[u8]) -> Result<Path, PathError>
         ensures path { IfOk result (λ path. SpellsPath bytes.now path) }

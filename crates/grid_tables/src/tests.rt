@@ -1,0 +1,4 @@
+mod applying;
+mod lookups;
+mod refusals;
+mod rows;

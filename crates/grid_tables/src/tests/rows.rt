@@ -1,0 +1,226 @@
+use crate::{TableError, Tables};
+use grid_model::{
+    CollectionRow, Delta, Digest, EntryRow, ItemKind, Items, Level, MemberRow, Numbers, ObjectRow,
+    OrphanRow, Pending, ReplicaRow, ResourceKind, ResourceRow, Text, TripleRow, UserKind, UserRow,
+};
+use std::alloc::{AllocError, Global};
+
+pub(crate) fn text(alloc: Global, bytes: &[u8]) -> Result<Text, AllocError> {
+    Text::copy_of(alloc, bytes)
+}
+
+pub(crate) fn zone(alloc: Global, name: &[u8], stores: u8) -> Result<Delta, AllocError> {
+    let name = text(alloc, name)?;
+    Ok(Delta::Zone { name, stores })
+}
+
+pub(crate) fn user(
+    alloc: Global,
+    id: u32,
+    kind: UserKind,
+    name: &[u8],
+) -> Result<Delta, AllocError> {
+    let name = text(alloc, name)?;
+    Ok(Delta::User(UserRow { id, kind, name }))
+}
+
+pub(crate) fn member(group: u32, user: u32) -> Delta {
+    Delta::Member(MemberRow { group, user })
+}
+
+pub(crate) fn collection(
+    alloc: Global,
+    id: u64,
+    parent: u64,
+    name: &[u8],
+) -> Result<Delta, AllocError> {
+    let name = text(alloc, name)?;
+    Ok(Delta::Collection(CollectionRow {
+        id,
+        parent,
+        name,
+        inherit: false,
+    }))
+}
+
+pub(crate) fn object(
+    alloc: Global,
+    id: u64,
+    collection: u64,
+    name: &[u8],
+) -> Result<Delta, AllocError> {
+    let name = text(alloc, name)?;
+    Ok(Delta::Object(ObjectRow {
+        id,
+        collection,
+        name,
+        size: 0,
+        digest: Digest::from_bytes([0; 32]),
+        time: 0,
+    }))
+}
+
+pub(crate) fn replica(object: u64, number: u32, leaf: u32, vault: u64) -> Delta {
+    Delta::Replica(ReplicaRow {
+        object,
+        number,
+        leaf,
+        good: true,
+        size: 0,
+        digest: Digest::from_bytes([0; 32]),
+        vault,
+    })
+}
+
+pub(crate) fn triple(
+    alloc: Global,
+    kind: ItemKind,
+    id: u64,
+    value: &[u8],
+) -> Result<TripleRow, AllocError> {
+    Ok(TripleRow {
+        kind,
+        id,
+        attribute: text(alloc, b"a")?,
+        value: text(alloc, value)?,
+        unit: text(alloc, b"")?,
+    })
+}
+
+pub(crate) fn entry(kind: ItemKind, id: u64, user: u32, level: Level) -> Delta {
+    Delta::Entry(EntryRow {
+        kind,
+        id,
+        user,
+        level,
+    })
+}
+
+pub(crate) fn leaf(
+    alloc: Global,
+    id: u32,
+    name: &[u8],
+    slot: u8,
+    parent: u32,
+    place: u32,
+) -> Result<Delta, AllocError> {
+    let name = text(alloc, name)?;
+    Ok(Delta::Resource(ResourceRow {
+        id,
+        name,
+        kind: ResourceKind::Storage,
+        slot,
+        up: true,
+        parent,
+        place,
+    }))
+}
+
+pub(crate) fn node(
+    alloc: Global,
+    id: u32,
+    name: &[u8],
+    parent: u32,
+    place: u32,
+) -> Result<Delta, AllocError> {
+    let name = text(alloc, name)?;
+    Ok(Delta::Resource(ResourceRow {
+        id,
+        name,
+        kind: ResourceKind::Replication,
+        slot: 0,
+        up: true,
+        parent,
+        place,
+    }))
+}
+
+pub(crate) fn orphan(vault: u64, slot: u8) -> Delta {
+    Delta::Orphan(OrphanRow { vault, slot })
+}
+
+pub(crate) fn numbers(next_vault: u64) -> Delta {
+    Delta::Numbers(Numbers {
+        next_vault,
+        run: 0,
+        last: 0,
+    })
+}
+
+pub(crate) fn pending(alloc: Global, user: u32) -> Result<Delta, AllocError> {
+    Ok(Delta::Pending(Pending {
+        run: 0,
+        number: 1,
+        user,
+        line: text(alloc, b"0 rm /z/o")?,
+        marks: Items::from_vec(Vec::new(alloc)),
+        passed: Items::from_vec(Vec::new(alloc)),
+        running: None,
+        undo: Items::from_vec(Vec::new(alloc)),
+    }))
+}
+
+pub(crate) fn apply_all(tables: &mut Tables, deltas: Vec<Delta>) -> Result<(), TableError> {
+    for delta in deltas {
+        tables.apply(delta)?;
+    }
+    Ok(())
+}
+
+/// A zone `z` of two stores with rods and alice, and `public`, which rods is in.
+fn users(alloc: Global) -> Result<Vec<Delta>, AllocError> {
+    Ok(vec![in alloc;
+        zone(alloc, b"z", 2)?,
+        user(alloc, 2, UserKind::Rodsgroup, b"public")?,
+        user(alloc, 1, UserKind::Rodsadmin, b"rods")?,
+        user(alloc, 3, UserKind::Rodsuser, b"alice")?,
+        member(2, 1),
+        numbers(5),
+    ]?)
+}
+
+/// `/`, `/z`, `/z/home`, `/z/home/rods`, and in `/` the collection `e` with an entry and `t` with a triple.
+fn collections(alloc: Global) -> Result<Vec<Delta>, AllocError> {
+    Ok(vec![in alloc;
+        collection(alloc, 0, 0, b"")?,
+        collection(alloc, 1, 0, b"z")?,
+        collection(alloc, 2, 1, b"home")?,
+        collection(alloc, 3, 2, b"rods")?,
+        collection(alloc, 4, 0, b"e")?,
+        collection(alloc, 5, 0, b"t")?,
+        entry(ItemKind::Collection, 4, 3, Level::Read),
+        Delta::Triple(triple(alloc, ItemKind::Collection, 5, b"b")?),
+    ]?)
+}
+
+/// The node top with its leaf d0 on slot 0, the leaf d1 on slot 1, and an orphan there.
+fn resources(alloc: Global) -> Result<Vec<Delta>, AllocError> {
+    Ok(vec![in alloc;
+        node(alloc, 1, b"top", 0, 0)?,
+        leaf(alloc, 2, b"d0", 0, 1, 0)?,
+        leaf(alloc, 3, b"d1", 1, 0, 0)?,
+        orphan(2, 1),
+    ]?)
+}
+
+/// In `/z/home/rods` the object o with a replica on d0, p with a triple, q with an entry, and r.
+fn objects(alloc: Global) -> Result<Vec<Delta>, AllocError> {
+    Ok(vec![in alloc;
+        object(alloc, 1, 3, b"o")?,
+        object(alloc, 2, 3, b"p")?,
+        object(alloc, 3, 3, b"q")?,
+        object(alloc, 4, 3, b"r")?,
+        replica(1, 0, 2, 1),
+        Delta::Triple(triple(alloc, ItemKind::Object, 2, b"b")?),
+        entry(ItemKind::Object, 3, 1, Level::Own),
+    ]?)
+}
+
+pub(crate) fn small_grid(alloc: Global) -> Result<Tables, TableError> {
+    let mut tables = Tables::empty(alloc);
+    apply_all(&mut tables, users(alloc)?)?;
+    apply_all(&mut tables, collections(alloc)?)?;
+    apply_all(&mut tables, resources(alloc)?)?;
+    apply_all(&mut tables, objects(alloc)?)?;
+    Ok(tables)
+}
