@@ -1,7 +1,7 @@
 -- What requests do, one after another.
 use Rattle.std.specs.Prelude.{◌≡◌, Bool, true, false, not, ◌&&◌, List, [], ◌∷◌, Option, Some, None, Result, Ok, Err, ⊤}
 use Rattle.grid_model.specs.Maps.{add, has}
-use Rattle.grid_model.specs.Names.{Text, Path, same_text, parent}
+use Rattle.grid_model.specs.Names.{Path, same_text, parent}
 use Rattle.grid_model.specs.Grid.{Grid}
 use Rattle.grid_model.specs.Inputs.{Asked}
 use Rattle.grid_model.specs.Requests.{Asks}

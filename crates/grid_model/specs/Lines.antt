@@ -1,5 +1,5 @@
 -- The lines of an input.
-use Rattle.std.specs.Prelude.{◌≢◌, ℕ, Bool, not, ◌||◌, List, [], ◌∷◌, length, nat_lt, ◌==◌}
+use Rattle.std.specs.Prelude.{◌≢◌, Bool, not, ◌||◌, [], ◌∷◌, length, nat_lt, ◌==◌}
 use Rattle.std.specs.List.{list_all}
 use Rattle.grid_model.specs.Names.{Text}
 use Rattle.grid_model.specs.Limits.{longest_line}

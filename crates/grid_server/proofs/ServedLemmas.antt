@@ -1,14 +1,13 @@
 -- What was served so far, turn by turn, and how it ends.
-use Rattle.std.proofs.Common.{◌≡◌, ◌⊎◌, inl, inr, ℕ, ◌+◌, ◌^◌, ◌<◌, ◌≤◌, Bool, true, false, List, [], ◌∷◌, ◌++◌, length, take, Option, Some, None, Result, Ok, Err, IsTrue, arith, refl, sym, subst, ap, ◌∙◌, append_assoc, length-append}
-use Rattle.std.specs.Prelude.{⊤}
+use Rattle.std.proofs.Common.{◌≡◌, ◌⊎◌, inl, inr, ℕ, ◌+◌, ◌^◌, ◌≤◌, Bool, true, false, List, [], ◌∷◌, ◌++◌, length, take, Option, Some, None, Result, Ok, Err, IsTrue, arith, refl, sym, subst, ap, ◌∙◌, append_assoc, length-append}
 use Rattle.std.proofs.lemmas.List.{append-nil, take_at}
 use Rattle.grid_outside.specs.Disk.{DiskState}
 use Rattle.grid_outside.specs.Sink.{SinkState}
 use Rattle.grid_outside.specs.Source.{SourceState}
 use Rattle.grid_model.specs.Names.{Text}
 use Rattle.grid_model.specs.Grid.{Grid}
-use Rattle.grid_model.specs.Lines.{IsLine, is_request}
-use Rattle.grid_model.specs.Inputs.{Asked, HasBody, Takes, none_taken, AreRequests, EndsWith, ends_blank, ends_in_line, ends_in_body, IsPart, of_line, of_body}
+use Rattle.grid_model.specs.Lines.{is_request}
+use Rattle.grid_model.specs.Inputs.{Asked, HasBody, Takes, none_taken, AreRequests, ends_blank, ends_in_line, ends_in_body, IsPart, of_line, of_body}
 use Rattle.grid_model.specs.Requests.{Asks}
 use Rattle.grid_model.specs.Commands.{State, Done, command}
 use Rattle.grid_model.specs.Replies.{reply, replies, AddsFirst}

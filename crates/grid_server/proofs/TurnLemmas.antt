@@ -1,5 +1,5 @@
 -- What each turn counts.
-use Rattle.std.proofs.Common.{◌≡◌, true, false, ◌+◌, ◌^◌, ◌≤◌, ◌∷◌, length, Option, None, Some, Ok, Err, IsTrue, arith, refl, subst, ap, ◌∙◌, length-append}
+use Rattle.std.proofs.Common.{◌≡◌, true, false, ◌+◌, ◌^◌, ◌≤◌, ◌∷◌, length, Option, None, Some, IsTrue, arith, subst, ap, length-append}
 use Rattle.grid_outside.specs.Disk.{DiskState}
 use Rattle.grid_outside.specs.Sink.{SinkState}
 use Rattle.grid_outside.specs.Source.{SourceState}

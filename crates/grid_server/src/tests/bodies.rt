@@ -13,7 +13,10 @@ fn bodies_are_passed_over(rt: HostRuntime) -> Result<(), Fail> {
             b"1 err NotBuilt\n2 ok\n",
         ),
         (b"0 part 3\nabc0 login rods\n", b"1 err NotBuilt\n2 ok\n"),
-        (b"0 rules \"3\"\n\n\n\n0 login rods\n", b"1 err NotBuilt\n2 ok\n"),
+        (
+            b"0 rules \"3\"\n\n\n\n0 login rods\n",
+            b"1 err NotBuilt\n2 ok\n",
+        ),
         (b"0 rules 0\n0 login rods\n", b"1 err NotBuilt\n2 ok\n"),
         // The verb and the last word decide, whatever else is wrong.
         (b"99 put 3\nabc0 login rods\n", b"1 err NotBuilt\n2 ok\n"),
@@ -29,7 +32,10 @@ fn bodies_are_passed_over(rt: HostRuntime) -> Result<(), Fail> {
         (b"put 3\n0 login rods\n", b"1 err NotBuilt\n2 ok\n"),
         (b"0 put \"3\n0 login rods\n", b"1 err Syntax 8\n2 ok\n"),
         // The input ends within a body, and before it.
-        (b"0 part 18446744073709551615\n0 login rods\n", b"1 err NotBuilt\n"),
+        (
+            b"0 part 18446744073709551615\n0 login rods\n",
+            b"1 err NotBuilt\n",
+        ),
         (b"0 part 3\nab", b"1 err NotBuilt\n"),
         (b"0 part 3", b"1 err NotBuilt\n"),
     ];

@@ -1,4 +1,4 @@
-use Rattle.std.proofs.Common.{◌≡◌, List, refl, sym, subst, length, take}
+use Rattle.std.proofs.Common.{◌≡◌, refl, sym, subst, length, take}
 use Rattle.std.specs.Prelude.{SomeIff}
 use Rattle.std.specs.Cmp.Lexicographic.{same_text}
 use Rattle.base64.specs.Engines.{standard}

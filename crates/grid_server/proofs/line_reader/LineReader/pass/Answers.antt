@@ -1,4 +1,4 @@
-use Rattle.std.proofs.Common.{◌≡◌, ◌≤◌, arith, refl, ◌∙◌}
+use Rattle.std.proofs.Common.{arith, refl, ◌∙◌}
 use Rattle.grid_server.proofs.LineLemmas.{none_passed, held_passed, block_passed, whole_passed, none_held}
 use Rattle.grid_server.proofs.line_reader.LineReader.pass.Goals as goal
 

@@ -1,4 +1,4 @@
-use Rattle.std.proofs.Common.{◌≡◌, ap, arith}
+use Rattle.std.proofs.Common.{ap, arith}
 use Rattle.grid_server.proofs.LineLemmas.{passed_rest}
 use Rattle.grid_server.proofs.line_reader.LineReader.pass_held.Goals as goal
 

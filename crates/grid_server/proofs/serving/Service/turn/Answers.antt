@@ -1,4 +1,4 @@
-use Rattle.std.proofs.Common.{◌≡◌, ◌+◌, Option, Some, refl, sym, subst, ap}
+use Rattle.std.proofs.Common.{◌+◌, Option, Some, refl, sym, subst}
 use Rattle.grid_server.specs.Answering.{state_of}
 use Rattle.grid_server.specs.Turning.{Turns}
 use Rattle.grid_server.specs.declared.status.Status.{Status}
@@ -14,27 +14,27 @@ answer-requires-clause-short g c = asked_short (state_of c.take.new.self.server)
 pub returns-in-Skipped-clause-turns : goal.returns-in-Skipped-clause-turns
 returns-in-Skipped-clause-turns g c =
     idles c.args.self.now c.take.new.self c.take.ensures.server c.take.ensures.number (g.S.Source.source c.args.source.now) (g.S.Source.source c.take.new.source) (g.D.Disk.disk c.args.main.now) (g.K.Sink.sink c.args.sink.now)
-        taken.Skipped c.in-Skipped.ensures.finds tt
+    taken.Skipped c.in-Skipped.ensures.finds tt
 
 pub returns-in-Over-clause-turns : goal.returns-in-Over-clause-turns
 returns-in-Over-clause-turns g c =
     idles c.args.self.now c.take.new.self c.take.ensures.server c.take.ensures.number (g.S.Source.source c.args.source.now) (g.S.Source.source c.take.new.source) (g.D.Disk.disk c.args.main.now) (g.K.Sink.sink c.args.sink.now)
-        taken.Over c.in-Over.ensures.finds tt
+    taken.Over c.in-Over.ensures.finds tt
 
 pub returns-in-Long-clause-turns : goal.returns-in-Long-clause-turns
 returns-in-Long-clause-turns g c =
     idles c.args.self.now c.take.new.self c.take.ensures.server c.take.ensures.number (g.S.Source.source c.args.source.now) (g.S.Source.source c.take.new.source) (g.D.Disk.disk c.args.main.now) (g.K.Sink.sink c.args.sink.now)
-        taken.Long c.in-Long.ensures.finds tt
+    taken.Long c.in-Long.ensures.finds tt
 
 pub returns-in-Fault-clause-turns : goal.returns-in-Fault-clause-turns
 returns-in-Fault-clause-turns g c =
     idles c.args.self.now c.take.new.self c.take.ensures.server c.take.ensures.number (g.S.Source.source c.args.source.now) (g.S.Source.source c.take.new.source) (g.D.Disk.disk c.args.main.now) (g.K.Sink.sink c.args.sink.now)
-        taken.Fault c.in-Fault.ensures.finds tt
+    taken.Fault c.in-Fault.ensures.finds tt
 
 pub returns-in-Memory-clause-turns : goal.returns-in-Memory-clause-turns
 returns-in-Memory-clause-turns g c =
     idles c.args.self.now c.take.new.self c.take.ensures.server c.take.ensures.number (g.S.Source.source c.args.source.now) (g.S.Source.source c.take.new.source) (g.D.Disk.disk c.args.main.now) (g.K.Sink.sink c.args.sink.now)
-        taken.Memory c.in-Memory.ensures.finds tt
+    taken.Memory c.in-Memory.ensures.finds tt
 
 pub returns-in-Ok-clause-turns : goal.returns-in-Ok-clause-turns
 returns-in-Ok-clause-turns g c =
@@ -42,8 +42,8 @@ returns-in-Ok-clause-turns g c =
     let P : Option Status → Type 0 = λ o. Turns c.args.self.now new (g.D.Disk.disk c.args.main.now) (g.D.Disk.disk c.answer.new.main) (g.S.Source.source c.args.source.now) (g.S.Source.source c.take.new.source) (g.K.Sink.sink c.args.sink.now)
     (g.K.Sink.sink c.answer.new.sink) o in
     subst P (sym c.after_answer.ensures)
-        (turns_answered c.args.self.now c.take.new.self c.take.ensures.server c.take.ensures.number (g.S.Source.source c.args.source.now) (g.S.Source.source c.take.new.source) new refl refl (g.D.Disk.disk c.args.main.now)
-        (g.D.Disk.disk c.answer.new.main) (g.K.Sink.sink c.args.sink.now) (g.K.Sink.sink c.answer.new.sink) c.in-Request.asked c.in-Request.over c.in-Request.ensures.finds c.in-Ok.ensures.answers)
+    (turns_answered c.args.self.now c.take.new.self c.take.ensures.server c.take.ensures.number (g.S.Source.source c.args.source.now) (g.S.Source.source c.take.new.source) new refl refl (g.D.Disk.disk c.args.main.now)
+    (g.D.Disk.disk c.answer.new.main) (g.K.Sink.sink c.args.sink.now) (g.K.Sink.sink c.answer.new.sink) c.in-Request.asked c.in-Request.over c.in-Request.ensures.finds c.in-Ok.ensures.answers)
 
 pub returns-in-Err-clause-turns : goal.returns-in-Err-clause-turns
 returns-in-Err-clause-turns g c =
@@ -51,5 +51,5 @@ returns-in-Err-clause-turns g c =
     let P : Status → Type 0 = λ s. Turns c.args.self.now new (g.D.Disk.disk c.args.main.now) (g.D.Disk.disk c.answer.new.main) (g.S.Source.source c.args.source.now) (g.S.Source.source c.take.new.source) (g.K.Sink.sink c.args.sink.now)
     (g.K.Sink.sink c.answer.new.sink) (Some s) in
     subst P (sym c.status_of.ensures)
-        (turns_stopped c.args.self.now c.take.new.self c.take.ensures.server c.take.ensures.number (g.S.Source.source c.args.source.now) (g.S.Source.source c.take.new.source) new refl refl (g.D.Disk.disk c.args.main.now)
-        (g.D.Disk.disk c.answer.new.main) (g.K.Sink.sink c.args.sink.now) (g.K.Sink.sink c.answer.new.sink) c.in-Request.asked c.in-Request.over c.in-Request.ensures.finds c.in-Err.stop c.in-Err.ensures.answers)
+    (turns_stopped c.args.self.now c.take.new.self c.take.ensures.server c.take.ensures.number (g.S.Source.source c.args.source.now) (g.S.Source.source c.take.new.source) new refl refl (g.D.Disk.disk c.args.main.now)
+    (g.D.Disk.disk c.answer.new.main) (g.K.Sink.sink c.args.sink.now) (g.K.Sink.sink c.answer.new.sink) c.in-Request.asked c.in-Request.over c.in-Request.ensures.finds c.in-Err.stop c.in-Err.ensures.answers)
