@@ -13,6 +13,7 @@ pub mod Names
 pub mod Places
 pub mod Printing
 pub mod Replies
+pub mod ReplySpelling
 pub mod Requests
 pub mod RowPaths
 pub mod Rows

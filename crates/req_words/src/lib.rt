@@ -8,4 +8,5 @@ mod reading;
 mod tests;
 
 pub use line::{WordError, words};
-pub use quoting::{push_word, quote};
+pub use quoting::{is_bare, push_word, quote};
+pub use reading::{is_bare_byte, is_word_byte};

@@ -43,7 +43,7 @@ fn push_quoted_word(text: &mut Vec<u8>, word: &[u8]) -> Result<(), AllocError>
 }
 
 /// Whether the word may stand without quotes.
-fn is_bare(bytes: &[u8]) -> bool
+pub fn is_bare(bytes: &[u8]) -> bool
     ensures { result ≡ is_bare bytes.now }
 {
     !bytes.is_empty() && all_bare(bytes)

@@ -128,7 +128,7 @@ pub fn is_bare_byte(byte: u8) -> bool
 }
 
 /// Whether a word may have the byte.
-fn is_word_byte(byte: u8) -> bool
+pub fn is_word_byte(byte: u8) -> bool
     ensures { result ≡ is_word_byte byte }
 {
     byte >= 0x20 && byte != 0x7F
