@@ -1,14 +1,13 @@
 -- Worked deltas on the rows of the catalogue, by computation.
 use Rattle.std.proofs.Common.{◌≡◌, ℕ, refl}
 use Rattle.std.specs.Prelude.{true, false, List, [], ◌∷◌, ◌++◌, Some, None, Result, Ok, Err, codes, map, replicate}
-use Rattle.grid_model.specs.Names.{Text}
-use Rattle.grid_model.specs.Rows.{Cat, empty_cat, replicas_of, triples_of, access_of, is_member}
+use Rattle.grid_model.specs.Rows.{Cat, empty_cat}
 use Rattle.grid_model.specs.RowPaths.{collection_path, item_path, collection_at, object_at}
 use Rattle.grid_model.specs.Applying.{apply, apply_all}
 use Rattle.grid_model.specs.declared.deltas.Delta.{Delta}
 use Rattle.grid_model.specs.declared.deltas.Delta.TheVariants as delta
 use Rattle.grid_model.specs.declared.deltas.Item.TheVariants as item
-use Rattle.grid_model.specs.declared.grid.UserKind.TheVariants.{Rodsadmin, Rodsuser, Rodsgroup}
+use Rattle.grid_model.specs.declared.grid.UserKind.TheVariants.{Rodsadmin, Rodsgroup}
 use Rattle.grid_model.specs.declared.grid.ResourceKind.TheVariants.{Storage, Replication}
 use Rattle.grid_model.specs.declared.grid.Level.TheVariants.{Null, Read, Own}
 use Rattle.grid_model.specs.declared.grid.ItemKind.TheVariants as kind

@@ -1,5 +1,5 @@
 -- Tables: lists of rows whose keys strictly rise.
-use Rattle.std.proofs.Common.{◌≡◌, ℕ, zero, suc, ◌<◌, ◌≤◌, Bool, true, false, List, [], ◌∷◌, ◌++◌, length, take, drop, slice_index_or, slice_set, slice_index, Option, Some, None, refl, sym, ap, ◌∙◌, subst, arith, add-one, one-add}
+use Rattle.std.proofs.Common.{◌≡◌, ℕ, zero, suc, ◌<◌, ◌≤◌, Bool, true, false, List, [], ◌∷◌, length, take, drop, slice_index_or, slice_set, slice_index, Some, refl, sym, ap, ◌∙◌, subst, arith, add-one, one-add}
 use Rattle.std.specs.Prelude.{insert, map, find, filter, cond, not, ◌+◌, IsTrue}
 use Rattle.std.proofs.lemmas.Bool.{false_from_ne_true}
 use Rattle.std.specs.List.{AllByRecursion, items_where_true, prefix_len, position_or_len}

@@ -16,7 +16,6 @@ use Rattle.grid_model.specs.declared.deltas.EntryRow.{EntryRow}
 use Rattle.grid_model.specs.declared.deltas.ResourceRow.{ResourceRow}
 use Rattle.grid_model.specs.declared.deltas.OrphanRow.{OrphanRow}
 use Rattle.grid_model.specs.declared.deltas.Numbers.{Numbers}
-use Rattle.grid_model.specs.declared.deltas.Pending.{Pending}
 use Rattle.grid_model.specs.declared.grid.UserKind.{UserKind}
 use Rattle.grid_model.specs.declared.grid.UserKind.TheVariants.{Rodsadmin, Rodsuser, Rodsgroup}
 use Rattle.grid_model.specs.declared.grid.ResourceKind.{ResourceKind}

@@ -1,5 +1,5 @@
 -- Where the collections and objects of a catalogue are: full paths for ids.
-use Rattle.std.specs.Prelude.{ℕ, zero, suc, Bool, true, false, ◌==◌, List, [], ◌∷◌, length, reverse, find, Option, None, Some, option_map}
+use Rattle.std.specs.Prelude.{ℕ, zero, suc, Bool, true, false, ◌==◌, [], ◌∷◌, length, reverse, find, Option, None, Some, option_map}
 use Rattle.grid_model.specs.Names.{Path, same_path}
 use Rattle.grid_model.specs.Rows.{Cat, collection, object}
 use Rattle.grid_model.specs.declared.deltas.Item.{Item}

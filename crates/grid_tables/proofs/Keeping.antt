@@ -1,7 +1,7 @@
 -- What a table keeps where a closure computes a test.
-use Rattle.std.proofs.Common.{◌≡◌, ℕ, zero, suc, Bool, true, false, List, [], ◌∷◌, length, refl, sym, ap, ◌∙◌, Bor, arith}
+use Rattle.std.proofs.Common.{◌≡◌, Bool, true, false, List, [], ◌∷◌, length, refl, ap, ◌∙◌, Bor, arith}
 use Rattle.std.specs.Prelude.{filter}
-use Rattle.std.specs.Fn.{Mut, Called, CalledAt, AlwaysReturns, ReturnsEach, ComputesKey}
+use Rattle.std.specs.Fn.{Mut, CalledAt, ComputesKey}
 use Rattle.std.specs.List.{items_where_true}
 use Rattle.std.specs.List.Retain.{IsFiltered, ReturnsInTurn}
 

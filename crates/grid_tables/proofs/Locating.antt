@@ -1,7 +1,6 @@
 -- A path compared with the way up from a collection, from its last name on.
-use Rattle.std.proofs.Common.{◌≡◌, ◌==◌, ◌++◌, List, [], ◌∷◌, ℕ, zero, suc, ◌+◌, ◌-◌, ◌<◌, ◌≤◌, Bool, true, false, Option, Some, None, length, take, get_or, eqb-true, refl, sym, ap, ◌∙◌, subst, arith, eq-eqb, add-one}
+use Rattle.std.proofs.Common.{◌≡◌, ◌==◌, ◌++◌, List, [], ◌∷◌, ℕ, zero, suc, ◌+◌, ◌-◌, ◌<◌, ◌≤◌, Bool, true, false, Option, Some, None, length, take, get_or, eqb-true, refl, sym, ap, ◌∙◌, arith, eq-eqb}
 use Rattle.std.specs.Prelude.{option_map, reverse, not, ◌&&◌}
-use Rattle.std.specs.Bool.{Decides}
 use Rattle.std.specs.Cmp.{tied_then, both_ways}
 use Rattle.std.proofs.lemmas.Bool.{ne_eqb, eqb-false}
 use Rattle.std.proofs.lemmas.List.{reverse-append, reverse-reverse, length-reverse, take_more}

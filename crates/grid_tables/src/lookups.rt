@@ -1,7 +1,7 @@
 ghost use Rattle.std.specs.Prelude.{◌≡◌, find, option_map};
 ghost use Rattle.std.specs.Option.{option_copied};
 ghost use Rattle.grid_model.specs.Names.{same_text};
-ghost use Rattle.grid_model.specs.Rows.{user, replicas_of, triples_of, access_of, kind_of, id_of};
+ghost use Rattle.grid_model.specs.Rows.{IsCat, user, replicas_of, triples_of, access_of, kind_of, id_of};
 
 use crate::Tables;
 use grid_model::{
@@ -110,6 +110,21 @@ impl Tables {
     {
         let (kind, id) = kind_and_id(item);
         self.entries.of_item(kind, id)
+    }
+
+    /// The keys of each table strictly rise, and what has a name has one. It does nothing.
+    pub fn in_order(&self)
+        ensures { IsCat self.now }
+    {
+        let _users = self.users.as_slice();
+        let _members = self.members.as_slice();
+        let _collections = self.collections.as_slice();
+        let _objects = self.objects.as_slice();
+        let _replicas = self.replicas.as_slice();
+        let _triples = self.triples.as_slice();
+        let _entries = self.entries.as_slice();
+        let _resources = self.resources.as_slice();
+        let _orphans = self.orphans.as_slice();
     }
 }
 

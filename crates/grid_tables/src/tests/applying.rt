@@ -1,6 +1,4 @@
-use super::rows::{
-    apply_all, collection, entry, leaf, object, pending, replica, small_grid, text, triple,
-};
+use super::rows::{collection, entry, leaf, object, pending, replica, small_grid, text, triple};
 use crate::Kind;
 use grid_model::{Delta, Item, ItemKind, Level, MemberRow, Path};
 use std::test::Fail;
@@ -10,14 +8,11 @@ use std::test::Fail;
 fn rows_are_replaced(rt: HostRuntime) -> Result<(), Fail> {
     let alloc = rt.alloc();
     let mut tables = small_grid(alloc)?;
-    let deltas = vec![in alloc;
-        collection(alloc, 2, 0, b"h")?,
-        object(alloc, 1, 2, b"o")?,
-        replica(1, 0, 3, 3),
-        entry(ItemKind::Object, 3, 1, Level::Read),
-        leaf(alloc, 2, b"d2", 1, 1, 7)?,
-    ]?;
-    apply_all(&mut tables, deltas)?;
+    tables.apply(collection(alloc, 2, 0, b"h")?)?;
+    tables.apply(object(alloc, 1, 2, b"o")?)?;
+    tables.apply(replica(1, 0, 3, 3))?;
+    tables.apply(entry(ItemKind::Object, 3, 1, Level::Read))?;
+    tables.apply(leaf(alloc, 2, b"d2", 1, 1, 7)?)?;
     let path = Path::parse(alloc, b"/h/o")?;
     assert_eq!(rt; tables.object_at(&path), Some(1));
     let access = tables.access_of(Item::Object(3));
@@ -34,28 +29,31 @@ fn rows_are_replaced(rt: HostRuntime) -> Result<(), Fail> {
 fn rows_are_dropped(rt: HostRuntime) -> Result<(), Fail> {
     let alloc = rt.alloc();
     let mut tables = small_grid(alloc)?;
-    let deltas = vec![in alloc;
-        Delta::NoReplica {
-            object: 1,
-            number: 0
-        },
-        Delta::NoObject { id: 1 },
-        Delta::NoEntry {
-            kind: ItemKind::Collection,
-            id: 4,
-            user: 3
-        },
-        Delta::NoCollection { id: 4 },
-        Delta::NoTriple(triple(alloc, ItemKind::Object, 2, b"b")?),
-        Delta::NoObject { id: 2 },
-        Delta::NoOrphan { vault: 2 },
-        Delta::NoMember(MemberRow { group: 2, user: 1 }),
-    ]?;
-    apply_all(&mut tables, deltas)?;
+    tables.apply(Delta::NoReplica {
+        object: 1,
+        number: 0,
+    })?;
+    tables.apply(Delta::NoObject { id: 1 })?;
+    tables.apply(Delta::NoTriple(triple(alloc, ItemKind::Object, 2, b"b")?))?;
+    tables.apply(Delta::NoObject { id: 2 })?;
+    tables.apply(Delta::NoOrphan { vault: 2 })?;
+    tables.apply(Delta::NoMember(MemberRow { group: 2, user: 1 }))?;
     assert_eq!(rt; tables.count(Kind::Objects), 2);
-    assert_eq!(rt; tables.count(Kind::Collections), 5);
     assert_eq!(rt; tables.orphans().len(), 0);
     assert_eq!(rt; tables.members().len(), 0);
+    Ok(())
+}
+
+#[test]
+fn an_entry_goes_before_its_collection(rt: HostRuntime) -> Result<(), Fail> {
+    let mut tables = small_grid(rt.alloc())?;
+    tables.apply(Delta::NoEntry {
+        kind: ItemKind::Collection,
+        id: 4,
+        user: 3,
+    })?;
+    tables.apply(Delta::NoCollection { id: 4 })?;
+    assert_eq!(rt; tables.count(Kind::Collections), 5);
     Ok(())
 }
 
@@ -64,8 +62,8 @@ fn rules_and_a_pending_command(rt: HostRuntime) -> Result<(), Fail> {
     let alloc = rt.alloc();
     let mut tables = small_grid(alloc)?;
     let text = text(alloc, b"no rules")?;
-    let deltas = vec![in alloc; Delta::Rules { text }, pending(alloc, 3)?]?;
-    apply_all(&mut tables, deltas)?;
+    tables.apply(Delta::Rules { text })?;
+    tables.apply(pending(alloc, 3)?)?;
     assert_eq!(rt; tables.rules().as_slice(), b"no rules".as_slice());
     assert_eq!(rt; tables.pending().map(|pending| pending.user), Some(3));
     tables.apply(Delta::NoPending)?;

@@ -160,67 +160,59 @@ pub(crate) fn pending(alloc: Global, user: u32) -> Result<Delta, AllocError> {
     }))
 }
 
-pub(crate) fn apply_all(tables: &mut Tables, deltas: Vec<Delta>) -> Result<(), TableError> {
-    for delta in deltas {
-        tables.apply(delta)?;
-    }
-    Ok(())
-}
-
-/// A zone `z` of two stores with rods and alice, and `public`, which rods is in.
-fn users(alloc: Global) -> Result<Vec<Delta>, AllocError> {
-    Ok(vec![in alloc;
-        zone(alloc, b"z", 2)?,
-        user(alloc, 2, UserKind::Rodsgroup, b"public")?,
-        user(alloc, 1, UserKind::Rodsadmin, b"rods")?,
-        user(alloc, 3, UserKind::Rodsuser, b"alice")?,
-        member(2, 1),
-        numbers(5),
-    ]?)
-}
-
-/// `/`, `/z`, `/z/home`, `/z/home/rods`, and in `/` the collection `e` with an entry and `t` with a triple.
-fn collections(alloc: Global) -> Result<Vec<Delta>, AllocError> {
-    Ok(vec![in alloc;
-        collection(alloc, 0, 0, b"")?,
-        collection(alloc, 1, 0, b"z")?,
-        collection(alloc, 2, 1, b"home")?,
-        collection(alloc, 3, 2, b"rods")?,
-        collection(alloc, 4, 0, b"e")?,
-        collection(alloc, 5, 0, b"t")?,
-        entry(ItemKind::Collection, 4, 3, Level::Read),
-        Delta::Triple(triple(alloc, ItemKind::Collection, 5, b"b")?),
-    ]?)
-}
-
-/// The node top with its leaf d0 on slot 0, the leaf d1 on slot 1, and an orphan there.
-fn resources(alloc: Global) -> Result<Vec<Delta>, AllocError> {
-    Ok(vec![in alloc;
-        node(alloc, 1, b"top", 0, 0)?,
-        leaf(alloc, 2, b"d0", 0, 1, 0)?,
-        leaf(alloc, 3, b"d1", 1, 0, 0)?,
-        orphan(2, 1),
-    ]?)
-}
-
-/// In `/z/home/rods` the object o with a replica on d0, p with a triple, q with an entry, and r.
-fn objects(alloc: Global) -> Result<Vec<Delta>, AllocError> {
-    Ok(vec![in alloc;
-        object(alloc, 1, 3, b"o")?,
-        object(alloc, 2, 3, b"p")?,
-        object(alloc, 3, 3, b"q")?,
-        object(alloc, 4, 3, b"r")?,
-        replica(1, 0, 2, 1),
-        Delta::Triple(triple(alloc, ItemKind::Object, 2, b"b")?),
-        entry(ItemKind::Object, 3, 1, Level::Own),
-    ]?)
-}
-
 pub(crate) fn small_grid(alloc: Global) -> Result<Tables, TableError> {
     let mut tables = Tables::empty(alloc);
-    apply_all(&mut tables, users(alloc)?)?;
-    apply_all(&mut tables, collections(alloc)?)?;
-    apply_all(&mut tables, resources(alloc)?)?;
-    apply_all(&mut tables, objects(alloc)?)?;
+    tables.apply(zone(alloc, b"z", 2)?)?;
+    tables.apply(numbers(5))?;
+    add_users(alloc, &mut tables)?;
+    add_collections(alloc, &mut tables)?;
+    add_resources(alloc, &mut tables)?;
+    add_objects(alloc, &mut tables)?;
     Ok(tables)
+}
+
+// rods and alice, and `public`, which rods is in
+fn add_users(alloc: Global, tables: &mut Tables) -> Result<(), TableError> {
+    for (id, kind, name) in [
+        (2, UserKind::Rodsgroup, b"public".as_slice()),
+        (1, UserKind::Rodsadmin, b"rods"),
+        (3, UserKind::Rodsuser, b"alice"),
+    ] {
+        tables.apply(user(alloc, id, kind, name)?)?;
+    }
+    tables.apply(member(2, 1))
+}
+
+// `/`, `/z`, `/z/home`, `/z/home/rods`, and in `/` the collection `e` with an entry and `t` with a triple
+fn add_collections(alloc: Global, tables: &mut Tables) -> Result<(), TableError> {
+    for (id, parent, name) in [
+        (0, 0, b"".as_slice()),
+        (1, 0, b"z"),
+        (2, 1, b"home"),
+        (3, 2, b"rods"),
+        (4, 0, b"e"),
+        (5, 0, b"t"),
+    ] {
+        tables.apply(collection(alloc, id, parent, name)?)?;
+    }
+    tables.apply(entry(ItemKind::Collection, 4, 3, Level::Read))?;
+    tables.apply(Delta::Triple(triple(alloc, ItemKind::Collection, 5, b"b")?))
+}
+
+// the node top with its leaf d0 on slot 0, the leaf d1 on slot 1, and an orphan there
+fn add_resources(alloc: Global, tables: &mut Tables) -> Result<(), TableError> {
+    tables.apply(node(alloc, 1, b"top", 0, 0)?)?;
+    tables.apply(leaf(alloc, 2, b"d0", 0, 1, 0)?)?;
+    tables.apply(leaf(alloc, 3, b"d1", 1, 0, 0)?)?;
+    tables.apply(orphan(2, 1))
+}
+
+// in `/z/home/rods` the object o with a replica on d0, p with a triple, q with an entry, and r
+fn add_objects(alloc: Global, tables: &mut Tables) -> Result<(), TableError> {
+    for (id, name) in [(1, b"o".as_slice()), (2, b"p"), (3, b"q"), (4, b"r")] {
+        tables.apply(object(alloc, id, 3, name)?)?;
+    }
+    tables.apply(replica(1, 0, 2, 1))?;
+    tables.apply(entry(ItemKind::Object, 3, 1, Level::Own))?;
+    tables.apply(Delta::Triple(triple(alloc, ItemKind::Object, 2, b"b")?))
 }

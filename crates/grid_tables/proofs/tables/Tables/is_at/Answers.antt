@@ -1,7 +1,6 @@
-use Rattle.std.proofs.Common.{length, ◌≡◌, ◌<◌, ◌≤◌, ◌+◌, refl, sym, ap, ◌∙◌, arith}
-use Rattle.std.specs.Prelude.{◌&&◌}
+use Rattle.std.proofs.Common.{length, ◌≡◌, refl, sym, ap, ◌∙◌, arith}
 use Rattle.grid_model.specs.Rows.{Cat}
-use Rattle.grid_tables.proofs.Locating.{compared, compared-start, compared-root, compared-none, compared-other, compared-same, compared-end, no-such-path}
+use Rattle.grid_tables.proofs.Locating.{compared-start, compared-root, compared-none, compared-other, compared-same, compared-end, no-such-path}
 use Rattle.grid_tables.proofs.tables.Tables.is_at.Goals as goal
 
 pub returns-then-as_slice-names : goal.returns-then-as_slice-names

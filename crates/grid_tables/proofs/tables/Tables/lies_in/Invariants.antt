@@ -1,5 +1,5 @@
 use Rattle.std.proofs.Common.{◌≡◌, ◌-◌, length}
-use Rattle.grid_model.specs.Applying.{lies_in, lies_within}
+use Rattle.grid_model.specs.Applying.{lies_within}
 use Rattle.grid_tables.proofs.tables.Tables.lies_in.Given as goal
 
 abbrev pub invariant-loop-step : goal.invariant-loop-step

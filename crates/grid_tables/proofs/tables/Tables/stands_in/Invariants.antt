@@ -1,5 +1,5 @@
 use Rattle.std.proofs.Common.{◌≡◌, ◌-◌, length}
-use Rattle.grid_model.specs.Applying.{stands_in, stands_within}
+use Rattle.grid_model.specs.Applying.{stands_within}
 use Rattle.grid_tables.proofs.tables.Tables.stands_in.Given as goal
 
 abbrev pub invariant-loop-step : goal.invariant-loop-step
