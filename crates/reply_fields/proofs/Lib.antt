@@ -1,0 +1,11 @@
+pub mod Base64
+pub mod Codes
+pub mod CountedReading
+pub mod Decimals
+pub mod DigestFronts
+pub mod ListReading
+pub mod NameReading
+pub mod NumberReading
+pub mod SignedReading
+pub mod WordFronts
+pub mod WordReading
