@@ -101,9 +101,9 @@ fn write_and_send(
 #[test]
 fn what_is_written_is_sent(rt: HostRuntime) -> Result<(), Fail> {
     let alloc = rt.alloc();
-    for size in [0, 3, 65_536, 65_537] {
+    for size in [0, 1, 65_535, 65_536, 65_537, 200_000] {
         let bytes = letters(alloc, size)?;
-        assert!(rt; bytes.len() < 100_000);
+        assert!(rt; bytes.len() < 300_000);
         let mut stores: Vec<Box<dyn Plugin>> = Vec::new(alloc);
         add_store(&mut stores, Box::new(alloc, empty_store(alloc, &[])?)?)?;
         let mut sink = new_sink(alloc, &[])?;
