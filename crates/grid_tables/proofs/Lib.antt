@@ -1,3 +1,0 @@
-mod Keeping
-mod Locating
-mod WaysUp
