@@ -14,6 +14,7 @@ mod records;
 mod synced;
 
 pub use error::LogError;
+pub use framing::framed;
 pub use log::FrameLog;
 pub use records::{Record, Records};
 pub use synced::write_synced;

@@ -104,6 +104,10 @@ none_from (m ∷ ms) i name none =
 pub at_no_place : (ms : List MemFile) (name : ℕ) → position (has_name name) ms ≡ None → file_at (files_of ms) name ≡ None
 at_no_place ms name none = none_from ms 0 name (sym (position_from-zero (has_name name) ms) ∙ none)
 
+-- the file at the place that was found for a name has the name
+pub name_at_place : (ms : List MemFile) (name i : ℕ) (m : MemFile) → position (has_name name) ms ≡ Some i → m ≡ get_or ms i m → m.name ≡ name
+name_at_place ms name i m found is = is_same m.name name (ap (has_name name) is ∙ (position-Some (has_name name) ms i m found).1)
+
 -- the file at the first place with the name
 pub at_place : (ms : List MemFile) (name i : ℕ) (d : MemFile) → position (has_name name) ms ≡ Some i → file_at (files_of ms) name ≡ Some (file_of (get_or ms i d))
 at_place ms name i d is = let first = position-Some (has_name name) ms i d is in find_first ms i d name first.0 first.1 first.2

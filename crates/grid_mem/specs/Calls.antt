@@ -1,4 +1,5 @@
--- Calls of a device by moment: what is held after them, and what a stop at a moment leaves.
+-- Calls of a device by moment: what is held after them, and what a stop at a moment leaves. All of it is this
+-- project's own, and so is what each device in memory does with a call that is to fail.
 use Rattle.std.specs.Prelude.{◌≡◌, ◌⊎◌, ℕ, ◌<◌, ◌≤◌, Bool, true, false, ◌&&◌, List, [], ◌∷◌, ◌++◌, nat_lt, nat_le, if◌then◌else◌, Result, OnOk, OnErr}
 use Rattle.grid_mem.specs.declared.call.Call.{Call}
 

@@ -1,4 +1,4 @@
--- The calls of a disk.
+-- The calls of a disk in memory: what they do to what is held, when they fit, and what a stop may leave of them.
 use Rattle.std.specs.Prelude.{◌≡◌, ℕ, ◌+◌, Bool, true, false, ◌&&◌, List, ◌++◌, length, take, drop, nat_le, ⊤, if◌then◌else◌}
 use Rattle.grid_outside.specs.Disk.{Torn, Cut, Same}
 use Rattle.grid_outside.specs.DiskModel.{Unsynced, synced_at, after_write, after_cut}

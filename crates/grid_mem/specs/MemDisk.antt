@@ -17,6 +17,6 @@ disk_of d = state_of disk_kind disk_laws true d.faults d.last d.start.items d.by
 abbrev pub history_of : MemDisk → History DiskDeed (List ℕ)
 history_of d = record { start = d.start.items; calls = d.calls.items }
 
--- which calls fail
+-- which calls are to fail, and how many there were
 abbrev pub schedule_of : MemDisk → Schedule
 schedule_of d = d.schedule

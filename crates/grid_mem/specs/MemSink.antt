@@ -17,6 +17,6 @@ sink_of s = state_of sink_kind sink_laws true s.faults s.last s.start.items s.by
 abbrev pub history_of : MemSink → History (Vec ℕ Global) (List ℕ)
 history_of s = record { start = s.start.items; calls = s.calls.items }
 
--- which calls fail
+-- which calls are to fail, and how many there were
 abbrev pub schedule_of : MemSink → Schedule
 schedule_of s = s.schedule

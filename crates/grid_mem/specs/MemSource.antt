@@ -8,6 +8,6 @@ use Rattle.grid_mem.specs.declared.schedule.Schedule.{Schedule}
 abbrev pub source_of : MemSource → SourceState
 source_of s = record { faults = s.faults; tells = true; left = drop s.taken s.bytes.items }
 
--- which calls fail
+-- which calls are to fail, and how many there were
 abbrev pub schedule_of : MemSource → Schedule
 schedule_of s = s.schedule

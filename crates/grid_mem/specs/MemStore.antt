@@ -21,9 +21,13 @@ store_of s = state_of store_kind store_laws (is_none s.lies) s.faults s.last (co
 abbrev pub history_of : MemStore → History StoreDeed Files
 history_of s = record { start = contents s.history.start; calls = s.history.calls.items }
 
--- which calls fail
+-- which calls are to fail, and how many there were
 abbrev pub schedule_of : MemStore → Schedule
 schedule_of s = s.schedule
+
+-- the lies that it tells, if it was made to lie
+abbrev pub lies_of : MemStore → Option Lies
+lies_of s = s.lies
 
 -- a lie about the file of this name is due at the call of this number
 abbrev pub covers : Option Lies → ℕ → ℕ → Bool

@@ -1,4 +1,5 @@
--- The calls of a sink. A deed is the bytes that were put.
+-- The calls of a sink in memory: what they do to what is held, and what a stop may leave of them. A deed is the bytes
+-- that were put.
 use Rattle.std.specs.Prelude.{◌≡◌, ◌⊎◌, ℕ, ◌/◌, Bool, true, false, List, [], ◌++◌, length, take, Vec}
 use Rattle.std.specs.declared.alloc.Global.{Global}
 use Rattle.grid_outside.specs.Sink.{AddsPart}

@@ -1,4 +1,4 @@
--- The calls of a store.
+-- The calls of a store in memory: what they do to what is held, when they fit, and what a stop may leave of them.
 use Rattle.std.specs.Prelude.{◌≡◌, ℕ, ◌+◌, ◌^◌, Bool, true, false, not, ◌&&◌, List, [], ◌++◌, length, nat_eq, nat_lt, Option, Some, None, is_none, ⊤, if◌then◌else◌}
 use Rattle.std.specs.FinMap.{insert, remove}
 use Rattle.grid_outside.specs.Files.{File, Files, file_at, Writes, Removes}

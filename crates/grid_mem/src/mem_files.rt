@@ -1,4 +1,4 @@
-ghost use Rattle.std.specs.Prelude.{◌≡◌, ◌==◌, true, false, [], position, is_none, IfOk, OnOk, OnErr, option_map};
+ghost use Rattle.std.specs.Prelude.{◌≡◌, ◌==◌, true, false, [], position, is_none, IfOk, IfSome, OnOk, OnErr, option_map};
 ghost use Rattle.std.specs.FinMap.{remove};
 ghost use Rattle.grid_outside.specs.Files.{file_at};
 ghost use Rattle.grid_mem.specs.MemFile.{files_of, file_of};
@@ -46,7 +46,8 @@ impl MemFiles {
 
     /// The file of this name, if there is one.
     pub fn find(&self, name: u64) -> Option<&MemFile>
-        ensures { option_map file_of (option_copied result) ≡ file_at (contents self.now) name }
+        ensures file { option_map file_of (option_copied result) ≡ file_at (contents self.now) name }
+        ensures name { IfSome result (λ file. file.now.name ≡ name) }
     {
         let place = self.place(name)?;
         Some(&self.files[place])

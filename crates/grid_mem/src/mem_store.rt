@@ -1,5 +1,5 @@
 ghost use Rattle.std.specs.Prelude.{◌≡◌, ◌↔◌, ◌⊎◌, ℕ, ◌+◌, ◌^◌, ◌<◌, ◌≤◌, true, false, [], ◌∷◌, ◌++◌, ◌&&◌, length, OnOk, OnErr, IfOk, IsErr, IsTrue, is_none, Some, None};
-ghost use Rattle.grid_outside.specs.Files.{Files, file_at};
+ghost use Rattle.grid_outside.specs.Files.{File, Files, file_at};
 ghost use Rattle.grid_mem.specs.Calls.{is_record, held, held_after, held_since, Records};
 ghost use Rattle.grid_mem.specs.FilesCode.{files_prop};
 ghost use Rattle.grid_mem.specs.MemFiles.{contents};
@@ -35,8 +35,8 @@ impl MemStore {
     ghost use Rattle.grid_outside.specs.Device.{Acts};
     ghost use Rattle.grid_outside.specs.Fault.{HasCause};
     ghost use Rattle.grid_mem.specs.Device.{IsNew};
-    ghost use Rattle.grid_mem.specs.MemStore.{store_of, history_of, schedule_of, covers, is_lying};
-    ghost use Rattle.grid_mem.specs.Schedule.{next_number, IsFresh, CountsFaults};
+    ghost use Rattle.grid_mem.specs.MemStore.{store_of, history_of, schedule_of, lies_of, is_lying};
+    ghost use Rattle.grid_mem.specs.Schedule.{IsFresh, CountsFaults};
     ghost use Rattle.grid_mem.specs.StoreCalls.{MayBeFiles, known_files_at};
 
     /// A store that holds these files. Its calls of these numbers, from 1, are to fail. The only error is want of
@@ -86,8 +86,7 @@ impl MemStore {
         ensures faults { (store_of result).faults ≡ (store_of self).faults }
         ensures history { history_of result ≡ history_of self }
         ensures schedule { schedule_of result ≡ schedule_of self }
-        ensures lies { (name : ℕ) → is_lying result name ≡
-            covers (Some lies) name (next_number (schedule_of result)) }
+        ensures lies { lies_of result ≡ Some lies }
     {
         let mut store = self;
         store.lies = Some(lies);
@@ -132,6 +131,7 @@ impl MemStore {
         ensures cause { HasCause self.old.faults self.new.faults result }
         ensures faults { CountsFaults self.old.faults self.new.faults result }
         ensures schedule { self.new.schedule ≡ self.old.schedule }
+        ensures lies { lies_of self.new ≡ lies_of self.old }
         ensures recorded { Records moment (λ other. other ≡ deed)
             (history_of self.old) (history_of self.new) result }
     {
@@ -170,7 +170,8 @@ impl Plugin for MemStore {
     ghost use Rattle.grid_outside.specs.Device.{Acts, Looks};
     ghost use Rattle.grid_outside.specs.Fault.{HasCause};
     ghost use Rattle.grid_outside.specs.Files.{Writes, Removes, Created, Appended, Finished, IsGone, ReadsFile, HasSize};
-    ghost use Rattle.grid_mem.specs.MemStore.{store_of, history_of, schedule_of, is_lying};
+    ghost use Rattle.grid_outside.specs.Disk.{ReadsAt};
+    ghost use Rattle.grid_mem.specs.MemStore.{store_of, history_of, schedule_of, lies_of, is_lying};
     ghost use Rattle.grid_mem.specs.StoreCalls.{IsAppend};
     ghost use Rattle.grid_mem.specs.Schedule.{CountsFaults, FailsIfListed, FailsIfListedOr};
 
@@ -186,6 +187,7 @@ impl Plugin for MemStore {
         ensures cause { HasCause (store_of self.old).faults (store_of self.new).faults result }
         ensures faults { CountsFaults (store_of self.old).faults (store_of self.new).faults result }
         ensures listed { FailsIfListed (schedule_of self.old) (schedule_of self.new) result }
+        ensures lies { lies_of self.new ≡ lies_of self.old }
         ensures recorded { Records moment (λ deed. deed ≡ StoreDeed.Create name)
             (history_of self.old) (history_of self.new) result }
     {
@@ -205,6 +207,7 @@ impl Plugin for MemStore {
         ensures cause { HasCause (store_of self.old).faults (store_of self.new).faults result }
         ensures faults { CountsFaults (store_of self.old).faults (store_of self.new).faults result }
         ensures listed { FailsIfListed (schedule_of self.old) (schedule_of self.new) result }
+        ensures lies { lies_of self.new ≡ lies_of self.old }
         ensures recorded { Records moment (IsAppend name bytes.now)
             (history_of self.old) (history_of self.new) result }
     {
@@ -229,6 +232,7 @@ impl Plugin for MemStore {
         ensures cause { HasCause (store_of self.old).faults (store_of self.new).faults result }
         ensures faults { CountsFaults (store_of self.old).faults (store_of self.new).faults result }
         ensures listed { FailsIfListed (schedule_of self.old) (schedule_of self.new) result }
+        ensures lies { lies_of self.new ≡ lies_of self.old }
         ensures recorded { Records moment (λ deed. deed ≡ StoreDeed.Finish name)
             (history_of self.old) (history_of self.new) result }
     {
@@ -249,8 +253,11 @@ impl Plugin for MemStore {
         ensures faults { CountsFaults (store_of self.old).faults (store_of self.new).faults result }
         ensures listed { FailsIfListedOr (schedule_of self.old) (schedule_of self.new)
             (file_at (store_of self.old).holds name ≡ None) result }
+        ensures lies { lies_of self.new ≡ lies_of self.old }
         ensures truth { IfOk result (λ n. is_lying self.old name ≡ false →
             ReadsFile name at n (store_of self.old).holds buf.new) }
+        ensures fills { IfOk result (λ n. is_lying self.old name ≡ false → (file : File) →
+            file_at (store_of self.old).holds name ≡ Some file → ReadsAt file.bytes at n buf.new) }
         ensures lie { IfOk result (λ n. is_lying self.old name ≡ true → n ≡ 0) }
     {
         let lying = self.lies_about(name);
@@ -276,6 +283,7 @@ impl Plugin for MemStore {
         ensures faults { CountsFaults (store_of self.old).faults (store_of self.new).faults result }
         ensures listed { FailsIfListedOr (schedule_of self.old) (schedule_of self.new)
             (file_at (store_of self.old).holds name ≡ None) result }
+        ensures lies { lies_of self.new ≡ lies_of self.old }
         ensures truth { IfOk result (λ n. is_lying self.old name ≡ false →
             HasSize name n (store_of self.old).holds) }
         ensures lie { IfOk result (λ n. is_lying self.old name ≡ true → n ≡ 0) }
@@ -301,6 +309,7 @@ impl Plugin for MemStore {
         ensures cause { HasCause (store_of self.old).faults (store_of self.new).faults result }
         ensures faults { CountsFaults (store_of self.old).faults (store_of self.new).faults result }
         ensures listed { FailsIfListed (schedule_of self.old) (schedule_of self.new) result }
+        ensures lies { lies_of self.new ≡ lies_of self.old }
         ensures recorded { Records moment (λ deed. deed ≡ StoreDeed.Remove name)
             (history_of self.old) (history_of self.new) result }
     {

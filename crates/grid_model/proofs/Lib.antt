@@ -2,10 +2,14 @@ pub mod DigestReading
 pub mod Below
 pub mod Comparing
 pub mod DeltaExamples
+pub mod FoundRows
 pub mod Fronts
 pub mod GridExamples
+pub mod Gridding
+pub mod GrownGrids
 pub mod MapLemmas
 pub mod NameSpelling
+pub mod NewCollections
 pub mod PathExamples
 pub mod PathReading
 pub mod PathSpelling

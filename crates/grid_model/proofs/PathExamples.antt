@@ -1,8 +1,9 @@
 -- Worked examples of names and paths.
 use Rattle.std.proofs.Common.{◌≡◌, true, false, [], ◌∷◌, Some, None, refl}
-use Rattle.std.specs.Prelude.{codes}
+use Rattle.std.specs.Prelude.{codes, replicate}
 use Rattle.std.specs.declared.cmp.Ordering.TheVariants.{Less, Greater}
-use Rattle.grid_model.specs.Names.{Path, is_name, is_path, print_path, parent, is_under, path_cmp}
+use Rattle.grid_model.specs.Names.{Path, is_name, is_path, print_path, parent, is_under, path_cmp, text_cmp, same_text, same_path}
+use Rattle.grid_model.specs.Grid.{Grid, start}
 use Rattle.grid_model.specs.Maps.{Set, empty, add, has}
 
 -- ---- names
@@ -33,6 +34,30 @@ deleted_byte = refl
 
 high_byte : is_name (0xFF ∷ []) ≡ true
 high_byte = refl
+
+longest_name : is_name (replicate 255 0x61) ≡ true
+longest_name = refl
+
+too_long_a_name : is_name (replicate 256 0x61) ≡ false
+too_long_a_name = refl
+
+space_is_a_name : is_name (codes " ") ≡ true
+space_is_a_name = refl
+
+-- ---- texts
+
+-- by bytes, and not by length
+a_before_b : text_cmp (codes "ab") (codes "b") ≡ Less
+a_before_b = refl
+
+front_first : text_cmp (codes "ab") (codes "a") ≡ Greater
+front_first = refl
+
+same_bytes : same_text (codes "ab") (codes "ab") ≡ true
+same_bytes = refl
+
+other_case : same_text (codes "ab") (codes "aB") ≡ false
+other_case = refl
 
 -- ---- paths
 
@@ -82,6 +107,33 @@ zone_first = refl
 
 sibling_last : path_cmp (codes "z.a" ∷ []) home ≡ Greater
 sibling_last = refl
+
+same_names : same_path home home ≡ true
+same_names = refl
+
+split_elsewhere : same_path (codes "ab" ∷ codes "c" ∷ []) (codes "a" ∷ codes "bc" ∷ []) ≡ false
+split_elsewhere = refl
+
+-- ---- the grid from the start
+
+abbrev first : Grid
+first = start (codes "z") (codes "rods")
+
+root_from_the_start : has first.collections [] ≡ true
+root_from_the_start = refl
+
+zone_from_the_start : has first.collections (codes "z" ∷ []) ≡ true
+zone_from_the_start = refl
+
+homes_from_the_start : has first.collections home ≡ true
+homes_from_the_start = refl
+
+home_from_the_start : has first.collections rods ≡ true
+home_from_the_start = refl
+
+-- the group of everybody has none
+no_home_of_everybody : has first.collections (codes "z" ∷ codes "home" ∷ codes "public" ∷ []) ≡ false
+no_home_of_everybody = refl
 
 -- ---- sets
 

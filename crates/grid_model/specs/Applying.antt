@@ -1,4 +1,6 @@
--- What a delta makes of the catalogue. A refused delta has the number of its row as the cause.
+-- What a delta makes of the catalogue, or why it is refused: the cause is the number of the delta's kind, its tag. Which
+-- deltas there are and when they are refused is this project's own; that a resource is a leaf that stores or a node
+-- above others is of iRODS (iRODS documentation, composable resources).
 use Rattle.std.specs.Prelude.{ℕ, zero, suc, Bool, true, false, not, ◌&&◌, ◌||◌, ◌==◌, nat_lt, nat_le, List, [], ◌∷◌, length, None, Some, Result, Ok, Err, is_some, is_none, filter}
 use Rattle.std.specs.List.{list_any}
 use Rattle.std.specs.Ordering.{eq_by_cmp}
@@ -35,6 +37,7 @@ zone_fits c name stores = is_none c.zone && is_name name && nat_lt 0 stores && n
 abbrev pub user_fits : Cat → UserRow → Bool
 user_fits c r = is_name r.name && not (list_any (λ u. (u.id == r.id) || same_text u.name r.name) c.users)
 
+-- a group, and no user
 abbrev pub is_group_kind : UserKind → Bool
 is_group_kind Rodsadmin = false
 is_group_kind Rodsuser = false
@@ -48,7 +51,7 @@ is_group c id = list_any (λ u. (u.id == id) && is_group_kind u.kind) c.users
 abbrev pub is_user : Cat → ℕ → Bool
 is_user c id = list_any (λ u. (u.id == id) && not (is_group_kind u.kind)) c.users
 
--- one that may be in the other
+-- the one is a group, and the other a user, who may be in it
 abbrev pub can_join : Cat → MemberRow → Bool
 can_join c m = is_group c m.group && is_user c m.user
 
@@ -111,6 +114,7 @@ is_told_of c k id = list_any (λ t. same_item t.kind t.id k id) c.triples || lis
 abbrev pub is_empty_collection : Cat → ℕ → Bool
 is_empty_collection c id = not (list_any (λ r. is_child id r) c.collections) && not (list_any (λ r. r.collection == id) c.objects)
 
+-- it is there, nothing lies in it, and it has no metadata and gives no access
 abbrev pub may_drop_collection : Cat → ℕ → Bool
 may_drop_collection c id = has_collection c id && is_empty_collection c id && not (is_told_of c kind.Collection id)
 
@@ -118,11 +122,13 @@ may_drop_collection c id = has_collection c id && is_empty_collection c id && no
 abbrev pub object_fits : Cat → ObjectRow → Bool
 object_fits c r = has_collection c r.collection && is_name r.name && free_for_object c r.id r.collection r.name
 
+-- it is there, without replicas, metadata and access
 abbrev pub may_drop_object : Cat → ℕ → Bool
 may_drop_object c id = has_object c id && not (list_any (λ r. r.object == id) c.replicas) && not (is_told_of c kind.Object id)
 
 -- ---- replicas, orphans and the numbers
 
+-- a leaf of the tree, which keeps files; the others choose among their children
 abbrev pub is_storage : ResourceKind → Bool
 is_storage Storage = true
 is_storage Passthru = false
@@ -147,6 +153,7 @@ replica_fits c r = has_object c r.object && is_leaf c r.leaf
     && not (list_any (λ o. (o.object == r.object) && not (o.number == r.number) && (o.leaf == r.leaf)) c.replicas)
     && is_drawn c r.vault && not (list_any (λ o. (o.vault == r.vault) && not (is_replica r.object r.number o)) c.replicas)
 
+-- an object has a replica with that number
 abbrev pub has_replica : Cat → ℕ → ℕ → Bool
 has_replica c object number = list_any (λ r. is_replica object number r) c.replicas
 
@@ -154,15 +161,17 @@ has_replica c object number = list_any (λ r. is_replica object number r) c.repl
 abbrev pub orphan_fits : Cat → OrphanRow → Bool
 orphan_fits c r = is_drawn c r.vault && not (list_any (λ o. o.vault == r.vault) c.replicas) && nat_lt r.slot c.stores
 
+-- an orphan has the vault number
 abbrev pub has_orphan : Cat → ℕ → Bool
 has_orphan c vault = list_any (λ o. o.vault == vault) c.orphans
 
--- the next vault number never falls
+-- the next vault number is above 0 and never falls
 abbrev pub numbers_fit : Cat → Numbers → Bool
 numbers_fit c n = nat_lt 0 n.next_vault && nat_le c.numbers.next_vault n.next_vault
 
 -- ---- metadata and access
 
+-- the very triple is there
 abbrev pub has_triple : Cat → TripleRow → Bool
 has_triple c t = list_any (λ o. eq_by_cmp triple_cmp o t) c.triples
 
@@ -180,6 +189,7 @@ is_given Read = true
 is_given Write = true
 is_given Own = true
 
+-- a level above null, at an object or a collection that is there, for a user or a group that is there
 abbrev pub entry_fits : Cat → EntryRow → Bool
 entry_fits c e = gives_access e.kind && is_given e.level && item_there c e.kind e.id && has_user c e.user
 
@@ -187,6 +197,7 @@ entry_fits c e = gives_access e.kind && is_given e.level && item_there c e.kind 
 abbrev pub is_entry : ItemKind → ℕ → ℕ → EntryRow → Bool
 is_entry k id user e = same_item e.kind e.id k id && (e.user == user)
 
+-- an item gives a user access
 abbrev pub has_entry : Cat → ItemKind → ℕ → ℕ → Bool
 has_entry c k id user = list_any (λ e. is_entry k id user e) c.entries
 
@@ -222,6 +233,7 @@ parent_fits c r = elim (r.parent == 0) [
       && not (list_any (λ o. not (o.id == r.id) && (o.parent == r.parent) && (o.place == r.place)) c.resources)
 ]
 
+-- whether two resources do the same
 abbrev pub same_kind : ResourceKind → ResourceKind → Bool
 same_kind Storage Storage = true
 same_kind Passthru Passthru = true
@@ -238,7 +250,7 @@ resource_fits c r = nat_lt 0 r.id && is_name r.name
 
 -- ---- deltas
 
--- the new catalogue where the test passes, and else the cause
+-- the new catalogue where the test passes, and else the cause of the refusal
 abbrev pub where_fits : Bool → ℕ → Cat → Result Cat ℕ
 where_fits true cause c = Ok c
 where_fits false cause c = Err cause

@@ -1,4 +1,5 @@
--- Bytes of a file as lines of a reply: one line for each part, which says how many bytes follow it.
+-- Bytes of a file as lines of a reply: one line for each part, which says how many bytes follow it. The format is this
+-- project's own.
 use Rattle.std.specs.Prelude.{ℕ, suc, zero, ◌+◌, ◌-◌, ◌/◌, List, [], ◌∷◌, ◌++◌, codes, decimal, length, take, drop, flat_map}
 use Rattle.grid_model.specs.Names.{Text}
 use Rattle.grid_model.specs.Limits.{part_size}
@@ -8,7 +9,7 @@ use Rattle.grid_model.specs.Printing.{line}
 abbrev pub parts : ℕ → ℕ
 parts size = (size + (part_size - 1)) / part_size
 
--- the parts of so many bytes, of at most so many parts
+-- the bytes in parts of `part_size`, the last one of what is left, and at most so many parts
 abbrev pub parts_within : ℕ → List ℕ → List (List ℕ)
 parts_within zero bytes = []
 parts_within (suc d) [] = []

@@ -1,8 +1,12 @@
--- The bytes that changes of the catalogue are kept as. The format is this project's own.
-use Rattle.std.specs.Prelude.{◌≡◌, ℕ, ◌^◌, Bool, true, false, not, ◌&&◌, ◌||◌, List, [], ◌∷◌, ◌++◌, Option, Some, None, IsTrue, length, flat_map, nat_le, nat_lt, ◌==◌}
+-- The bytes that changes of the catalogue are kept as. Each change has one spelling: its tag, and its fields in order. The
+-- format is this project's own.
+use Rattle.std.specs.Prelude.{◌≡◌, ℕ, ◌^◌, Bool, true, false, ◌&&◌, ◌||◌, List, [], ◌∷◌, ◌++◌, Option, Some, None, IsTrue, length, flat_map, nat_lt, ◌==◌}
 use Rattle.std.specs.List.{list_all}
 use Rattle.std.specs.Int.{w32, w64, to_be_bytes}
 use Rattle.grid_model.specs.Names.{Text}
+use Rattle.grid_model.specs.Words.{is_word_byte}
+use Rattle.grid_model.specs.Rows.{item_number}
+use Rattle.grid_model.specs.Applying.{gives_access, is_given}
 use Rattle.grid_model.specs.declared.grid.UserKind.{UserKind}
 use Rattle.grid_model.specs.declared.grid.UserKind.TheVariants.{Rodsadmin, Rodsuser, Rodsgroup}
 use Rattle.grid_model.specs.declared.grid.ResourceKind.{ResourceKind}
@@ -10,7 +14,6 @@ use Rattle.grid_model.specs.declared.grid.ResourceKind.TheVariants.{Storage, Pas
 use Rattle.grid_model.specs.declared.grid.Level.{Level}
 use Rattle.grid_model.specs.declared.grid.Level.TheVariants.{Null, Read, Write, Own}
 use Rattle.grid_model.specs.declared.grid.ItemKind.{ItemKind}
-use Rattle.grid_model.specs.declared.grid.ItemKind.TheVariants as kind
 use Rattle.grid_model.specs.declared.calls.Call.{Call}
 use Rattle.grid_model.specs.declared.marks.BadReplica.{BadReplica}
 use Rattle.grid_model.specs.declared.marks.Mark.{Mark}
@@ -49,24 +52,27 @@ whole parts = record { fits = all_fit parts; bytes = joined parts }
 
 -- ---- numbers, the greatest byte first
 
--- a number of 32 bits
+-- a number below 2^32 in four bytes
 unfoldable pub four_bytes : ℕ → Text
 four_bytes n = to_be_bytes w32 n
 
--- a number of 64 bits
+-- a number below 2^64 in eight bytes
 unfoldable pub eight_bytes : ℕ → Text
 eight_bytes n = to_be_bytes w64 n
 
--- a number of 8 bits
+-- a number below 256
 abbrev pub is_byte : ℕ → Bool
 is_byte b = nat_lt b 256
 
+-- a number in one byte
 abbrev pub u8 : ℕ → Part
 u8 n = record { fits = is_byte n; bytes = n ∷ [] }
 
+-- a number in four bytes
 abbrev pub u32 : ℕ → Part
 u32 n = record { fits = nat_lt n (2 ^ 32); bytes = four_bytes n }
 
+-- a number in eight bytes
 abbrev pub u64 : ℕ → Part
 u64 n = record { fits = nat_lt n (2 ^ 64); bytes = eight_bytes n }
 
@@ -74,18 +80,20 @@ u64 n = record { fits = nat_lt n (2 ^ 64); bytes = eight_bytes n }
 abbrev pub code_if : Bool → ℕ → Part
 code_if fits n = record { fits = fits; bytes = n ∷ [] }
 
+-- one byte that says which of several values it is
 abbrev pub code : ℕ → Part
 code = code_if true
 
+-- a truth value as a number
 abbrev pub flag : Bool → ℕ
 flag false = 0
 flag true = 1
 
 -- ---- texts, digests and lists
 
--- a byte that a text may have: none below 0x20, and not 0x7F
+-- a byte that a text may have: one that a word may have
 abbrev pub is_shown_byte : ℕ → Bool
-is_shown_byte b = nat_le 0x20 b && not (b == 0x7F) && is_byte b
+is_shown_byte b = is_word_byte b && is_byte b
 
 -- the text of the rules may have the newline too
 abbrev pub is_rule_byte : ℕ → Bool
@@ -95,10 +103,11 @@ is_rule_byte b = is_shown_byte b || b == 0x0A
 abbrev pub text_of : (ℕ → Bool) → Text → Part
 text_of is_allowed t = record { fits = nat_lt (length t) (2 ^ 64) && list_all is_allowed t; bytes = eight_bytes (length t) ++ t }
 
+-- a text of shown bytes
 abbrev pub text : Text → Part
 text = text_of is_shown_byte
 
--- the 32 bytes
+-- the 32 bytes of a digest
 abbrev pub digest : Text → Part
 digest d = record { fits = (length d == 32) && list_all is_byte d; bytes = d }
 
@@ -108,34 +117,20 @@ each parts xs = record { fits = nat_lt (length xs) (2 ^ 64) && list_all (λ x. a
 
 -- ---- kinds and levels, as their numbers
 
+-- what a user is
 abbrev pub user_kind : UserKind → ℕ
 user_kind Rodsadmin = 1
 user_kind Rodsuser = 2
 user_kind Rodsgroup = 3
 
-abbrev pub item_kind : ItemKind → ℕ
-item_kind kind.Object = 1
-item_kind kind.Collection = 2
-item_kind kind.Resource = 3
-item_kind kind.User = 4
-
--- whether it is of what has entries: an object or a collection
-abbrev pub has_entries : ItemKind → Bool
-has_entries kind.Object = true
-has_entries kind.Collection = true
-has_entries kind.Resource = false
-has_entries kind.User = false
-
+-- what a user may do
 abbrev pub level : Level → ℕ
 level Null = 0
 level Read = 1
 level Write = 2
 level Own = 3
 
--- whether an entry may give it
-abbrev pub is_given : Level → Bool
-is_given l = nat_lt 0 (level l)
-
+-- what a resource does
 abbrev pub resource_kind : ResourceKind → ℕ
 resource_kind Storage = 1
 resource_kind Passthru = 2
@@ -144,9 +139,9 @@ resource_kind Replication = 4
 
 -- ---- rows, each as its parts in order
 
--- the kind of what an entry is at
+-- the kind of what an entry is at, which must give access
 abbrev pub entry_kind : ItemKind → Part
-entry_kind k = code_if (has_entries k) (item_kind k)
+entry_kind k = code_if (gives_access k) (item_number k)
 
 abbrev pub user_row : UserRow → List Part
 user_row r = u32 r.id ∷ code (user_kind r.kind) ∷ text r.name ∷ []
@@ -160,11 +155,12 @@ collection_row r = u64 r.id ∷ u64 r.parent ∷ text r.name ∷ code (flag r.in
 abbrev pub object_row : ObjectRow → List Part
 object_row r = u64 r.id ∷ u64 r.collection ∷ text r.name ∷ u64 r.size ∷ digest r.digest ∷ u64 r.time ∷ []
 
+-- a stale replica has the status 0 and a good one 1 (iRODS documentation, replica status)
 abbrev pub replica_row : ReplicaRow → List Part
 replica_row r = u64 r.object ∷ u32 r.number ∷ u32 r.leaf ∷ code (flag r.good) ∷ u64 r.size ∷ digest r.digest ∷ u64 r.vault ∷ []
 
 abbrev pub triple_row : TripleRow → List Part
-triple_row r = code (item_kind r.kind) ∷ u64 r.id ∷ text r.attribute ∷ text r.value ∷ text r.unit ∷ []
+triple_row r = code (item_number r.kind) ∷ u64 r.id ∷ text r.attribute ∷ text r.value ∷ text r.unit ∷ []
 
 abbrev pub entry_row : EntryRow → List Part
 entry_row r = entry_kind r.kind ∷ u64 r.id ∷ u32 r.user ∷ code_if (is_given r.level) (level r.level) ∷ []
@@ -180,18 +176,21 @@ numbers n = u64 n.next_vault ∷ u64 n.run ∷ u64 n.last ∷ []
 
 -- ---- what a command that is not done has
 
+-- its name, and its arguments
 abbrev pub call : Call → List Part
 call c = text c.name ∷ each (λ t. text t ∷ []) c.args ∷ []
 
 abbrev pub bad_replica : BadReplica → List Part
 bad_replica b = u32 b.number ∷ u64 b.len ∷ digest b.found ∷ []
 
+-- which kind of mark, and its fields
 abbrev pub mark : Mark → List Part
 mark (Ran word now bad) = code 1 ∷ u64 word ∷ u64 now ∷ each bad_replica bad ∷ []
 mark (Fault slot parts) = code 2 ∷ u8 slot ∷ u64 parts ∷ []
 mark (Bad slot len found parts) = code 3 ∷ u8 slot ∷ u64 len ∷ digest found ∷ u64 parts ∷ []
 mark Stop = code 4 ∷ []
 
+-- the call, and its failure
 abbrev pub passed : Passed → List Part
 passed p = whole (call p.call) ∷ text p.failure ∷ []
 
@@ -200,6 +199,7 @@ abbrev pub running : Option Call → Part
 running None = code (flag false)
 running (Some c) = whole (code (flag true) ∷ call c)
 
+-- all that is kept of the command
 abbrev pub pending : Pending → List Part
 pending p = u64 p.run ∷ u64 p.number ∷ u32 p.user ∷ text p.line ∷ each mark p.marks ∷ each passed p.passed ∷ running p.running ∷ each call p.undo ∷ []
 

@@ -4,16 +4,17 @@ use Rattle.base64.specs.Rfc4648.{encode}
 use Rattle.base64.specs.Alphabets.{standard}
 use Rattle.grid_model.specs.Names.{Text}
 
--- what SHA-256 gives of some bytes
+-- what SHA-256 gives of some bytes (FIPS 180-4, section 6.2): its 32 bytes in order
 abbrev pub Digest : Type 0
 Digest = List ℕ
 
--- it has 32 bytes
+-- it is 32 numbers below 256
 pub record IsDigest (d : Digest) : Type 0 where
   pub length_is : length d ≡ 32
   pub bytes : (i : ℕ) → slice_index d i < 256
 
--- `sha2:` and the padded base64 of the digest, in the standard alphabet (RFC 4648, section 4)
+-- `sha2:` and the padded base64 of the digest, in the standard alphabet (RFC 4648, section 4), as iRODS writes
+-- checksums (iRODS documentation)
 abbrev pub checksum : Digest → Text
 checksum d = codes "sha2:" ++ encode standard.symbols 0x3D true d
 

@@ -1,4 +1,4 @@
--- The requests of an input: lines, some with bytes behind them that belong to them.
+-- The requests of an input: lines, some with bytes behind them that belong to them. The format is this project's own.
 use Rattle.std.specs.Prelude.{◌≡◌, ℕ, ◌^◌, ◌<◌, ◌≤◌, false, List, [], ◌∷◌, ◌++◌, length, map, IsTrue, codes, decimal}
 use Rattle.std.specs.List.{list_any}
 use Rattle.grid_model.specs.Names.{Text, same_text}

@@ -1,10 +1,10 @@
--- How much of each there may be.
+-- How much of each there may be. All limits are this project's own.
 use Rattle.std.specs.Prelude.{ℕ}
 
--- of a request line, without its newline
+-- how many bytes a request line has at most, without its newline
 abbrev pub longest_line : ℕ
 longest_line = 4096
 
--- of what is sent or copied at once, in bytes
+-- how many bytes are sent or copied at once at most
 abbrev pub part_size : ℕ
 part_size = 65536

@@ -1,4 +1,4 @@
--- The lines of an input.
+-- The lines of an input, each ended by the byte 0x0A or by the input's end. The format is this project's own.
 use Rattle.std.specs.Prelude.{◌≢◌, Bool, not, ◌||◌, [], ◌∷◌, length, nat_lt, ◌==◌}
 use Rattle.std.specs.List.{list_all}
 use Rattle.grid_model.specs.Names.{Text}

@@ -1,5 +1,5 @@
 -- Finite maps and sets as values that compute, and are equal wherever they answer alike.
-use Rattle.std.specs.Prelude.{◌≡◌, Bool, true, false, T, List, [], Option, is_some, refl, ⊤}
+use Rattle.std.specs.Prelude.{◌≡◌, Bool, true, false, T, List, [], ◌∷◌, Option, is_some, refl, ⊤}
 use Rattle.std.specs.Bool.{passes}
 use Rattle.std.specs.declared.cmp.Ordering.{Ordering}
 use Rattle.std.specs.FinMap.{find, put as put_entry, is_sorted}
@@ -27,9 +27,14 @@ module _ {K X : Type 0} {R : K → K → Ordering} where
   abbrev pub has : Map R X → K → Bool
   has m k = is_some (get m k)
 
-  -- m with this value at the key
+  -- m with this value at the key, and at each other key what it had
   abbrev pub put : Map R X → K → X → Map R X
   put m k x = if_sorted (put_entry R k x m.entries) (is_sorted R (put_entry R k x m.entries)) refl m
+
+  -- the map of a list, in which the first value of a key counts
+  abbrev pub from_list : List (K × X) → Map R X
+  from_list [] = empty
+  from_list (e ∷ es) = put (from_list es) e.0 e.1
 
 -- a finite set
 abbrev pub Set : {K : Type 0} → (K → K → Ordering) → Type 0

@@ -1,4 +1,5 @@
--- Names and paths, as values and as texts.
+-- Names and logical paths (iRODS Primer, the logical name space), as values and as texts. Which bytes a name may have,
+-- and how many, is this project's own.
 use Rattle.std.specs.Prelude.{◌≡◌, ℕ, Bool, true, false, not, ◌&&◌, List, [], ◌∷◌, length, flat_map, Option, Some, None, option_map, nat_lt, nat_le, ◌==◌, IsTrue}
 use Rattle.std.specs.List.{list_all}
 use Rattle.std.specs.Option.{option_map_or}
@@ -6,14 +7,15 @@ use Rattle.std.specs.declared.cmp.Ordering.{Ordering}
 use Rattle.std.specs.Ordering.{nat_cmp, eq_by_cmp}
 use Rattle.std.specs.Cmp.Lexicographic.{slice_cmp}
 
+-- a list of bytes
 abbrev pub Text : Type 0
 Text = List ℕ
 
--- the names from the root down
+-- a place in the grid: the names from `/` down, and none for `/` itself
 abbrev pub Path : Type 0
 Path = List Text
 
--- by bytes
+-- by bytes, and a text before those that it begins
 abbrev pub text_cmp : Text → Text → Ordering
 text_cmp = slice_cmp nat_cmp
 
@@ -29,7 +31,7 @@ same_text = eq_by_cmp text_cmp
 abbrev pub same_path : Path → Path → Bool
 same_path = eq_by_cmp path_cmp
 
--- a byte that a name may have
+-- a byte that a name may have: none below 0x20, not 0x7F and not `/`
 abbrev pub is_name_byte : ℕ → Bool
 is_name_byte b = nat_le 0x20 b && not (b == 0x7F) && not (b == 0x2F)
 

@@ -1,4 +1,4 @@
--- Where a text stops being one that is accepted.
+-- Where a text stops being one that is accepted. Places count from 0, and are this project's own.
 use Rattle.std.specs.Prelude.{ℕ, ◌<◌, ◌≤◌, List, ◌++◌, length, take, Result, Ok, Err}
 
 module _ {X A : Type 0} (Spells : List X → A → Type 0) where

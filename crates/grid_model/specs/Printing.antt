@@ -1,4 +1,5 @@
--- How refusals and failures are printed: the name, and then the fields in the order of their declaration.
+-- How refusals and failures are printed: the name, and then the fields in the order of their declaration. The words are
+-- this project's own.
 use Rattle.std.specs.Prelude.{ℕ, List, [], ◌∷◌, ◌++◌, codes, decimal}
 use Rattle.std.specs.Fmt.{signed_decimal}
 use Rattle.std.specs.List.{join_with_byte}
@@ -23,6 +24,7 @@ spaced ws = join_with_byte 0x20 ws
 abbrev pub line : ℕ → List Text → Text
 line n ws = spaced (decimal n ∷ ws) ++ 0x0A ∷ []
 
+-- what there may be only so many of, as one word
 abbrev pub print_what : What → Text
 print_what what.Users = codes "users"
 print_what what.Members = codes "members"
@@ -33,6 +35,7 @@ print_what what.Triples = codes "triples"
 print_what what.Access = codes "access"
 print_what what.Uploads = codes "uploads"
 
+-- why a tree of resources is not made so, as one word
 abbrev pub print_tree_cause : TreeCause → Text
 print_tree_cause tree.Leaf = codes "Leaf"
 print_tree_cause tree.HasParent = codes "HasParent"
@@ -40,6 +43,7 @@ print_tree_cause tree.Cycle = codes "Cycle"
 print_tree_cause tree.Full = codes "Full"
 print_tree_cause tree.Coordinating = codes "Coordinating"
 
+-- why a text is no text of rules, as one word
 abbrev pub print_rule_cause : RuleCause → Text
 print_rule_cause rule.Token = codes "Token"
 print_rule_cause rule.Grammar = codes "Grammar"
@@ -92,6 +96,7 @@ print_refusal (refusal.Fault slot) = spaced (codes "Fault" ∷ decimal slot ∷ 
 print_refusal (refusal.Damaged slot size digest len found) =
     spaced (codes "Damaged" ∷ decimal slot ∷ decimal size ∷ checksum digest ∷ decimal len ∷ checksum found ∷ [])
 
+-- a refusal as it is, a number with its sign behind `Code`, and the name of any other failure
 abbrev pub print_failure : Failure → Text
 print_failure (failure.Refused r) = print_refusal r
 print_failure (failure.Code n) = spaced (codes "Code" ∷ signed_decimal n ∷ [])

@@ -1,4 +1,4 @@
--- The lines of replies.
+-- The lines of replies. The format is this project's own.
 use Rattle.std.specs.Prelude.{◌≡◌, ℕ, ◌+◌, List, [], ◌∷◌, ◌++◌, Result, Ok, Err, ⊤, codes, decimal, map, flat_map}
 use Rattle.grid_model.specs.Names.{Text}
 use Rattle.grid_model.specs.Words.{quoted_word}
@@ -19,6 +19,7 @@ use Rattle.grid_model.specs.declared.replies.Reply.{Reply}
 abbrev pub bad_words : BadReplica → List Text
 bad_words b = codes "bad" ∷ decimal b.number ∷ decimal b.len ∷ checksum b.found ∷ []
 
+-- a mark in its line: how the deed ended, and the fields of that
 abbrev pub mark_words : Mark → List Text
 mark_words (Ran word now bad) = codes "ran" ∷ decimal word ∷ decimal now ∷ flat_map bad_words bad
 mark_words (Fault slot sent) = codes "fault" ∷ decimal slot ∷ decimal sent ∷ []
@@ -33,9 +34,11 @@ mark_line n m = line n (codes "mark" ∷ mark_words m)
 abbrev pub passed_line : ℕ → Passed → Text
 passed_line n p = line n (codes "passed" ∷ map quoted_word (p.call.name ∷ p.call.args ++ p.failure ∷ []))
 
+-- one row of an answer, word by word
 abbrev pub row_line : ℕ → List Text → Text
 row_line n ws = line n (codes "row" ∷ map quoted_word ws)
 
+-- how the command ended: `ok` and what it says, or `err` and why
 abbrev pub end_words : End → List Text
 end_words (end.Done ws) = codes "ok" ∷ map quoted_word ws
 end_words (end.Refused r) = codes "err" ∷ print_refusal r ∷ []

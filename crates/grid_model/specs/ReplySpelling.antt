@@ -1,4 +1,4 @@
--- Which texts are whole replies to one request.
+-- Which texts are whole replies to one request. The format is this project's own.
 use Rattle.std.specs.Prelude.{◌≡◌, ℕ, ◌^◌, ◌<◌, List, [], ◌∷◌, ◌++◌, IsTrue, FitsSigned}
 use Rattle.std.specs.Int.{w64}
 use Rattle.grid_model.specs.Names.{Text}
@@ -34,11 +34,13 @@ FitsRefusal (refusal.Fault slot) = slot < 2 ^ 8
 FitsRefusal (refusal.Damaged slot size digest len found) = (slot < 2 ^ 8) × (size < 2 ^ 64) × IsDigest digest × (len < 2 ^ 64) × IsDigest found
 FitsRefusal _ = Unit {0}
 
+-- the fields of a failure are within their types
 abbrev pub FitsFailure : Failure → Type 0
 FitsFailure (failure.Refused r) = FitsRefusal r
 FitsFailure (failure.Code n) = FitsSigned w64 n
 FitsFailure _ = Unit {0}
 
+-- the fields of an end are within their types
 abbrev pub FitsEnd : End → Type 0
 FitsEnd (end.Refused r) = FitsRefusal r
 FitsEnd (end.PreFailed f) = FitsFailure f
@@ -46,11 +48,12 @@ FitsEnd (end.PostFailed f) = FitsFailure f
 FitsEnd (end.Failed f) = FitsFailure f
 FitsEnd _ = Unit {0}
 
--- the same of a bad replica, and of each in a list
+-- the fields of each bad replica are within their types
 abbrev pub FitBad : List BadReplica → Type 0
 FitBad [] = Unit {0}
 FitBad (b ∷ bs) = (b.number < 2 ^ 32) × (b.len < 2 ^ 64) × IsDigest b.found × FitBad bs
 
+-- the fields of a mark are within their types
 abbrev pub FitsMark : Mark → Type 0
 FitsMark (mark.Ran word now bad) = (word < 2 ^ 64) × (now < 2 ^ 64) × FitBad bad
 FitsMark (mark.Fault slot sent) = (slot < 2 ^ 8) × (sent < 2 ^ 64)

@@ -1,4 +1,4 @@
--- What a line asks for.
+-- What a line asks for. The verbs and their words are this project's own.
 use Rattle.std.specs.Prelude.{◌≡◌, ℕ, ◌<◌, ◌≤◌, List, [], ◌∷◌, length, Result, Ok, Err, codes}
 use Rattle.grid_model.specs.Names.{Text, Path, SpellsPath}
 use Rattle.grid_model.specs.Words.{SpellsLine}

@@ -6,7 +6,7 @@ use Rattle.grid_model.specs.declared.deltas.Item.{Item}
 use Rattle.grid_model.specs.declared.deltas.Item.TheVariants as item
 use Rattle.grid_model.specs.declared.deltas.ObjectRow.{ObjectRow}
 
--- the names from a collection up to `/`, its own first, where so many rows lead there
+-- the names from a collection up to `/`, its own first, where at most so many rows lead there
 abbrev pub names_within : ℕ → Cat → ℕ → Option Path
 names_within zero c id = None
 names_within (suc rows) c id =
@@ -16,17 +16,19 @@ names_within (suc rows) c id =
           elim (collection c id) [ None ↦ None | Some r ↦ option_map (λ names. r.name ∷ names) (names_within rows c r.parent) ]
     ]
 
+-- the names from a collection up to `/`, its own first, or none where `/` is not above it
 abbrev pub names_up : Cat → ℕ → Option Path
 names_up c id = names_within (length c.collections) c id
 
--- the names from `/` down, or none where `/` is not above
+-- the path of a collection, or none where `/` is not above it
 abbrev pub collection_path : Cat → ℕ → Option Path
 collection_path c id = option_map reverse (names_up c id)
 
+-- the path of an object: that of its collection, and its name
 abbrev pub object_path : Cat → ObjectRow → Option Path
 object_path c r = option_map (λ names. reverse (r.name ∷ names)) (names_up c r.collection)
 
--- of an object or a collection
+-- the path of an object or a collection; resources and users have none
 abbrev pub item_path : Cat → Item → Option Path
 item_path c (item.Object id) = elim (object c id) [ None ↦ None | Some r ↦ object_path c r ]
 item_path c (item.Collection id) = collection_path c id

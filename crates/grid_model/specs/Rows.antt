@@ -1,5 +1,6 @@
--- The catalogue as rows. A table is the list of its rows in rising order of their keys, so that it is a finite map
--- from key to row, written out; the key of a row is part of it.
+-- The catalogue as rows (iRODS Primer, the iCAT metadata catalogue). Which tables there are, and what their rows have, is
+-- this project's own. A table is the list of its rows in rising order of their keys, so that it is a finite map from key
+-- to row, written out; the key of a row is part of it.
 use Rattle.std.specs.Prelude.{ℕ, Bool, true, ◌&&◌, ◌||◌, ◌==◌, IsTrue, List, [], ◌∷◌, Option, None, find, filter}
 use Rattle.std.specs.List.{list_any, AllByRecursion}
 use Rattle.std.specs.List.Sorted.{IsStrictlySortedBy}
@@ -25,34 +26,34 @@ use Rattle.grid_model.specs.declared.grid.ItemKind.TheVariants as kind
 
 -- ---- keys
 
--- the kinds of items in the order in which their rows stand
+-- the kinds of items as their numbers, by which their rows are ordered
 abbrev pub item_number : ItemKind → ℕ
 item_number kind.Object = 1
 item_number kind.Collection = 2
 item_number kind.Resource = 3
 item_number kind.User = 4
 
--- by the id
+-- users and groups by the id
 abbrev pub user_cmp : UserRow → UserRow → Ordering
 user_cmp a b = nat_cmp a.id b.id
 
--- by the group, and then by the user
+-- memberships by the group, and then by the user
 abbrev pub member_cmp : MemberRow → MemberRow → Ordering
 member_cmp a b = ordering_then (nat_cmp a.group b.group) (nat_cmp a.user b.user)
 
--- by the id
+-- collections by the id
 abbrev pub collection_cmp : CollectionRow → CollectionRow → Ordering
 collection_cmp a b = nat_cmp a.id b.id
 
--- by the id
+-- objects by the id
 abbrev pub object_cmp : ObjectRow → ObjectRow → Ordering
 object_cmp a b = nat_cmp a.id b.id
 
--- by the object, and then by the number
+-- replicas by the object, and then by the number
 abbrev pub replica_cmp : ReplicaRow → ReplicaRow → Ordering
 replica_cmp a b = ordering_then (nat_cmp a.object b.object) (nat_cmp a.number b.number)
 
--- by the item, and then by the three texts
+-- metadata by the item, and then by the three texts
 abbrev pub triple_cmp : TripleRow → TripleRow → Ordering
 triple_cmp a b =
     ordering_then (nat_cmp (item_number a.kind) (item_number b.kind))
@@ -60,22 +61,23 @@ triple_cmp a b =
     (ordering_then (text_cmp a.attribute b.attribute)
     (ordering_then (text_cmp a.value b.value) (text_cmp a.unit b.unit))))
 
--- by the item, and then by the user
+-- access by the item, and then by the user
 abbrev pub entry_cmp : EntryRow → EntryRow → Ordering
 entry_cmp a b =
     ordering_then (nat_cmp (item_number a.kind) (item_number b.kind))
     (ordering_then (nat_cmp a.id b.id) (nat_cmp a.user b.user))
 
--- by the id
+-- resources by the id
 abbrev pub resource_cmp : ResourceRow → ResourceRow → Ordering
 resource_cmp a b = nat_cmp a.id b.id
 
--- by the vault number
+-- orphans by the vault number
 abbrev pub orphan_cmp : OrphanRow → OrphanRow → Ordering
 orphan_cmp a b = nat_cmp a.vault b.vault
 
 -- ---- rows by themselves
 
+-- a user or a group has a name
 abbrev pub is_named_user : UserRow → Bool
 is_named_user r = is_name r.name
 
@@ -83,9 +85,11 @@ is_named_user r = is_name r.name
 abbrev pub is_named_collection : CollectionRow → Bool
 is_named_collection r = (r.id == 0) || is_name r.name
 
+-- an object has a name
 abbrev pub is_named_object : ObjectRow → Bool
 is_named_object r = is_name r.name
 
+-- a resource has a name
 abbrev pub is_named_resource : ResourceRow → Bool
 is_named_resource r = is_name r.name
 
@@ -96,14 +100,15 @@ abbrev pub with_row : {X : Type 0} → (X → X → Ordering) → List X → X �
 with_row cmp [] row = row ∷ []
 with_row cmp (r ∷ rows) row = elim (cmp row r) [ Less ↦ row ∷ r ∷ rows | Equal ↦ row ∷ rows | Greater ↦ r ∷ with_row cmp rows row ]
 
--- a table whose rows pass a test
+-- rows whose keys strictly rise, each of which passes a test
 pub record IsTable {X : Type 0} (cmp : X → X → Ordering) (fits : X → Bool) (rows : List X) : Type 0 where
-  -- the keys strictly rise
+  -- no two rows have one key
   pub ordered : IsStrictlySortedBy cmp rows
   pub fit : AllByRecursion (λ r. IsTrue (fits r)) rows
 
 -- ---- the catalogue
 
+-- The tables, and what there is one of.
 pub record Cat : Type 0 where
   -- the name of the zone, once it has one
   pub zone : Option Text
@@ -156,27 +161,35 @@ pub record IsCat (c : Cat) : Type 0 where
 
 -- ---- rows by their ids
 
+-- the user or group with this id
 abbrev pub user : Cat → ℕ → Option UserRow
 user c id = find (λ r. r.id == id) c.users
 
+-- the collection with this id
 abbrev pub collection : Cat → ℕ → Option CollectionRow
 collection c id = find (λ r. r.id == id) c.collections
 
+-- the object with this id
 abbrev pub object : Cat → ℕ → Option ObjectRow
 object c id = find (λ r. r.id == id) c.objects
 
+-- the resource with this id
 abbrev pub resource : Cat → ℕ → Option ResourceRow
 resource c id = find (λ r. r.id == id) c.resources
 
+-- there is a user or a group with this id
 abbrev pub has_user : Cat → ℕ → Bool
 has_user c id = list_any (λ r. r.id == id) c.users
 
+-- there is a collection with this id
 abbrev pub has_collection : Cat → ℕ → Bool
 has_collection c id = list_any (λ r. r.id == id) c.collections
 
+-- there is an object with this id
 abbrev pub has_object : Cat → ℕ → Bool
 has_object c id = list_any (λ r. r.id == id) c.objects
 
+-- there is a resource with this id
 abbrev pub has_resource : Cat → ℕ → Bool
 has_resource c id = list_any (λ r. r.id == id) c.resources
 
@@ -209,13 +222,14 @@ triples_of c k id = filter (λ t. same_item t.kind t.id k id) c.triples
 abbrev pub access_of : Cat → ItemKind → ℕ → List EntryRow
 access_of c k id = filter (λ e. same_item e.kind e.id k id) c.entries
 
--- an item by kind and id
+-- what an item is
 abbrev pub kind_of : Item → ItemKind
 kind_of (item.Object id) = kind.Object
 kind_of (item.Collection id) = kind.Collection
 kind_of (item.Resource id) = kind.Resource
 kind_of (item.User id) = kind.User
 
+-- the id that it has in its table
 abbrev pub id_of : Item → ℕ
 id_of (item.Object id) = id
 id_of (item.Collection id) = id

@@ -1,13 +1,13 @@
--- The words of a line.
+-- The words of a line. The format is this project's own.
 use Rattle.std.specs.Prelude.{◌≡◌, ℕ, true, false, Bool, not, ◌&&◌, ◌||◌, List, [], ◌∷◌, ◌++◌, IsTrue, nat_le, nat_lt, ◌==◌, length, flat_map}
 use Rattle.std.specs.List.{list_all}
 use Rattle.grid_model.specs.Names.{Text}
 
--- a byte that a word may have
+-- a byte that a word may have: none below 0x20, and not 0x7F
 abbrev pub is_word_byte : ℕ → Bool
 is_word_byte b = nat_le 0x20 b && not (b == 0x7F)
 
--- one that a word without quotes may have
+-- a byte that a word without quotes may have: no space and no `"` either
 abbrev pub is_bare_byte : ℕ → Bool
 is_bare_byte b = nat_le 0x21 b && not (b == 0x7F) && not (b == 0x22)
 
@@ -19,11 +19,11 @@ is_bare w = nat_lt 0 (length w) && list_all is_bare_byte w
 abbrev pub is_escaped : ℕ → Bool
 is_escaped b = b == 0x22 || b == 0x5C
 
--- stands for itself between quotes
+-- a byte that stands for itself between quotes
 abbrev pub is_plain : ℕ → Bool
 is_plain b = is_word_byte b && not (is_escaped b)
 
--- what stands between the quotes of a word
+-- What stands between the quotes of a word, and the bytes that it stands for: `\"` for `"` and `\\` for `\`.
 pub data SpellsInner : Text → Text → Type 0 where
   nothing : SpellsInner [] []
   plain : {b : ℕ} {t w : Text} → IsTrue (is_plain b) → SpellsInner t w → SpellsInner (b ∷ t) (b ∷ w)
@@ -39,13 +39,13 @@ abbrev pub EndsWord : Text → Type 0
 EndsWord [] = Unit {0}
 EndsWord (b ∷ t) = b ≡ 0x20
 
--- words with spaces between them, and any at both ends
+-- The line has these words in this order, with one or more spaces between them, and any at both ends.
 pub data SpellsLine : Text → List Text → Type 0 where
   line_end : SpellsLine [] []
   space : {t : Text} {ws : List Text} → SpellsLine t ws → SpellsLine (0x20 ∷ t) ws
   word : {line s t w : Text} {ws : List Text} → line ≡ s ++ t → SpellsWord s w → EndsWord t → SpellsLine t ws → SpellsLine line (w ∷ ws)
 
--- a byte between quotes
+-- how a byte is written between quotes
 abbrev pub quote_byte : ℕ → Text
 quote_byte b = elim (is_escaped b) [ true ↦ 0x5C ∷ b ∷ [] | false ↦ b ∷ [] ]
 

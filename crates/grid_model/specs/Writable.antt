@@ -1,4 +1,4 @@
--- Replies that can be written as lines.
+-- Replies that can be written as lines, and read again. The format is this project's own.
 use Rattle.std.specs.Prelude.{Bool, true, false, ◌&&◌}
 use Rattle.std.specs.List.{list_all}
 use Rattle.grid_model.specs.Names.{Text}
@@ -24,9 +24,11 @@ is_own_failure Spent = true
 is_own_failure LongText = true
 is_own_failure Stopped = false
 
+-- its name, its arguments and its failure are words
 abbrev pub is_writable_passed : Passed → Bool
 is_writable_passed p = is_word p.call.name && list_all is_word p.call.args && is_word p.failure
 
+-- what it says are words, and a failure that stands alone is the rule's own
 abbrev pub is_writable_end : End → Bool
 is_writable_end (end.Done words) = list_all is_word words
 is_writable_end (end.Refused r) = true

@@ -1,4 +1,4 @@
-use crate::{BadName, Digest, Path, PathError, Text, Texts, check_name};
+use crate::{BadName, Digest, Path, PathError, Text, Texts, check_name, read_number};
 use std::cmp::Ordering;
 use std::test::Fail;
 
@@ -27,6 +27,26 @@ fn names_and_where_they_stop(rt: HostRuntime) {
     ] {
         assert_eq!(rt; check_name(bytes), Err(BadName { at }), "{bytes:?}");
     }
+}
+
+#[test]
+fn numbers_are_read(rt: HostRuntime) -> Result<(), Fail> {
+    for (text, number) in [
+        (b"0".as_slice(), Some(0)),
+        (b"70", Some(70)),
+        (b"18446744073709551615", Some(u64::MAX)),
+        (b"18446744073709551616", None),
+        (b"", None),
+        (b"007", None),
+        (b"+7", None),
+        (b"-7", None),
+        (b" 7", None),
+        (b"0x7", None),
+        (b"\xFF", None),
+    ] {
+        assert_eq!(rt; read_number(rt.alloc(), text)?, number, "{text:?}");
+    }
+    Ok(())
 }
 
 #[test]

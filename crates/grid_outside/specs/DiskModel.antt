@@ -1,15 +1,17 @@
 -- The rules of a disk in whole words: what a stop may leave, by what was done since the last sync that answered Ok.
+-- The rules are this project's own. A call that failed counts as one that was done, since it may have done any part.
 -- That the steps `Torn`, `Cut` and `Same`, taken one after another, leave exactly this is proved over a record of
 -- calls in the crate with the devices in memory.
 use Rattle.std.specs.Prelude.{◌≡◌, ℕ, ◌+◌, ◌<◌, ◌≤◌, min, max, Bool, false, ◌&&◌, ◌||◌, List, [], ◌∷◌, length, slice_get, nat_le, nat_lt}
 use Rattle.std.specs.List.{list_any}
 
+-- what was done since the last sync that answered Ok
 pub record Unsynced : Type 0 where
   -- the bytes at that sync
   pub synced : List ℕ
   -- the ranges that were written since, each by its first place and how many bytes
   pub written : List (ℕ × ℕ)
-  -- the shortest and the longest length since
+  -- the shortest and the longest length that the file may have had since
   pub shortest : ℕ
   pub longest : ℕ
 

@@ -1,4 +1,5 @@
--- The files of a store, what its calls do to them, and what a stop may do.
+-- The files of a store, which stands for the vault of a storage resource, what its calls do to them, and what a stop
+-- may do. The model is this project's own.
 use Rattle.std.specs.Prelude.{◌≡◌, ◌≢◌, ◌⊎◌, ℕ, ◌+◌, ◌-◌, ◌^◌, ◌<◌, ◌≤◌, Bool, true, false, List, [], ◌++◌, length, take, drop, Option, Some, None}
 use Rattle.std.specs.Ordering.{nat_cmp}
 use Rattle.std.specs.FinMap.{FinMap, get}
@@ -9,23 +10,28 @@ pub record File : Type 0 where
   pub bytes : List ℕ
   pub finished : Bool
 
--- by their names
+-- the files of a store by their names, which are numbers
 abbrev pub Files : Type 0
 Files = FinMap nat_cmp File
 
+-- the file of this name, if there is one
 abbrev pub file_at : Files → ℕ → Option File
 file_at files name = get files name
 
+-- a store holds files
 abbrev pub StoreState : Type 1
 StoreState = DeviceState Files
 
+-- a file that was created, has these bytes so far, and is not finished
 abbrev pub begun : List ℕ → Option File
 begun bytes = Some (record { bytes = bytes; finished = false })
 
+-- a finished file with these bytes
 abbrev pub finished : List ℕ → Option File
 finished bytes = Some (record { bytes = bytes; finished = true })
 
--- a file has fewer than 2^61 bytes, so that it has a SHA-256
+-- Where there is a file it has fewer than 2^61 bytes, and so fewer than 2^64 bits: it has a SHA-256 (FIPS 180-4,
+-- section 1).
 abbrev pub IsShort : Option File → Type 0
 IsShort None = Unit {0}
 IsShort (Some file) = length file.bytes < 2 ^ 61
@@ -34,38 +40,41 @@ IsShort (Some file) = length file.bytes < 2 ^ 61
 abbrev pub SameBut : ℕ → Files → Files → Type 0
 SameBut name old new = (other : ℕ) → other ≢ name → file_at new other ≡ file_at old other
 
--- A file that is being written may be absent or hold any bytes. One that is finished stays.
+-- A create, an append or a finish of the file of this name, done in part or whole: the file may be absent or hold any
+-- bytes, but one that is finished stays, and one that was short stays short.
 pub record Writes (name : ℕ) (old new : Files) : Type 0 where
   pub others : SameBut name old new
   pub stable : (bytes : List ℕ) → file_at old name ≡ finished bytes → file_at new name ≡ finished bytes
   pub short : IsShort (file_at old name) → IsShort (file_at new name)
 
--- a file whose removal was asked is there or not
+-- a removal of the file of this name, done or not: the file is as it was, or is gone
 pub record Removes (name : ℕ) (old new : Files) : Type 0 where
   pub others : SameBut name old new
   pub there_or_not : (file_at new name ≡ file_at old name) ⊎ (file_at new name ≡ None)
 
--- The file is held, and no stop takes it away or changes it.
+-- The finished file of this name with these bytes is held, and a stop after the last call leaves it so.
 pub record IsStable (name : ℕ) (bytes : List ℕ) (s : StoreState) : Type 0 where
   pub held : file_at s.holds name ≡ finished bytes
   pub left : (t : ℕ) (image : Files) → s.last < t → s.left t image → file_at image name ≡ finished bytes
 
--- there is no such file, and a stop doesn't bring one back
+-- there is no file of this name, and a stop after the last call doesn't bring one back
 pub record IsGone (name : ℕ) (s : StoreState) : Type 0 where
   pub held : file_at s.holds name ≡ None
   pub left : (t : ℕ) (image : Files) → s.last < t → s.left t image → file_at image name ≡ None
 
--- what Ok of the calls that write says of the file
+-- a create that was done: there was no such file, and there is an empty one, which is not finished
 pub record Created (name : ℕ) (old new : Files) : Type 0 where
   pub absent : file_at old name ≡ None
   pub empty : file_at new name ≡ begun []
 
+-- an append that was done: the file was begun, and has these bytes more at its end
 pub record Appended (name : ℕ) (bytes : List ℕ) (old new : Files) : Type 0 where
   pub front : List ℕ
   pub was : file_at old name ≡ begun front
   pub fits : length front + length bytes < 2 ^ 61
   pub is : file_at new name ≡ begun (front ++ bytes)
 
+-- a finish that was done: the file was begun, and is finished for good
 pub record Finished (name : ℕ) (old new : StoreState) : Type 0 where
   pub bytes : List ℕ
   pub was : file_at old.holds name ≡ begun bytes
@@ -80,6 +89,7 @@ pub record ReadsFile (name at count : ℕ) (files : Files) (buf : List ℕ) : Ty
   pub within : count ≤ length file.bytes - at
   pub at_end : count ≡ 0 → (length file.bytes ≤ at) ⊎ (length buf ≡ 0)
 
+-- the file of this name is there and has so many bytes
 pub record HasSize (name size : ℕ) (files : Files) : Type 0 where
   pub file : File
   pub is : file_at files name ≡ Some file

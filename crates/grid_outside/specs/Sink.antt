@@ -1,7 +1,8 @@
--- What a sink was given.
+-- What a sink was given. The model is this project's own.
 use Rattle.std.specs.Prelude.{◌≡◌, ℕ, ◌≤◌, List, ◌++◌, length, take}
 use Rattle.grid_outside.specs.Device.{DeviceState}
 
+-- a sink holds the bytes that were put, one put after another
 abbrev pub SinkState : Type 1
 SinkState = DeviceState (List ℕ)
 

@@ -1,8 +1,9 @@
--- What a source has left.
+-- What a source has left to be read. The model is this project's own.
 use Rattle.std.specs.Prelude.{◌≡◌, ◌⊎◌, ℕ, Bool, List, [], ◌++◌, length, take}
 
+-- a source, by what it still has to give
 pub record SourceState : Type 0 where
-  -- how often it has failed
+  -- how often it has failed; the count never falls, and stands still at 2^64 - 1
   pub faults : ℕ
   -- whether it tells what is left, and what is left where it tells
   pub tells : Bool

@@ -1,9 +1,10 @@
--- The rules of a store in whole words: what a stop may leave of one file, by what was asked of it. Files of other
--- names stay. That the steps `Writes` and `Removes`, taken one after another, leave exactly this is proved over a
--- record of calls in the crate with the devices in memory.
+-- The rules of a store in whole words: what a stop may leave of one file, by what was asked of it. The rules are this
+-- project's own. Files of other names stay. That the steps `Writes` and `Removes`, taken one after another, leave
+-- exactly this is proved over a record of calls in the crate with the devices in memory.
 use Rattle.std.specs.Prelude.{◌≡◌, ◌⊎◌, true, false, Option, Some, None}
 use Rattle.grid_outside.specs.Files.{File, IsShort}
 
+-- what is known of one file, should the server stop
 pub data Known : Type 0 where
   -- the file is so, or there is none
   exactly : Option File → Known

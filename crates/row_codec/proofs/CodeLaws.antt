@@ -1,6 +1,8 @@
 -- The readers of bytes that stand for values.
 use Rattle.std.proofs.Common.{◌≡◌, true, false, Bool, Some, refl}
-use Rattle.grid_model.specs.Deltas.{code, code_if, flag, user_kind, item_kind, has_entries, entry_kind, level, is_given, resource_kind}
+use Rattle.grid_model.specs.Rows.{item_number}
+use Rattle.grid_model.specs.Applying.{gives_access, is_given}
+use Rattle.grid_model.specs.Deltas.{code, code_if, flag, user_kind, entry_kind, level, resource_kind}
 use Rattle.grid_model.specs.declared.grid.UserKind.{UserKind}
 use Rattle.grid_model.specs.declared.grid.UserKind.TheVariants.{Rodsadmin, Rodsuser, Rodsgroup}
 use Rattle.grid_model.specs.declared.grid.ResourceKind.{ResourceKind}
@@ -33,19 +35,19 @@ user_kind_part = coded_part user_kind (λ _. true) all_user_kinds refl back Rods
     back Rodsuser h = refl
     back Rodsgroup h = refl
 
-pub item_kind_part : IsPart (coded_at known_item_kind) (λ k. code (item_kind k))
-item_kind_part = coded_part item_kind (λ _. true) all_item_kinds refl back kind.Object refl
+pub item_kind_part : IsPart (coded_at known_item_kind) (λ k. code (item_number k))
+item_kind_part = coded_part item_number (λ _. true) all_item_kinds refl back kind.Object refl
   where
-    back : (k : ItemKind) → true ≡ true → known_item_kind (item_kind k) ≡ Some k
+    back : (k : ItemKind) → true ≡ true → known_item_kind (item_number k) ≡ Some k
     back kind.Object h = refl
     back kind.Collection h = refl
     back kind.Resource h = refl
     back kind.User h = refl
 
 pub entry_kind_part : IsPart (coded_at known_entry_kind) (λ e. entry_kind e.0)
-entry_kind_part = coded_part entry_kind_number (λ e. has_entries e.0) all_entry_kinds refl (λ e. back e.0) (record { 0 = kind.Object }) refl
+entry_kind_part = coded_part entry_kind_number (λ e. gives_access e.0) all_entry_kinds refl (λ e. back e.0) (record { 0 = kind.Object }) refl
   where
-    back : (k : ItemKind) → has_entries k ≡ true → known_entry_kind (item_kind k) ≡ Some (record { 0 = k })
+    back : (k : ItemKind) → gives_access k ≡ true → known_entry_kind (item_number k) ≡ Some (record { 0 = k })
     back kind.Object h = refl
     back kind.Collection h = refl
     back kind.Resource h = absurd cc

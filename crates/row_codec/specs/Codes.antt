@@ -1,7 +1,8 @@
 -- The values that one byte stands for, found by their numbers.
 use Rattle.std.specs.Prelude.{ℕ, Bool, true, false, List, [], ◌∷◌, Option, ◌==◌}
 use Rattle.std.specs.List.{find}
-use Rattle.grid_model.specs.Deltas.{user_kind, item_kind, resource_kind, level, flag}
+use Rattle.grid_model.specs.Deltas.{user_kind, resource_kind, level, flag}
+use Rattle.grid_model.specs.Rows.{item_number}
 use Rattle.grid_model.specs.declared.grid.UserKind.{UserKind}
 use Rattle.grid_model.specs.declared.grid.UserKind.TheVariants.{Rodsadmin, Rodsuser, Rodsgroup}
 use Rattle.grid_model.specs.declared.grid.ResourceKind.{ResourceKind}
@@ -36,10 +37,10 @@ abbrev pub all_item_kinds : List ItemKind
 all_item_kinds = kind.Object ∷ kind.Collection ∷ kind.Resource ∷ kind.User ∷ []
 
 abbrev pub known_item_kind : ℕ → Option ItemKind
-known_item_kind = known_in item_kind all_item_kinds
+known_item_kind = known_in item_number all_item_kinds
 
 abbrev pub entry_kind_number : EntryKind → ℕ
-entry_kind_number e = item_kind e.0
+entry_kind_number e = item_number e.0
 
 abbrev pub all_entry_kinds : List EntryKind
 all_entry_kinds = record { 0 = kind.Object } ∷ record { 0 = kind.Collection } ∷ []

@@ -1,5 +1,6 @@
 ghost use Rattle.std.specs.Prelude.{◌≡◌, ℕ, Option};
-ghost use Rattle.grid_model.specs.Deltas.{user_kind, item_kind, resource_kind, level, flag};
+ghost use Rattle.grid_model.specs.Deltas.{user_kind, resource_kind, level, flag};
+ghost use Rattle.grid_model.specs.Rows.{item_number};
 ghost use Rattle.row_codec.specs.Codes.{entry_kind_number, known_flag, known_user_kind, known_item_kind, known_entry_kind, known_level, known_resource_kind, mark_number, known_mark, tag_number, known_tag};
 
 use crate::tags::{EntryKind, MarkTag, Tag};
@@ -62,7 +63,7 @@ impl Coded for UserKind {
 }
 
 impl Coded for ItemKind {
-    ghost number = { item_kind };
+    ghost number = { item_number };
 
     ghost known = { known_item_kind };
 

@@ -37,6 +37,8 @@ fn a_disk_fails_at_its_listed_calls(rt: HostRuntime) -> Result<(), Fail> {
     disk.write_at(1, 0, b"x")?;
     assert_eq!(rt; disk.sync(2), Err(DiskFault));
     disk.sync(3)?;
+    assert_eq!(rt; disk.calls().len(), 3);
+    assert!(rt; !disk.calls()[1].done);
     assert_eq!(rt; disk.bytes(), b"xbc".as_slice());
     Ok(())
 }
@@ -100,14 +102,15 @@ fn begin<P: Plugin>(store: &mut P) -> [Result<(), StoreFault>; 3]
     [created, appended, lost]
 }
 
-// That file is finished, and another one is removed.
-fn end<P: Plugin>(store: &mut P) -> [Result<(), StoreFault>; 3]
+// That file is finished, another one is removed, and one that is not there.
+fn end<P: Plugin>(store: &mut P) -> [Result<(), StoreFault>; 4]
     requires { (P.plugin store.old).last ≡ 3 }
 {
     let appended = store.append(4, 7, b"c");
     let finished = store.finish(5, 7);
     let removed = store.remove(6, 4);
-    [appended, finished, removed]
+    let absent = store.remove(7, 4);
+    [appended, finished, removed, absent]
 }
 
 #[test]
@@ -118,9 +121,9 @@ fn a_watch_sees_the_calls(rt: HostRuntime) -> Result<(), Fail> {
     let store = MemStore::watched(alloc, start, [3].to_vec(alloc)?, watch.clone()?)?;
     let mut store: Box<dyn Plugin> = Box::new(alloc, store)?;
     assert_eq!(rt; begin(&mut store), [Ok(()), Ok(()), Err(StoreFault)]);
-    assert_eq!(rt; end(&mut store), [Ok(()), Ok(()), Ok(())]);
+    assert_eq!(rt; end(&mut store), [Ok(()), Ok(()), Ok(()), Ok(())]);
     let record = watch.try_borrow()?;
-    assert_eq!(rt; record.calls.len(), 6);
+    assert_eq!(rt; record.calls.len(), 7);
     let files = record.files(alloc)?;
     assert!(rt; files.find(4).is_none());
     let file = files.find(7).ok_or("no file")?;

@@ -1,0 +1,104 @@
+-- The grid that a catalogue stands for: full paths and names in the place of ids.
+use Rattle.std.specs.Prelude.{ℕ, List, [], ◌∷◌, ◌++◌, ◌==◌, ◌&&◌, Bool, true, false, Option, None, Some, option_map, unwrap_or, map, filter, length, nat_lt}
+use Rattle.std.specs.declared.cmp.Ordering.{Ordering}
+use Rattle.grid_model.specs.Maps.{Map, Set, empty, put}
+use Rattle.grid_model.specs.Names.{Text, Path}
+use Rattle.grid_model.specs.Rows.{Cat, user, object, resource, replicas_of}
+use Rattle.grid_model.specs.RowPaths.{collection_path}
+use Rattle.grid_model.specs.FullGrid.{FullGrid, Object, Replica, Resource, Thing, Triple, object_at, collection_at, resource_named, user_named}
+use Rattle.grid_model.specs.declared.grid.ItemKind.{ItemKind}
+use Rattle.grid_model.specs.declared.grid.ItemKind.TheVariants as kind
+use Rattle.grid_model.specs.declared.deltas.Delta.{Delta}
+use Rattle.grid_model.specs.declared.deltas.Delta.TheVariants as delta
+use Rattle.grid_model.specs.declared.deltas.ObjectRow.{ObjectRow}
+use Rattle.grid_model.specs.declared.deltas.ReplicaRow.{ReplicaRow}
+use Rattle.grid_model.specs.declared.deltas.ResourceRow.{ResourceRow}
+use Rattle.grid_model.specs.declared.deltas.TripleRow.{TripleRow}
+use Rattle.grid_model.specs.declared.deltas.EntryRow.{EntryRow}
+
+-- the map with these entries, the first one of a key
+abbrev pub map_of : {K X : Type 0} {R : K → K → Ordering} → List (K × X) → Map R X
+map_of [] = empty
+map_of (e ∷ es) = put (map_of es) e.0 e.1
+
+-- the name of a user or a group, and of a resource; no bytes where there is none
+abbrev pub user_name : Cat → ℕ → Text
+user_name c id = unwrap_or (option_map (λ r. r.name) (user c id)) []
+
+abbrev pub resource_name : Cat → ℕ → Text
+resource_name c id = unwrap_or (option_map (λ r. r.name) (resource c id)) []
+
+-- how many of its parent's children stand before a resource: 0 without a parent
+abbrev pub place_of : Cat → ResourceRow → ℕ
+place_of c r = elim (r.parent == 0) [ true ↦ 0 | false ↦ length (filter (λ o. (o.parent == r.parent) && nat_lt o.place r.place) c.resources) ]
+
+abbrev pub resource_of : Cat → ResourceRow → Resource
+resource_of c r = record {
+  kind = r.kind;
+  slot = r.slot;
+  up = r.up;
+  parent = elim (r.parent == 0) [ true ↦ None | false ↦ Some (resource_name c r.parent) ];
+  place = place_of c r;
+}
+
+abbrev pub replica_of : Cat → ReplicaRow → Replica
+replica_of c r = record { leaf = resource_name c r.leaf; good = r.good; size = r.size; digest = r.digest }
+
+abbrev pub object_of : Cat → ObjectRow → Object
+object_of c r = record {
+  size = r.size;
+  digest = r.digest;
+  time = r.time;
+  replicas = map_of (map (λ x. (x.number, replica_of c x)) (replicas_of c r.id));
+}
+
+-- ---- paths, where the paths of collections are given
+
+abbrev pub Places : Type 0
+Places = ℕ → Option Path
+
+abbrev pub collection_place : Places → ℕ → Path
+collection_place paths id = unwrap_or (paths id) []
+
+abbrev pub object_place : Places → ObjectRow → Path
+object_place paths r = collection_place paths r.collection ++ r.name ∷ []
+
+abbrev pub item_place : Cat → Places → ItemKind → ℕ → Path
+item_place c paths kind.Object id = unwrap_or (option_map (object_place paths) (object c id)) []
+item_place c paths k id = collection_place paths id
+
+abbrev pub thing_of : Cat → Places → ItemKind → ℕ → Thing
+thing_of c paths kind.Object id = object_at (item_place c paths kind.Object id)
+thing_of c paths kind.Collection id = collection_at (collection_place paths id)
+thing_of c paths kind.Resource id = resource_named (resource_name c id)
+thing_of c paths kind.User id = user_named (user_name c id)
+
+abbrev pub triple_of : Cat → Places → TripleRow → Triple
+triple_of c paths t = record { of = thing_of c paths t.kind t.id; attribute = t.attribute; value = t.value; unit = t.unit }
+
+-- the grid of these rows, whose collections are at these paths
+abbrev pub grid_at : Cat → Places → FullGrid
+grid_at c paths = record {
+  zone = unwrap_or c.zone [];
+  stores = c.stores;
+  users = map_of (map (λ r. (r.name, r.kind)) c.users);
+  members = map_of (map (λ m. ((user_name c m.group, user_name c m.user), tt)) c.members);
+  collections = map_of (map (λ r. (collection_place paths r.id, r.inherit)) c.collections);
+  objects = map_of (map (λ r. (object_place paths r, object_of c r)) c.objects);
+  triples = map_of (map (λ t. (triple_of c paths t, tt)) c.triples);
+  access = map_of (map (λ e. ((item_place c paths e.kind e.id, user_name c e.user), e.level)) c.entries);
+  resources = map_of (map (λ r. (r.name, resource_of c r)) c.resources);
+}
+
+-- the grid that a catalogue stands for
+abbrev pub grid_of : Cat → FullGrid
+grid_of c = grid_at c (collection_path c)
+
+-- whether a delta is of what the grid shows: orphans, numbers and the command that is not done are not in it
+abbrev pub is_seen : Delta → Bool
+is_seen (delta.Orphan r) = false
+is_seen (delta.NoOrphan vault) = false
+is_seen (delta.Numbers n) = false
+is_seen (delta.Pending p) = false
+is_seen delta.NoPending = false
+is_seen other = true
