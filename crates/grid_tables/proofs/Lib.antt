@@ -1,0 +1,3 @@
+mod Keeping
+mod Locating
+mod WaysUp

@@ -1,0 +1,10 @@
+mod changes;
+mod draws;
+mod lookups;
+mod plain;
+mod plain_marks;
+mod plain_tree;
+mod random;
+mod refusals;
+mod rows;
+mod seen;
