@@ -1,0 +1,13 @@
+pub mod DeltaLemmas
+pub mod ErrorLemmas
+pub mod HeadLemmas
+pub mod KeepingLemmas
+pub mod LoopLemmas
+pub mod OpenLemmas
+pub mod ReplayLemmas
+pub mod SpanLemmas
+pub mod StandsExamples
+pub mod StandsLemmas
+pub mod StartLemmas
+pub mod TakingLemmas
+pub mod ZoneLemmas

@@ -1,0 +1,35 @@
+-- A catalogue that is kept in a log and held in memory.
+use Rattle.std.specs.Prelude.{◌≡◌, Bool, ◌&&◌, List, IsSome, Ok}
+use Rattle.frame_log.specs.Extent.{Extent, IsLogOf, placed}
+use Rattle.grid_model.specs.Names.{Text}
+use Rattle.grid_model.specs.Deltas.{delta_fits}
+use Rattle.grid_model.specs.Rows.{Cat, empty_cat}
+use Rattle.grid_model.specs.Applying.{apply_all}
+use Rattle.grid_model.specs.declared.deltas.Delta.{Delta}
+use Rattle.grid_journal.specs.Stands.{HasHead, Replays, sets_no_rules}
+
+-- a store as contracts see it
+pub record Journal : Type 0 where
+  -- the rows in memory
+  pub cat : Cat
+  -- the deltas that are applied to them and not yet on the disk
+  pub staged : List Delta
+  -- the log on main, as it is known without reading it
+  pub log : Extent
+  -- false after want of memory or a fault in a change: what is in memory may then be anything
+  pub sound : Bool
+
+-- Main has this catalogue in the log that the journal stands on, and the staged deltas lead from it to the rows in
+-- memory.
+pub record Keeps (kept : Cat) (journal : Journal) (main : Text) : Type 0 where
+  pub records : List Text
+  pub head : HasHead main
+  pub base : journal.log.base ≡ 16
+  pub log : IsLogOf journal.log records main
+  pub replays : Replays empty_cat (placed 16 records) (Ok kept)
+  pub zone : IsSome kept.zone
+  pub staged : apply_all kept journal.staged ≡ Ok journal.cat
+
+-- the delta has a spelling and sets no rules
+abbrev pub can_be_kept : Delta → Bool
+can_be_kept d = delta_fits d && sets_no_rules d

@@ -1,0 +1,6 @@
+pub mod Errors
+pub mod Journal
+pub mod Replaying
+pub mod Stands
+pub mod Start
+pub mod Store
