@@ -1,0 +1,9 @@
+use Rattle.std.proofs.Common.{Ok, Err}
+use Rattle.reply_reader.proofs.CauseReading.{reads_rule}
+use Rattle.reply_reader.proofs.causes.rule_cause.Goals as goal
+
+pub returns-in-Ok : goal.returns-in-Ok
+returns-in-Ok c = reads_rule c.args.text.now c.args.at (Ok (c.in-Ok.index, c.in-Ok.next)) c.in-Ok.ensures
+
+pub returns-in-Err : goal.returns-in-Err
+returns-in-Err c = reads_rule c.args.text.now c.args.at (Err c.in-Err.error) c.in-Err.ensures

@@ -1,0 +1,9 @@
+pub mod Ends
+pub mod Failures
+pub mod Fields
+pub mod Images
+pub mod Lines
+pub mod MarkFields
+pub mod Parts
+pub mod WordFields
+pub mod Written
