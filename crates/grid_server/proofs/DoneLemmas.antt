@@ -1,44 +1,31 @@
--- Requests that were done, and one more.
-use Rattle.std.proofs.Common.{◌≡◌, ◌⊎◌, inl, inr, ℕ, ◌+◌, ◌≤◌, Bool, true, false, not, ◌&&◌, List, [], ◌∷◌, ◌++◌, length, take, Some, None, Result, Ok, IsTrue, arith, refl, sym, subst, ap, ◌∙◌, append_assoc, length-append}
-use Rattle.std.proofs.lemmas.List.{append-nil}
-use Rattle.grid_model.specs.Maps.{has}
-use Rattle.grid_model.specs.Names.{Text, Path, same_text, print_path, SpellsPath}
+-- Requests that were done, one more, and what is shown and kept of them.
+use Rattle.std.proofs.Common.{◌≡◌, ◌≢◌, ◌⊎◌, inl, inr, ℕ, zero, suc, ◌+◌, ◌<◌, ◌≤◌, Bool, true, false, List, [], ◌∷◌, ◌++◌, length, take, slice_get, Option, Some, None, Result, Ok, IsTrue, arith, refl, sym, subst, ap, ◌∙◌, append_assoc, length-append}
+use Rattle.std.specs.Prelude.{max}
+use Rattle.std.proofs.lemmas.List.{append-nil, take_all, take-append-le, take_at}
+use Rattle.std.proofs.lemmas.Bool.{cases_lt}
+use Rattle.grid_model.specs.Names.{Text}
 use Rattle.grid_model.specs.Grid.{Grid}
+use Rattle.grid_model.specs.Rows.{Cat}
+use Rattle.grid_model.specs.Gridding.{grid_of}
 use Rattle.grid_model.specs.Inputs.{Asked}
-use Rattle.grid_model.specs.Requests.{Asks, asks_for, not_built, too_long, no_words, SpellsVerb, a_login, a_mkdir}
-use Rattle.grid_model.specs.declared.refusal.Refusal.{Refusal}
-use Rattle.grid_model.specs.Commands.{State, Done, command, make, refused, has_parent, may_add, with_collection, After, none, next}
-use Rattle.grid_model.specs.Replies.{reply, replies}
-use Rattle.grid_model.specs.Catalogue.{Stands, kept_line, kept_lines, path_line, HasRoom, longest_catalogue}
+use Rattle.grid_model.specs.Requests.{Asks}
+use Rattle.grid_model.specs.Commands.{State, Done, command, After, none, next, state_after}
+use Rattle.grid_model.specs.Replies.{reply, replies, AddsFirst}
 use Rattle.grid_model.specs.declared.requests.Verb.{Verb}
-use Rattle.grid_model.specs.declared.refusal.Refusal.TheVariants.{NoUser, NoLogin, NoCollection, Exists}
-use Rattle.grid_server.specs.Answering.{Did}
-use Rattle.grid_server.specs.Serving.{DidAll, begins}
-use Rattle.grid_server.proofs.CommandLemmas.{made_one, kept-none, kept-some}
+use Rattle.grid_model.specs.declared.refusal.Refusal.{Refusal}
+use Rattle.grid_server.specs.Held.{StandsFor}
+use Rattle.grid_server.specs.Answering.{Did, Follows, last_of, OneOf, not_kept, kept}
+use Rattle.grid_server.specs.Serving.{begins, Shows, IsCut, AllButOne, IsBefore, IsAfter, OneImage, ClosesAt}
+use Rattle.frame_log.specs.Log.{IsLog}
+use Rattle.frame_log.specs.Extent.{Extent, extent_of}
+use Rattle.grid_journal.specs.Journal.{Journal, Keeps}
 use Rattle.grid_server.proofs.RequestLemmas.{asks_held}
-use Rattle.grid_server.proofs.StandsLemmas.{Stands-push}
 
 -- ---- lists that go on
 
 pub After-push : {s mid : State} {asked : List Asked} {done : List Done} (request : Asked) (d : Done) → After s asked done mid → Did mid request.line d → After s (asked ++ request ∷ []) (done ++ d ∷ []) d.state
 After-push request d none did = next did.asked did.asks did.is none
 After-push request d (next verb asks is more) did = next verb asks is (After-push request d more did)
-
-pub HasRoom-push : (size : ℕ) (done : List Done) (d : Done) → HasRoom size done → (d.made ≡ None) ⊎ (size + length (kept_lines done) ≤ longest_catalogue) → HasRoom size (done ++ d ∷ [])
-HasRoom-push size [] d room last = (by_last last, tt)
-  where
-    by_last : (d.made ≡ None) ⊎ (size + length (kept_lines []) ≤ longest_catalogue) → (d.made ≡ None) ⊎ (size ≤ longest_catalogue)
-    by_last (inl e) = inl e
-    by_last (inr le) = inr (omega (arith, le))
-HasRoom-push size (e ∷ done) d room last = (room.0, HasRoom-push (size + length (kept_line e)) done d room.1 (by_last last))
-  where
-    by_last : (d.made ≡ None) ⊎ (size + length (kept_lines (e ∷ done)) ≤ longest_catalogue) → (d.made ≡ None) ⊎ (size + length (kept_line e) + length (kept_lines done) ≤ longest_catalogue)
-    by_last (inl same) = inl same
-    by_last (inr le) = inr (omega (arith, le, length-append (kept_line e) (kept_lines done)))
-
-pub kept_lines-push : (done : List Done) (d : Done) → kept_lines (done ++ d ∷ []) ≡ kept_lines done ++ kept_line d
-kept_lines-push [] d = append-nil (kept_line d)
-kept_lines-push (e ∷ done) d = ap (λ (t : Text). kept_line e ++ t) (kept_lines-push done d) ∙ sym (append_assoc (kept_line e) (kept_lines done) (kept_line d))
 
 pub replies-push : (n : ℕ) (done : List Done) (d : Done) → replies n (done ++ d ∷ []) ≡ replies n done ++ reply (n + length done) d.answer
 replies-push n [] d = let same : n ≡ n + 0 = omega arith in append-nil (reply n d.answer) ∙ ap (λ (k : ℕ). reply k d.answer) same
@@ -47,83 +34,209 @@ replies-push n (e ∷ done) d =
     ap (λ (t : Text). reply n e.answer ++ t) (replies-push (n + 1) done d ∙ ap (λ (k : ℕ). replies (n + 1) done ++ reply k d.answer) same)
     ∙ sym (append_assoc (reply n e.answer) (replies (n + 1) done) (reply (n + length (e ∷ done)) d.answer))
 
--- ---- what one request does to the grid
-
-pub record Adds (s : State) (d : Done) : Type 0 where
-  pub path : Path
-  pub made : d.made ≡ Some path
-  pub spells : SpellsPath (print_path path) path
-  pub may : IsTrue (may_add s.grid path)
-  pub grid : d.state.grid ≡ with_collection s.grid path
-
-pub record Leaves (s : State) (d : Done) : Type 0 where
-  pub made : d.made ≡ None
-  pub grid : d.state.grid ≡ s.grid
-
-make_changes : (s : State) (p : Path) → SpellsPath (print_path p) p → Leaves s (make s p) ⊎ Adds s (make s p)
-make_changes s p spells =
-    let pick : Bool → Bool → Done = λ there above. elim there [ true ↦ refused s Exists | false ↦ elim above [ true ↦ made_one s p | false ↦ refused s NoCollection ] ] in
-    let may : Bool → Bool → Bool = λ there above. above && not there in
-    let Goal : Bool → Bool → Type 0 = λ there above. (may there above ≡ may_add s.grid p) → Leaves s (pick there above) ⊎ Adds s (pick there above) in
-    (elim (has s.grid.collections p) as (λ there. Goal there (has_parent s.grid p)) [
-      | true ↦ λ e. inl (record { made = refl; grid = refl })
-      | false ↦ elim (has_parent s.grid p) as (λ above. Goal false above) [
-        | true ↦ λ e. inr (record { path = p; made = refl; spells = spells; may = sym e; grid = refl })
-        | false ↦ λ e. inl (record { made = refl; grid = refl })
-      ]
-    ]) refl
-
-pub changes : (s : State) (line : Text) (d : Done) → Did s line d → Leaves s d ⊎ Adds s d
-changes s line d did =
-    let P : Done → Type 0 = λ e. Leaves s e ⊎ Adds s e in
-    subst P (sym did.is) (by_asked did.asked did.asks)
-  where
-    by_spelling : (words : List Text) (v : Verb) → SpellsVerb words v → Leaves s (command s (Ok v)) ⊎ Adds s (command s (Ok v))
-    by_spelling words v (a_login {user = user} e) =
-        let after : Done = record { state = record s { logged_in = true }; made = None; answer = Ok tt } in
-        let pick : Bool → Done = λ same. elim same [ true ↦ after | false ↦ refused s NoUser ] in
-        elim (same_text user s.grid.admin) as (λ same. Leaves s (pick same) ⊎ Adds s (pick same)) [ true ↦ inl (record { made = refl; grid = refl }) | false ↦ inl (record { made = refl; grid = refl }) ]
-    by_spelling words v (a_mkdir {path = p} e spells) =
-        let pick : Bool → Done = λ on. elim on [ true ↦ make s p | false ↦ refused s NoLogin ] in
-        elim s.logged_in as (λ on. Leaves s (pick on) ⊎ Adds s (pick on)) [ true ↦ make_changes s p (record { names = spells.names; text_is = refl }) | false ↦ inl (record { made = refl; grid = refl }) ]
-
-    by_asked : (a : Result Verb Refusal) → Asks line a → Leaves s (command s a) ⊎ Adds s (command s a)
-    by_asked a (asks_for {words = words} {verb = v} le is spells) = by_spelling words v spells
-    by_asked a (not_built le is no_verb) = inl (record { made = refl; grid = refl })
-    by_asked a (too_long lt) = inl (record { made = refl; grid = refl })
-    by_asked a (no_words le is) = inl (record { made = refl; grid = refl })
-
--- ---- all requests so far, and one more
-
-abbrev pub done_none : (found : Grid) (bytes : Text) → Stands bytes (Ok found) → DidAll found bytes []
-done_none found bytes stood =
-    let P : Text → Type 0 = λ t. Stands t (Ok found) in
-    record { done = []; end = begins found; after = none; room = tt; stands = subst P (sym (append-nil bytes)) stood }
-
-pub stands_more : (bytes : Text) (done : List Done) (s : State) (d : Done) → Stands (bytes ++ kept_lines done) (Ok s.grid) → Leaves s d ⊎ Adds s d → Stands (bytes ++ kept_lines (done ++ d ∷ [])) (Ok d.state.grid)
-stands_more bytes done s d stood (inl leaves) =
-    let G : Grid → Type 0 = λ g. Stands (bytes ++ kept_lines (done ++ d ∷ [])) (Ok g) in
-    let T : Text → Type 0 = λ t. Stands (bytes ++ t) (Ok s.grid) in
-    let same : kept_lines (done ++ d ∷ []) ≡ kept_lines done = kept_lines-push done d ∙ ap (λ (t : Text). kept_lines done ++ t) (kept-none d leaves.made) ∙ append-nil (kept_lines done) in
-    subst G (sym leaves.grid) (subst T (sym same) stood)
-stands_more bytes done s d stood (inr adds) =
-    let G : Grid → Type 0 = λ g. Stands (bytes ++ kept_lines (done ++ d ∷ [])) (Ok g) in
-    let T : Text → Type 0 = λ t. Stands t (Ok (with_collection s.grid adds.path)) in
-    let same : bytes ++ kept_lines (done ++ d ∷ []) ≡ (bytes ++ kept_lines done) ++ path_line adds.path =
-    ap (λ (t : Text). bytes ++ t) (kept_lines-push done d ∙ ap (λ (t : Text). kept_lines done ++ t) (kept-some d adds.path adds.made)) ∙ sym (append_assoc bytes (kept_lines done) (path_line adds.path)) in
-    subst G (sym adds.grid) (subst T (sym same) (Stands-push adds.path stood adds.spells adds.may))
-
-abbrev pub done_more : (found : Grid) (bytes : Text) (asked : List Asked) (request : Asked) (d : Done) (did : DidAll found bytes asked) → Did did.end request.line d → (d.made ≡ None) ⊎ (length bytes + length (kept_lines did.done) ≤ longest_catalogue)
-    → DidAll found bytes (asked ++ request ∷ [])
-done_more found bytes asked request d did one room = record {
-  done = did.done ++ d ∷ [];
-  end = d.state;
-  after = After-push request d did.after one;
-  room = HasRoom-push (length bytes) did.done d did.room room;
-  stands = stands_more bytes did.done did.end d did.stands (changes did.end request.line d one);
-}
-
--- ---- what is held of a line does the same
-
+-- what is held of a line does the same
 pub did_held : (s : State) (held line : Text) (asked : Result Verb Refusal) → held ≡ take 4097 line → Asks held asked → Did s line (command s asked)
 did_held s held line asked e asks = let P : Text → Type 0 = λ t. Asks t asked in record { asked = asked; asks = asks_held line asked (subst P e asks); is = refl }
+
+-- ---- states in between
+
+after-all : {s : State} {asked : List Asked} {done : List Done} {end : State} → After s asked done end → state_after s done (length done) ≡ end
+after-all none = refl
+after-all (next verb asks is rest) = after-all rest
+
+pub state_after-all : (s : State) (asked : List Asked) (done : List Done) (end : State) → After s asked done end → state_after s done (length done) ≡ end
+state_after-all s asked done end after = after-all after
+
+pub state_after-more : (s : State) (done : List Done) (d : Done) (n : ℕ) → n ≤ length done → state_after s (done ++ d ∷ []) n ≡ state_after s done n
+state_after-more s [] d zero le = refl
+state_after-more s [] d (suc n) le = absurd (omega (arith, le))
+state_after-more s (e ∷ done) d zero le = refl
+state_after-more s (e ∷ done) d (suc n) le = state_after-more e.state done d n (omega (arith, le))
+
+pub state_after-last : (s : State) (done : List Done) (d : Done) → state_after s (done ++ d ∷ []) (length done + 1) ≡ d.state
+state_after-last s [] d = refl
+state_after-last s (e ∷ done) d =
+    let same : length (e ∷ done) + 1 ≡ suc (length done + 1) = omega arith in
+    ap (state_after s (e ∷ (done ++ d ∷ []))) same ∙ state_after-last e.state done d
+
+-- ---- what is shown
+
+slice_get-more : (done : List Done) (d e : Done) (k : ℕ) → slice_get done k ≡ Some e → slice_get (done ++ d ∷ []) k ≡ Some e
+slice_get-more [] d e k is = absurd (cc)
+slice_get-more (x ∷ done) d e zero is = is
+slice_get-more (x ∷ done) d e (suc k) is = slice_get-more done d e k is
+
+slice_get-last : (done : List Done) (d : Done) → slice_get (done ++ d ∷ []) (length done) ≡ Some d
+slice_get-last [] d = refl
+slice_get-last (x ∷ done) d = slice_get-last done d
+
+pub shows_more : (old : Text) (done : List Done) (d : Done) (whole : ℕ) (new : Text) → Shows old done whole new → Shows old (done ++ d ∷ []) whole new
+shows_more old done d whole new shows = record {
+  within = omega (arith, shows.within, length-append done (d ∷ []));
+  part = shows.part;
+  is = shows.is ∙ ap (λ (ds : List Done). (old ++ replies 1 ds) ++ shows.part) (sym (take-append-le whole done (d ∷ []) shows.within));
+  part_is = by_part shows.part_is;
+}
+  where
+    by_part : {part : Text} → (part ≡ []) ⊎ IsCut done whole part → (part ≡ []) ⊎ IsCut (done ++ d ∷ []) whole part
+    by_part (inl e) = inl e
+    by_part (inr cut) = inr (record { next = cut.next; is_next = slice_get-more done d cut.next whole cut.is_next; more = cut.more; some = cut.some; split = cut.split })
+
+-- all are shown, and nothing else
+pub shows_whole : (old : Text) (done : List Done) (new : Text) → new ≡ old ++ replies 1 done → Shows old done (length done) new
+shows_whole old done new is = record {
+  within = omega arith;
+  part = [];
+  is = is ∙ ap (λ (ds : List Done). old ++ replies 1 ds) (sym (take_all (length done) done (omega arith))) ∙ sym (append-nil (old ++ replies 1 (take (length done) done)));
+  part_is = inl refl;
+}
+
+pub shows_all : (old : Text) (done : List Done) (new : Text) → new ≡ old ++ replies 1 done → AllButOne done old new
+shows_all old done new is = record { whole = length done; shows = shows_whole old done new is; few = omega arith }
+
+-- a part of one more reply is shown: all of it, or not
+pub record Shown (old : Text) (done : List Done) (d : Done) (new : Text) : Type 0 where
+  pub whole : ℕ
+  pub shows : Shows old (done ++ d ∷ []) whole new
+  pub whole_is : (whole ≡ length done) ⊎ (whole ≡ length done + 1)
+
+pub shows_part : (old before : Text) (done : List Done) (d : Done) (n : ℕ) (new : Text) → n ≡ length done + 1 → before ≡ old ++ replies 1 done → AddsFirst (reply n d.answer) before new → Shown old done d new
+shows_part old before done d n new n_is before_is adds = by_rest adds.rest refl
+  where
+    number : 1 + length done ≡ n
+    number = omega (arith, n_is)
+
+    new_is : new ≡ (old ++ replies 1 done) ++ adds.front
+    new_is = adds.is ∙ ap (λ (t : Text). t ++ adds.front) before_is
+
+    by_rest : (rest : Text) → adds.rest ≡ rest → Shown old done d new
+    by_rest [] e =
+        let front_is : adds.front ≡ reply n d.answer = sym (append-nil adds.front) ∙ ap (λ (t : Text). adds.front ++ t) (sym e) ∙ sym adds.split in
+        record {
+          whole = length done + 1;
+          shows =
+              let all : new ≡ old ++ replies 1 (done ++ d ∷ []) =
+              new_is ∙ ap (λ (t : Text). (old ++ replies 1 done) ++ t) (front_is ∙ ap (λ (k : ℕ). reply k d.answer) (sym number)) ∙ append_assoc old (replies 1 done) (reply (1 + length done) d.answer) ∙ ap (λ (t : Text). old ++ t) (sym (replies-push 1 done d)) in
+              let S : ℕ → Type 0 = λ k. Shows old (done ++ d ∷ []) k new in
+              let size : length (done ++ d ∷ []) ≡ length done + 1 = length-append done (d ∷ []) in
+              subst S size (shows_whole old (done ++ d ∷ []) new all);
+          whole_is = inr refl;
+        }
+    by_rest (b ∷ rest) e = record {
+      whole = length done;
+      shows = record {
+        within = omega (arith, length-append done (d ∷ []));
+        part = adds.front;
+        is = new_is ∙ ap (λ (ds : List Done). (old ++ replies 1 ds) ++ adds.front) (sym (take_at done (d ∷ []) (length done) refl));
+        part_is = inr (record {
+          next = d;
+          is_next = slice_get-last done d;
+          more = b ∷ rest;
+          some = λ z. (cc);
+          split = ap (λ (k : ℕ). reply k d.answer) (sym n_is) ∙ adds.split ∙ ap (λ (t : Text). adds.front ++ t) e;
+        });
+      };
+      whole_is = inl refl;
+    }
+
+pub all_but_one : (old : Text) (done : List Done) (d : Done) (new : Text) → Shown old done d new → AllButOne (done ++ d ∷ []) old new
+all_but_one old done d new shown = record { whole = shown.whole; shows = shown.shows; few = by shown.whole_is }
+  where
+    by : (shown.whole ≡ length done) ⊎ (shown.whole ≡ length done + 1) → length (done ++ d ∷ []) ≤ shown.whole + 1
+    by (inl e) = omega (arith, e, length-append done (d ∷ []))
+    by (inr e) = omega (arith, e, length-append done (d ∷ []))
+
+-- ---- images
+
+-- main and the sink hold these, and so do their images
+pub image_of : (found : Cat) (done : List Done) (old holds : Text) (c : Cat) (whole : ℕ) (main sink : Text) → main ≡ holds → StandsFor holds c → sink ≡ old ++ replies 1 done → IsBefore found c (length done) ⊎ IsAfter found done c (length done) → c.pending ≡ found.pending
+    → OneImage found done old main sink
+image_of found done old holds c whole main sink main_is stood sink_is reached pending = record {
+  cat = c;
+  stands = (let P : Text → Type 0 = λ m. StandsFor m c in subst P (sym main_is) stood);
+  whole = length done;
+  shows = shows_whole old done sink sink_is;
+  reached = reached;
+  pending = pending;
+}
+
+pub image_more : (found : Cat) (done : List Done) (d : Done) (old main sink : Text) → OneImage found done old main sink → OneImage found (done ++ d ∷ []) old main sink
+image_more found done d old main sink image = record {
+  cat = image.cat;
+  stands = image.stands;
+  whole = image.whole;
+  shows = shows_more old done d image.whole sink image.shows;
+  reached = by image.reached;
+  pending = image.pending;
+}
+  where
+    by : IsBefore found image.cat image.whole ⊎ IsAfter found done image.cat image.whole → IsBefore found image.cat image.whole ⊎ IsAfter found (done ++ d ∷ []) image.cat image.whole
+    by (inl before) = inl before
+    by (inr after) = inr (record {
+      run = after.run;
+      within = omega (arith, after.within, length-append done (d ∷ []));
+      grid = after.grid ∙ ap (λ (s : State). s.grid) (sym (state_after-more (begins (grid_of found)) done d (max image.whole image.cat.numbers.last) after.within));
+    })
+
+-- While a request is answered: main has the catalogue before and nothing of its reply is shown, or main has the one after.
+pub cut_or_whole : (found : Cat) (done : List Done) (d : Done) (old before main sink : Text) (c after : Cat) (n : ℕ) → n ≡ length done + 1 → before ≡ old ++ replies 1 done → c.numbers.run ≡ found.numbers.run + 1 → c.numbers.last ≤ length done
+    → c.pending ≡ found.pending → grid_of c ≡ (state_after (begins (grid_of found)) done (length done)).grid → Follows c d n after → OneOf c after (reply n d.answer) before main sink → OneImage found (done ++ d ∷ []) old main sink
+cut_or_whole found done d old before main sink c after n n_is before_is run last pending grid follows (not_kept stood sink_is) =
+    image_more found done d old main sink (image_of found done old main c (length done) main sink refl stood (sink_is ∙ before_is) (inr (record {
+      run = run;
+      within = omega (arith, last);
+      grid = grid ∙ ap (λ (k : ℕ). (state_after (begins (grid_of found)) done k).grid) (let most : length done ≡ max (length done) c.numbers.last = omega (arith, last) in most);
+    })) pending)
+cut_or_whole found done d old before main sink c after n n_is before_is run last pending grid follows (kept stood adds) =
+    let shown = shows_part old before done d n sink n_is before_is adds in
+    record {
+      cat = after;
+      stands = stood;
+      whole = shown.whole;
+      shows = shown.shows;
+      reached = inr (record {
+        run = follows.run ∙ run;
+        within = omega (arith, length-append done (d ∷ []), (place shown.whole shown.whole_is d.changed refl).0);
+        grid = (place shown.whole shown.whole_is d.changed refl).1;
+      });
+      pending = follows.pending ∙ pending;
+    }
+  where
+    start : State
+    start = begins (grid_of found)
+
+    at : (k : ℕ) → k ≡ length done + 1 → grid_of after ≡ (state_after (begins (grid_of found)) (done ++ d ∷ []) k).grid
+    at k e = follows.grid ∙ ap (λ (s : State). s.grid) (sym (state_after-last (begins (grid_of found)) done d)) ∙ ap (λ (j : ℕ). (state_after (begins (grid_of found)) (done ++ d ∷ []) j).grid) (sym e)
+
+    at_before : d.changed ≡ false → (k : ℕ) → k ≡ length done → grid_of after ≡ (state_after (begins (grid_of found)) (done ++ d ∷ []) k).grid
+    at_before same k e =
+        follows.same same ∙ grid ∙ ap (λ (s : State). s.grid) (sym (state_after-more (begins (grid_of found)) done d (length done) (omega arith))) ∙ ap (λ (j : ℕ). (state_after (begins (grid_of found)) (done ++ d ∷ []) j).grid) (sym e)
+
+    place : (whole : ℕ) → (whole ≡ length done) ⊎ (whole ≡ length done + 1) → (b : Bool) → d.changed ≡ b
+        → (max whole after.numbers.last ≤ length done + 1) × (grid_of after ≡ (state_after (begins (grid_of found)) (done ++ d ∷ []) (max whole after.numbers.last)).grid)
+    place whole (inl w) true changed =
+        let l : after.numbers.last ≡ n = follows.last ∙ ap (λ b. last_of b n c.numbers.last) changed in
+        let m : max whole after.numbers.last ≡ length done + 1 = omega (arith, w, l, n_is) in
+        (omega (arith, m), at (max whole after.numbers.last) m)
+    place whole (inr w) true changed =
+        let l : after.numbers.last ≡ n = follows.last ∙ ap (λ b. last_of b n c.numbers.last) changed in
+        let m : max whole after.numbers.last ≡ length done + 1 = omega (arith, w, l, n_is) in
+        (omega (arith, m), at (max whole after.numbers.last) m)
+    place whole (inl w) false changed =
+        let l : after.numbers.last ≡ c.numbers.last = follows.last ∙ ap (λ b. last_of b n c.numbers.last) changed in
+        let m : max whole after.numbers.last ≡ length done = omega (arith, w, l, last) in
+        (omega (arith, m), at_before changed (max whole after.numbers.last) m)
+    place whole (inr w) false changed =
+        let l : after.numbers.last ≡ c.numbers.last = follows.last ∙ ap (λ b. last_of b n c.numbers.last) changed in
+        let m : max whole after.numbers.last ≡ length done + 1 = omega (arith, w, l, last) in
+        (omega (arith, m), at (max whole after.numbers.last) m)
+
+-- the log that a journal stands on closes at its gate
+pub closes_at : (c : Cat) (j : Journal) (main : Text) (place : ℕ) → place ≡ j.log.gate → Keeps c j main → ClosesAt main place
+closes_at c j main place is keeps =
+    let P : ℕ → Type 0 = λ b. IsLog b keeps.records main in
+    record {
+      records = keeps.records;
+      log = subst P keeps.base keeps.log.is_log;
+      place_is = omega (arith, is, ap (λ (e : Extent). e.gate) keeps.log.extent, keeps.base);
+    }

@@ -1,125 +1,218 @@
 -- From the catalogue that was opened to the run over it.
-use Rattle.std.proofs.Common.{◌≡◌, ◌⊎◌, inl, inr, ℕ, ◌^◌, ◌≤◌, List, [], ◌++◌, length, length-append, Ok, Err, IsTrue, arith, refl, sym, subst, ap, ◌∙◌}
+use Rattle.std.proofs.Common.{◌≡◌, ◌≢◌, ◌⊎◌, inl, inr, ℕ, ◌^◌, ◌<◌, ◌≤◌, List, [], ◌∷◌, ◌++◌, length, length-append, Result, Ok, Err, IsTrue, arith, refl, sym, subst, ap, ◌∙◌}
 use Rattle.std.proofs.lemmas.List.{append-nil}
+use Rattle.std.proofs.lemmas.Bool.{cases_lt}
+use Rattle.grid_outside.specs.Device.{Looks, IsSettled}
 use Rattle.grid_outside.specs.Disk.{DiskState}
 use Rattle.grid_outside.specs.Sink.{SinkState}
 use Rattle.grid_outside.specs.Source.{SourceState}
-use Rattle.grid_model.specs.Names.{Text}
+use Rattle.grid_outside.specs.declared.outside.Wear.TheVariants as wear
+use Rattle.grid_model.specs.Names.{Text, is_name}
 use Rattle.grid_model.specs.Grid.{Grid}
-use Rattle.grid_model.specs.Inputs.{Asked, none_taken}
-use Rattle.grid_model.specs.Catalogue.{Stands, kept_lines, HasRoom}
-use Rattle.grid_server.specs.declared.status.Status.{Status}
-use Rattle.grid_server.specs.declared.status.Status.TheVariants as status
-use Rattle.grid_server.specs.Serving.{IsServing, DidAll, Whole, EndsEarly, EndsTorn, Serves}
-use Rattle.grid_server.specs.Starting.{NotEmpty}
-use Rattle.grid_server.specs.Running.{Refuses, Inits, Says, IsComplete}
+use Rattle.grid_model.specs.Rows.{Cat}
+use Rattle.grid_model.specs.Gridding.{grid_of}
+use Rattle.grid_model.specs.Inputs.{none_taken}
+use Rattle.grid_model.specs.Commands.{State, Done, none as nothing_done, state_after}
+use Rattle.grid_model.specs.Replies.{replies}
 use Rattle.grid_model.specs.declared.grid.Side.{Side}
 use Rattle.grid_model.specs.declared.grid.Side.TheVariants.{Main, Spare}
+use Rattle.grid_journal.specs.Stands.{Stands, stands, StandsEither}
+use Rattle.grid_journal.specs.Store.{IsNotEmpty}
+use Rattle.grid_journal.proofs.StandsLemmas.{Stands-same}
+use Rattle.grid_server.specs.declared.server.Server.{Server}
+use Rattle.grid_server.specs.declared.opening.BeginError.{BeginError}
+use Rattle.grid_server.specs.declared.opening.BeginError.TheVariants as opening
+use Rattle.grid_server.specs.declared.status.Status.{Status}
+use Rattle.grid_server.specs.declared.status.Status.TheVariants as status
+use Rattle.grid_server.specs.Held.{StandsFor}
+use Rattle.grid_server.specs.Answering.{Goes, Rests}
+use Rattle.grid_server.specs.Opening.{begun, BeginEnds, Begun}
+use Rattle.grid_server.specs.Serving.{begins, Shows, AllButOne, OneImage, IsKept, ClosesAt, Ends, Serves, IsServing}
+use Rattle.grid_server.specs.Running.{Refuses, RefusesStores, Inits, Says, IsComplete}
 use Rattle.grid_server.specs.Tasks.{AsksFor, to_serve, to_init, init, serve}
-use Rattle.grid_server.proofs.DoneLemmas.{done_none}
-use Rattle.grid_server.proofs.StandsLemmas.{Stands-same}
+use Rattle.grid_server.proofs.DoneLemmas.{shows_all, image_of}
 
--- bytes stand for a grid or for none
-pub no_both : {text : Text} {g : Grid} {place : ℕ} → Stands text (Ok g) → Stands text (Err place) → ⊥
-no_both one two = let same = Stands-same one two in cc
+-- ---- what the disks stand for
 
-pub one_grid : {text : Text} {g h : Grid} → Stands text (Ok g) → Stands text (Ok h) → g ≡ h
-one_grid one two = let same = Stands-same one two in cc
+-- one thing, and not two
+pub one_cat : (main spare : Text) (c d : Cat) → Stands main spare (Ok c) → Stands main spare (Ok d) → c ≡ d
+one_cat main spare c d one other = let same : Result.Ok d ≡ Ok c = Stands-same main spare (Ok c) (Ok d) one other in cc
 
-pub one_place : {text : Text} {place other : ℕ} → Stands text (Err place) → Stands text (Err other) → place ≡ other
-one_place one two = let same = Stands-same one two in cc
+pub no_both : (main spare : Text) (c : Cat) (side : Side) (place : ℕ) → Stands main spare (Ok c) → Stands main spare (Err (side, place)) → ⊥
+no_both main spare c side place one other = let same = Stands-same main spare (Ok c) (Err (side, place)) one other in cc
 
-module _ (found : Grid) (main_old main_mid main_new : DiskState) (from to : SourceState) (sink_old sink_new : SinkState) (same : main_mid.holds ≡ main_old.holds) where
-  abbrev did_from : {asked : List Asked} → DidAll found main_mid.holds asked → DidAll found main_old.holds asked
-  did_from d = record {
-    done = d.done;
-    end = d.end;
-    after = d.after;
-    room = (let P : Text → Type 0 = λ t. HasRoom (length t) d.done in subst P same d.room);
-    stands = (let P : Text → Type 0 = λ t. Stands (t ++ kept_lines d.done) (Ok d.end.grid) in subst P same d.stands);
-  }
+-- spare has no part in it
+pub stands_for : (main spare : Text) (c : Cat) → Stands main spare (Ok c) → StandsFor main c
+stands_for main spare c (stands records d head log replays zone) other = stands records d head log replays zone
 
-  abbrev whole_from : {asked : List Asked} → Whole found main_mid main_new sink_old sink_new asked → Whole found main_old main_new sink_old sink_new asked
-  whole_from w = record { did = did_from w.did; kept = w.kept ∙ ap (λ (t : Text). t ++ kept_lines w.did.done) same; shown = w.shown }
+-- ---- before the first request
 
-  pub serves_from : (s : Status) → Serves found main_mid main_new from to sink_old sink_new s → Serves found main_old main_new from to sink_old sink_new s
-  serves_from status.Done w = record { asked = w.asked; are = w.are; whole = whole_from w.whole; all = w.all; fits = w.fits }
-  serves_from status.SourceFault w = record { taken = w.taken; split = w.split; asked = w.asked; left = w.left; takes = w.takes; part = w.part; whole = whole_from w.whole }
-  serves_from (status.Long taken) w = (w.0, record { taken = w.1.taken; split = w.1.split; size = w.1.size; asked = w.1.asked; left = w.1.left; takes = w.1.takes; part = w.1.part; whole = whole_from w.1.whole })
-  serves_from status.Memory w = record { asked = w.asked; begins = w.begins; whole = whole_from w.whole }
-  serves_from (status.Worn what place) w = (
-    w.0,
-    record {
-      asked = w.1.asked;
-      request = w.1.request;
-      begins = w.1.begins;
-      whole = whole_from w.1.whole;
-      next = w.1.next;
-      did = w.1.did;
-      adds = w.1.adds;
-      place_is = w.1.place_is;
-      too_long = w.1.too_long;
-    },
-  )
-  serves_from status.DiskFault w = record {
-    asked = w.asked;
-    begins = w.begins;
-    did = did_from w.did;
-    tail = w.tail;
-    kept = w.kept ∙ ap (λ (t : Text). (t ++ kept_lines w.did.done) ++ w.tail) same;
-    tail_is = w.tail_is;
-    shown = w.shown;
-  }
-  serves_from status.SinkFault w = record {
-    asked = w.asked;
-    begins = w.begins;
-    did = did_from w.did;
-    kept = w.kept ∙ ap (λ (t : Text). t ++ kept_lines w.did.done) same;
-    front = w.front;
-    last = w.last;
-    done_is = w.done_is;
-    shown = w.shown;
-  }
-  serves_from status.Usage w = absurd w
-  serves_from (status.NotACatalogue side place) w = absurd w
-  serves_from (status.NotEmpty side len) w = absurd w
+-- nothing is shown
+shows_none : (old : Text) (done : List Done) (sink : Text) → sink ≡ old → Shows old done 0 sink
+shows_none old done sink same = record {
+  within = omega arith;
+  part = [];
+  is = same ∙ sym (append-nil old) ∙ sym (append-nil (old ++ []));
+  part_is = inl refl;
+}
 
--- the grid that was found is the one that the bytes stand for
-pub serves_found : (held found : Grid) (main_old main_mid main_new : DiskState) (from to : SourceState) (sink_old sink_new : SinkState) (s : Status)
-    → main_mid.holds ≡ main_old.holds → Stands main_old.holds (Ok held) → Stands main_old.holds (Ok found) → Serves held main_mid main_new from to sink_old sink_new s → Serves found main_old main_new from to sink_old sink_new s
-serves_found held found main_old main_mid main_new from to sink_old sink_new s same one two serves =
-    let P : Grid → Type 0 = λ g. Serves g main_mid main_new from to sink_old sink_new s in
-    serves_from found main_old main_mid main_new from to sink_old sink_new same s (subst P (one_grid one two) serves)
+state_after-none : (s : State) (done : List Done) → state_after s done 0 ≡ s
+state_after-none s [] = refl
+state_after-none s (d ∷ done) = refl
 
-module _ (found : Grid) (main_old main_new : DiskState) (from : SourceState) (sink : SinkState) (same : main_new.holds ≡ main_old.holds) (stood : Stands main_old.holds (Ok found)) where
-  pub early_at_once : EndsEarly found main_old main_new from sink sink
-  early_at_once = record {
+-- a stop before the first request leaves the catalogue that was found, or that of the run
+early : (found : Cat) (done : List Done) (old main sink : Text) → grid_of (begun found) ≡ grid_of found → StandsEither found (begun found) main → sink ≡ old → OneImage found done old main sink
+early found done old main sink grid (inl stood) same = record {
+  cat = found;
+  stands = stood;
+  whole = 0;
+  shows = shows_none old done sink same;
+  reached = inl (record { run = refl; grid = refl; none_shown = refl });
+  pending = refl;
+}
+early found done old main sink grid (inr stood) same = record {
+  cat = begun found;
+  stands = stood;
+  whole = 0;
+  shows = shows_none old done sink same;
+  reached = inr (record { run = refl; within = omega arith; grid = grid ∙ ap (λ (s : State). s.grid) (sym (state_after-none (begins (grid_of found)) done)) });
+  pending = refl;
+}
+
+-- a run was begun, and then served
+pub serves_begun : (found : Cat) (since mid : ℕ) (main_old main_mid main_new : DiskState) (from to : SourceState) (sink_old sink_new : SinkState) (server : Server) (s : Status) → sink_old.last ≤ since → IsTrue main_old.tells
+    → Begun found since main_old main_mid (Ok server) → Goes mid main_mid main_new → Goes mid sink_old sink_new → Serves found mid main_mid main_new from to sink_old sink_new s → Serves found since main_old main_new from to sink_old sink_new s
+serves_begun found since mid main_old main_mid main_new from to sink_old sink_new server s last told began main_goes sink_goes w = record {
+  asked = w.asked;
+  first = w.first;
+  done = w.done;
+  end = w.end;
+  after = w.after;
+  shown = w.shown;
+  ends = w.ends;
+  images = λ sink_told main_settled sink_settled t main sink late main_left sink_left. at sink_told main_settled sink_settled t main sink late main_left sink_left (cases_lt mid t);
+}
+  where
+    at : IsTrue sink_old.tells → IsSettled main_old → IsSettled sink_old → (t : ℕ) (main sink : Text) → since < t → main_new.left t main → sink_new.left t sink → (mid < t) ⊎ (t ≤ mid) → OneImage found w.done sink_old.holds main sink
+    at sink_told main_settled sink_settled t main sink late main_left sink_left (inl now) = w.images sink_told (began.ends.4 told) sink_settled t main sink now main_left sink_left
+    at sink_told main_settled sink_settled t main sink late main_left sink_left (inr before) =
+        early found w.done sink_old.holds main sink began.grid (began.leaves told main_settled t main late (main_goes.earlier t main before main_left))
+        (sink_settled t sink (omega (arith, last, late)) (sink_goes.earlier t sink before sink_left))
+
+-- how a run ends that was not begun
+abbrev pub unbegun : BeginError → Status
+unbegun (opening.Runs place) = status.Worn wear.Runs place
+unbegun (opening.Log place) = status.Worn wear.Log place
+unbegun opening.Disk = status.DiskFault
+unbegun opening.Memory = status.Memory
+
+-- none was begun
+pub serves_unbegun : (found : Cat) (since : ℕ) (main_old main_new : DiskState) (source : SourceState) (sink : SinkState) (e : BeginError) → sink.last ≤ since → IsTrue main_old.tells → StandsFor main_old.holds found
+    → Begun found since main_old main_new (Err e) → Serves found since main_old main_new source source sink sink (unbegun e)
+serves_unbegun found since main_old main_new source sink e last told stood began = record {
+  asked = [];
+  first = inl (source.left, none_taken);
+  done = [];
+  end = begins (grid_of found);
+  after = nothing_done;
+  shown = λ sink_told. shows_all sink.holds [] sink.holds (sym (append-nil sink.holds));
+  ends = by e began.ends;
+  images = λ sink_told main_settled sink_settled t main_image sink_image late main_left sink_left.
+      early found [] sink.holds main_image sink_image began.grid (began.leaves told main_settled t main_image late main_left) (sink_settled t sink_image (omega (arith, last, late)) sink_left);
+}
+  where
+    nothing_shown : IsTrue sink.tells → sink.holds ≡ sink.holds ++ []
+    nothing_shown sink_told = sym (append-nil sink.holds)
+
+    kept : Rests main_old main_new → IsKept main_new.holds (grid_of found)
+    kept rests = record { cat = found; stands = (let P : Text → Type 0 = λ m. StandsFor m found in subst P (sym (rests.stays told)) stood); grid = refl }
+
+    by : (e : BeginError) → BeginEnds found main_old main_new (Err e) → Ends found [] [] (begins (grid_of found)) main_new source source sink sink (unbegun e)
+    by (opening.Runs place) w = ((refl, w.1, w.2), nothing_shown, kept w.0)
+    by (opening.Log place) w = ((w.1, (let P : Text → Type 0 = λ m. ClosesAt m place in subst P (sym (w.0.stays told)) (w.2 told)), inl refl), nothing_shown, kept w.0)
+    by opening.Disk w = tt
+    by opening.Memory w = (nothing_shown, kept w)
+
+-- ---- before the catalogue was read
+
+-- main was only looked at
+pub serves_opened : (found : Cat) (since : ℕ) (main_old main_mid main_new : DiskState) (from to : SourceState) (sink_old sink_new : SinkState) (s : Status) → (IsSettled main_old → IsSettled main_mid)
+    → Serves found since main_mid main_new from to sink_old sink_new s → Serves found since main_old main_new from to sink_old sink_new s
+serves_opened found since main_old main_mid main_new from to sink_old sink_new s settled w = record {
+  asked = w.asked;
+  first = w.first;
+  done = w.done;
+  end = w.end;
+  after = w.after;
+  shown = w.shown;
+  ends = w.ends;
+  images = λ sink_told main_settled sink_settled. w.images sink_told (settled main_settled) sink_settled;
+}
+
+-- the catalogue that was found is the one that the disks stand for
+pub serves_found : (held found : Cat) (since : ℕ) (main_old main_mid main_new : DiskState) (spare : Text) (from to : SourceState) (sink_old sink_new : SinkState) (s : Status) → Stands main_old.holds spare (Ok held) → Stands main_old.holds spare (Ok found)
+    → (IsSettled main_old → IsSettled main_mid) → Serves held since main_mid main_new from to sink_old sink_new s → Serves found since main_old main_new from to sink_old sink_new s
+serves_found held found since main_old main_mid main_new spare from to sink_old sink_new s one other settled w =
+    let P : Cat → Type 0 = λ c. Serves c since main_mid main_new from to sink_old sink_new s in
+    serves_opened found since main_old main_mid main_new from to sink_old sink_new s settled (subst P (one_cat main_old.holds spare held found one other) w)
+
+-- nothing was read, for want of memory or since the disk failed
+module _ (found : Cat) (since : ℕ) (main_old main_new : DiskState) (source : SourceState) (sink : SinkState) (told : IsTrue main_old.tells) (main_last : main_old.last ≤ since) (sink_last : sink.last ≤ since) (looks : Looks main_old main_new)
+    (stood : StandsFor main_old.holds found) where
+  unread : (s : Status) → Ends found [] [] (begins (grid_of found)) main_new source source sink sink s → Serves found since main_old main_new source source sink sink s
+  unread s ends = record {
     asked = [];
-    begins = inl (from.left, none_taken);
-    whole = record { did = done_none found main_old.holds stood; kept = same ∙ sym (append-nil main_old.holds); shown = λ told. sym (append-nil sink.holds) };
+    first = inl (source.left, none_taken);
+    done = [];
+    end = begins (grid_of found);
+    after = nothing_done;
+    shown = λ sink_told. shows_all sink.holds [] sink.holds (sym (append-nil sink.holds));
+    ends = ends;
+    images = λ sink_told main_settled sink_settled t main_image sink_image late main_left sink_left.
+        image_of found [] sink.holds main_old.holds found 0 main_image sink_image (main_settled t main_image (omega (arith, main_last, late)) ((looks.left t main_image).0 main_left)) stood
+        (sink_settled t sink_image (omega (arith, sink_last, late)) sink_left ∙ sym (append-nil sink.holds)) (inl (record { run = refl; grid = refl; none_shown = refl })) refl;
   }
 
-  pub torn_at_once : EndsTorn found main_old main_new from sink sink
-  torn_at_once = record {
-    asked = [];
-    begins = inl (from.left, none_taken);
-    did = done_none found main_old.holds stood;
-    tail = [];
-    kept = same ∙ sym (append-nil main_old.holds) ∙ sym (append-nil (main_old.holds ++ []));
-    tail_is = inl refl;
-    shown = λ told. sym (append-nil sink.holds);
-  }
+  pub unread_fault : Serves found since main_old main_new source source sink sink status.DiskFault
+  unread_fault = unread status.DiskFault tt
 
--- the place is the one that the bytes have
-pub refuses_there : (text : Text) (at place : ℕ) (sink_old sink_new : SinkState) (s : Status) → Stands text (Err at) → Stands text (Err place) → Refuses at sink_old sink_new s → Refuses place sink_old sink_new s
-refuses_there text at place sink_old sink_new s one two refused =
-    let P : ℕ → Type 0 = λ n. Refuses n sink_old sink_new s in
-    subst P (one_place one two) refused
+  pub unread_memory : Serves found since main_old main_new source source sink sink status.Memory
+  unread_memory = unread status.Memory ((λ sink_told. sym (append-nil sink.holds)), record { cat = found; stands = (let P : Text → Type 0 = λ m. StandsFor m found in subst P (sym (looks.holds told)) stood); grid = refl })
+
+-- ---- where a catalogue is refused
+
+one_fault : (a b : Side × ℕ) → (let r : Result Cat (Side × ℕ) = Err a in r ≡ Err b) → a ≡ b
+one_fault a b e = cc
+
+pub refuses_there : (main spare : Text) (side at_side : Side) (place at : ℕ) (sink_old sink_new : SinkState) (s : Status) → Stands main spare (Err (at_side, at)) → Stands main spare (Err (side, place)) → Refuses at_side at sink_old sink_new s
+    → Refuses side place sink_old sink_new s
+refuses_there main spare side at_side place at sink_old sink_new s one other refused =
+    let same : (side, place) ≡ (at_side, at) = one_fault (side, place) (at_side, at) (Stands-same main spare (Err (at_side, at)) (Err (side, place)) one other) in
+    let sides : at_side ≡ side = sym (ap (λ (p : Side × ℕ). p.0) same) in
+    let places : at ≡ place = sym (ap (λ (p : Side × ℕ). p.1) same) in
+    let S : Side → Type 0 = λ x. Refuses x at sink_old sink_new s in
+    let P : ℕ → Type 0 = λ n. Refuses side n sink_old sink_new s in
+    subst P places (subst S sides refused)
+
+-- the place is the one that was found wrong
+pub refused_at : (main spare : Text) (side at_side : Side) (place at : ℕ) (s : Status) → Stands main spare (Err (at_side, at)) → (s ≡ status.NotACatalogue at_side at) ⊎ (s ≡ status.Memory) ⊎ (s ≡ status.SinkFault)
+    → s ≡ status.NotACatalogue side place → Stands main spare (Err (side, place))
+refused_at main spare side at_side place at s stood (inl said) is =
+    let sides : at_side ≡ side = cc in
+    let places : at ≡ place = cc in
+    let S : Side → Type 0 = λ x. Stands main spare (Err (x, at)) in
+    let P : ℕ → Type 0 = λ n. Stands main spare (Err (side, n)) in
+    subst P places (subst S sides stood)
+refused_at main spare side at_side place at s stood (inr (inl memory)) is = absurd (cc (memory, is))
+refused_at main spare side at_side place at s stood (inr (inr sink)) is = absurd (cc (sink, is))
 
 -- ---- the words
 
 pub serve_or_init : {words : List Text} {z a : Text} → AsksFor words serve → AsksFor words (init z a) → ⊥
 serve_or_init (to_serve e) (to_init f zone_is admin_is other) = cc
+
+pub asked_names : {words : List Text} {z a : Text} → AsksFor words (init z a) → IsTrue (is_name z) × IsTrue (is_name a)
+asked_names (to_init e zone_is admin_is other) = (zone_is.name, admin_is.name)
 
 pub one_zone : {words : List Text} {z a y b : Text} → AsksFor words (init z a) → AsksFor words (init y b) → z ≡ y
 one_zone (to_init e zone_is admin_is other) (to_init f zone_too admin_too another) = cc
@@ -127,65 +220,79 @@ one_zone (to_init e zone_is admin_is other) (to_init f zone_too admin_too anothe
 pub one_admin : {words : List Text} {z a y b : Text} → AsksFor words (init z a) → AsksFor words (init y b) → a ≡ b
 one_admin (to_init e zone_is admin_is other) (to_init f zone_too admin_too another) = cc
 
-pub inits_so : {words : List Text} (z a y b : Text) (main_old main_new spare : DiskState) (sink_old sink_new : SinkState) (s : Status) → AsksFor words (init z a) → AsksFor words (init y b)
-    → Inits z a main_old main_new spare sink_old sink_new s → Inits y b main_old main_new spare sink_old sink_new s
-inits_so z a y b main_old main_new spare sink_old sink_new s one two inits =
-    let Z : Text → Type 0 = λ t. Inits t a main_old main_new spare sink_old sink_new s in
-    let A : Text → Type 0 = λ t. Inits y t main_old main_new spare sink_old sink_new s in
+pub inits_so : {words : List Text} (z a y b : Text) (stores : ℕ) (main_old main_new spare : DiskState) (sink_old sink_new : SinkState) (s : Status) → AsksFor words (init z a) → AsksFor words (init y b)
+    → Inits z a stores main_old main_new spare sink_old sink_new s → Inits y b stores main_old main_new spare sink_old sink_new s
+inits_so z a y b stores main_old main_new spare sink_old sink_new s one two inits =
+    let Z : Text → Type 0 = λ t. Inits t a stores main_old main_new spare sink_old sink_new s in
+    let A : Text → Type 0 = λ t. Inits y t stores main_old main_new spare sink_old sink_new s in
     subst A (one_admin one two) (subst Z (one_zone one two) inits)
 
 -- ---- where nothing fails
 
-pub complete : (found : Grid) (main_old main_new : DiskState) (from to : SourceState) (sink_old sink_new : SinkState) (s : Status) → Serves found main_old main_new from to sink_old sink_new s
+pub complete : (found : Cat) (since : ℕ) (main_old main_new : DiskState) (from to : SourceState) (sink_old sink_new : SinkState) (s : Status) → Serves found since main_old main_new from to sink_old sink_new s
     → length from.left ≤ 2 ^ 48 → (s ≡ status.DiskFault → ⊥) → (s ≡ status.SourceFault → ⊥) → (s ≡ status.SinkFault → ⊥) → IsComplete s
-complete found main_old main_new from to sink_old sink_new status.Done w fits disk source sink = tt
-complete found main_old main_new from to sink_old sink_new status.SourceFault w fits disk source sink = absurd (source refl)
-complete found main_old main_new from to sink_old sink_new (status.Long taken) w fits disk source sink = absurd (omega (arith, fits, w.1.size, ap length w.1.split, length-append w.1.taken to.left))
-complete found main_old main_new from to sink_old sink_new status.Memory w fits disk source sink = tt
-complete found main_old main_new from to sink_old sink_new (status.Worn what place) w fits disk source sink = tt
-complete found main_old main_new from to sink_old sink_new status.DiskFault w fits disk source sink = absurd (disk refl)
-complete found main_old main_new from to sink_old sink_new status.SinkFault w fits disk source sink = absurd (sink refl)
-complete found main_old main_new from to sink_old sink_new status.Usage w fits disk source sink = absurd w
-complete found main_old main_new from to sink_old sink_new (status.NotACatalogue side place) w fits disk source sink = absurd w
-complete found main_old main_new from to sink_old sink_new (status.NotEmpty side len) w fits disk source sink = absurd w
+complete found since main_old main_new from to sink_old sink_new s w fits disk source sink = by s refl w.ends
+  where
+    by : (r : Status) → s ≡ r → Ends found w.asked w.done w.end main_new from to sink_old sink_new r → IsComplete s
+    by status.Done is ends = subst IsComplete (sym is) tt
+    by status.SourceFault is ends = absurd (source is)
+    by (status.Long taken) is ends = absurd (omega (arith, fits, ends.1.size, ap length ends.1.split, length-append ends.1.taken to.left))
+    by status.Memory is ends = subst IsComplete (sym is) tt
+    by (status.Worn what place) is ends = subst IsComplete (sym is) tt
+    by status.DiskFault is ends = absurd (disk is)
+    by status.SinkFault is ends = absurd (sink is)
+    by status.Usage is ends = absurd ends
+    by (status.NotACatalogue side place) is ends = absurd ends
+    by (status.NotEmpty side len) is ends = absurd ends
+    by (status.Stores had given) is ends = absurd ends
 
 said : (line : Text) (wanted s : Status) (sink_old sink_new : SinkState) → (s ≡ status.SinkFault → ⊥) → Says line wanted sink_old sink_new s → s ≡ wanted
 said line wanted s sink_old sink_new sink (inl ok) = ok.0
 said line wanted s sink_old sink_new sink (inr bad) = absurd (sink bad.0)
 
-both_empty : (main_old spare : DiskState) → IsTrue main_old.tells → IsTrue spare.tells → main_old.holds ≡ [] → spare.holds ≡ [] → (side : Side) (len : ℕ) → NotEmpty main_old spare side len → ⊥
-both_empty main_old spare main_told spare_told main_empty spare_empty Main len n = n.0 (n.1 main_told ∙ ap length main_empty)
-both_empty main_old spare main_told spare_told main_empty spare_empty Spare len n = n.0 (n.2 spare_told ∙ ap length spare_empty)
+both_empty : (main_old spare : DiskState) → IsTrue main_old.tells → IsTrue spare.tells → main_old.holds ≡ [] → spare.holds ≡ [] → (side : Side) (len : ℕ) → IsNotEmpty main_old spare len side → ⊥
+both_empty main_old spare main_told spare_told main_empty spare_empty Main len n = omega (arith, n.0, n.1 main_told, ap length main_empty)
+both_empty main_old spare main_told spare_told main_empty spare_empty Spare len n = omega (arith, n.0, n.2 spare_told, ap length spare_empty)
 
-pub complete_init : (zone admin : Text) (main_old main_new spare : DiskState) (sink_old sink_new : SinkState) (s : Status) → Inits zone admin main_old main_new spare sink_old sink_new s
+pub complete_init : (zone admin : Text) (stores : ℕ) (main_old main_new spare : DiskState) (sink_old sink_new : SinkState) (s : Status) → Inits zone admin stores main_old main_new spare sink_old sink_new s
     → IsTrue main_old.tells → IsTrue spare.tells → main_old.holds ≡ [] → spare.holds ≡ [] → (s ≡ status.DiskFault → ⊥) → (s ≡ status.SinkFault → ⊥) → (s ≡ status.Done) ⊎ (s ≡ status.Memory)
-complete_init zone admin main_old main_new spare sink_old sink_new s (inl began) main_told spare_told main_empty spare_empty disk sink = inl (said _ status.Done s sink_old sink_new sink began.1)
-complete_init zone admin main_old main_new spare sink_old sink_new s (inr (inl refused)) main_told spare_told main_empty spare_empty disk sink =
+complete_init zone admin stores main_old main_new spare sink_old sink_new s (inl began) main_told spare_told main_empty spare_empty disk sink = inl (said _ status.Done s sink_old sink_new sink began.1)
+complete_init zone admin stores main_old main_new spare sink_old sink_new s (inr (inl refused)) main_told spare_told main_empty spare_empty disk sink =
     absurd (both_empty main_old spare main_told spare_told main_empty spare_empty refused.0 refused.1 refused.2)
-complete_init zone admin main_old main_new spare sink_old sink_new s (inr (inr (inl failed))) main_told spare_told main_empty spare_empty disk sink = absurd (disk failed.0)
-complete_init zone admin main_old main_new spare sink_old sink_new s (inr (inr (inr memory))) main_told spare_told main_empty spare_empty disk sink = inr memory.0
+complete_init zone admin stores main_old main_new spare sink_old sink_new s (inr (inr (inl failed))) main_told spare_told main_empty spare_empty disk sink = absurd (disk failed.0)
+complete_init zone admin stores main_old main_new spare sink_old sink_new s (inr (inr (inr memory))) main_told spare_told main_empty spare_empty disk sink = inr memory.0
 
--- ---- where a catalogue is refused
+-- ---- main that was only looked at
 
-pub not_served : (side : Side) (place : ℕ) (s : Status) → IsServing s → s ≡ status.NotACatalogue side place → ⊥
-not_served side place s serving is = subst IsServing is serving
+pub looked_rests : (old new : DiskState) → Looks old new → old.faults ≤ new.faults → Rests old new
+looked_rests old new looks later = record { faults = later; tells = looks.tells; last = looks.last; stays = looks.holds; left = λ t image left. (looks.left t image).0 left }
 
--- the place is the one that was found wrong
-pub refused_at : (text : Text) (at place : ℕ) (side : Side) (s : Status) → Stands text (Err at) → (s ≡ status.NotACatalogue Main at) ⊎ (s ≡ status.Memory) ⊎ (s ≡ status.SinkFault)
-    → s ≡ status.NotACatalogue side place → (side ≡ Main) × Stands text (Err place)
-refused_at text at place side s stood (inl said) is = (cc, (let P : ℕ → Type 0 = λ n. Stands text (Err n) in subst P (let places : at ≡ place = cc in places) stood))
-refused_at text at place side s stood (inr (inl memory)) is = absurd (cc (memory, is))
-refused_at text at place side s stood (inr (inr sink)) is = absurd (cc (sink, is))
+-- of a device that is the same afterwards
+pub rests_then : {M : Type 0} (state : M → DiskState) (old : DiskState) (a b : M) → b ≡ a → Rests old (state a) → Rests old (state b)
+rests_then {M = M} state old a b same rests = let P : M → Type 0 = λ m. Rests old (state m) in subst P (sym same) rests
 
-says_another : (line : Text) (wanted s : Status) (old new : SinkState) (side : Side) (place : ℕ) → (wanted ≡ status.NotACatalogue side place → ⊥) → Says line wanted old new s → s ≡ status.NotACatalogue side place → ⊥
-says_another line wanted s old new side place other (inl ok) is = other (sym ok.0 ∙ is)
-says_another line wanted s old new side place other (inr bad) is = let no = sym bad.0 ∙ is in cc
+-- the numbers of stores are those that were compared
+pub stores_so : (had given kept handed : ℕ) (sink_old sink_new : SinkState) (s : Status) → kept ≡ had → handed ≡ given → RefusesStores kept handed sink_old sink_new s → RefusesStores had given sink_old sink_new s
+stores_so had given kept handed sink_old sink_new s one other refused =
+    let K : ℕ → Type 0 = λ n. RefusesStores n handed sink_old sink_new s in
+    let G : ℕ → Type 0 = λ n. RefusesStores had n sink_old sink_new s in
+    subst G other (subst K one refused)
+
+-- another number of stores
+pub other_stores : (main spare : Text) (held found : Cat) (given : ℕ) (sink_old sink_new : SinkState) (s : Status) → Stands main spare (Ok held) → Stands main spare (Ok found) → RefusesStores held.stores given sink_old sink_new s
+    → RefusesStores found.stores given sink_old sink_new s
+other_stores main spare held found given sink_old sink_new s one other refused =
+    let P : Cat → Type 0 = λ c. RefusesStores c.stores given sink_old sink_new s in
+    subst P (one_cat main spare held found one other) refused
+
+-- ---- words that ask for nothing
+
+says_another : (line : Text) (wanted s t : Status) (old new : SinkState) → (wanted ≡ t → ⊥) → (status.SinkFault ≡ t → ⊥) → Says line wanted old new s → s ≡ t → ⊥
+says_another line wanted s t old new other no_fault (inl ok) is = other (sym ok.0 ∙ is)
+says_another line wanted s t old new other no_fault (inr bad) is = no_fault (sym bad.0 ∙ is)
 
 pub usage_says_none : (line : Text) (s : Status) (old new : SinkState) (side : Side) (place : ℕ) → Says line status.Usage old new s → s ≡ status.NotACatalogue side place → ⊥
-usage_says_none line s old new side place said is = says_another line status.Usage s old new side place (λ e. cc (e)) said is
+usage_says_none line s old new side place said is = says_another line status.Usage s (status.NotACatalogue side place) old new (λ e. cc) (λ e. cc) said is
 
-pub inits_none : (zone admin : Text) (main_old main_new spare : DiskState) (old new : SinkState) (s : Status) (side : Side) (place : ℕ) → Inits zone admin main_old main_new spare old new s → s ≡ status.NotACatalogue side place → ⊥
-inits_none zone admin main_old main_new spare old new s side place (inl began) is = says_another _ status.Done s old new side place (λ e. cc (e)) began.1 is
-inits_none zone admin main_old main_new spare old new s side place (inr (inl refused)) is = says_another _ (status.NotEmpty refused.0 refused.1) s old new side place (λ e. cc (e)) refused.4 is
-inits_none zone admin main_old main_new spare old new s side place (inr (inr (inl failed))) is = let no = sym failed.0 ∙ is in cc
-inits_none zone admin main_old main_new spare old new s side place (inr (inr (inr memory))) is = let no = sym memory.0 ∙ is in cc
+pub usage_says_no_stores : (line : Text) (s : Status) (old new : SinkState) (had given : ℕ) → Says line status.Usage old new s → s ≡ status.Stores had given → ⊥
+usage_says_no_stores line s old new had given said is = says_another line status.Usage s (status.Stores had given) old new (λ e. cc) (λ e. cc) said is

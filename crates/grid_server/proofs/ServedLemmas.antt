@@ -1,17 +1,21 @@
 -- What was served so far, turn by turn, and how it ends.
-use Rattle.std.proofs.Common.{◌≡◌, ◌⊎◌, inl, inr, ℕ, ◌+◌, ◌^◌, ◌≤◌, Bool, true, false, List, [], ◌∷◌, ◌++◌, length, take, Option, Some, None, Result, Ok, Err, IsTrue, arith, refl, sym, subst, ap, ◌∙◌, append_assoc, length-append}
+use Rattle.std.proofs.Common.{◌≡◌, ◌≢◌, ◌⊎◌, inl, inr, ℕ, zero, suc, ◌+◌, ◌^◌, ◌<◌, ◌≤◌, Bool, true, false, List, [], ◌∷◌, ◌++◌, length, take, slice_get, Option, Some, None, Result, Ok, Err, IsTrue, arith, refl, sym, subst, ap, ◌∙◌, append_assoc, length-append}
+use Rattle.std.specs.Prelude.{max, ⊤}
 use Rattle.std.proofs.lemmas.List.{append-nil, take_at}
+use Rattle.std.proofs.lemmas.Bool.{cases_lt}
+use Rattle.grid_outside.specs.Device.{IsSettled}
 use Rattle.grid_outside.specs.Disk.{DiskState}
 use Rattle.grid_outside.specs.Sink.{SinkState}
 use Rattle.grid_outside.specs.Source.{SourceState}
 use Rattle.grid_model.specs.Names.{Text}
 use Rattle.grid_model.specs.Grid.{Grid}
+use Rattle.grid_model.specs.Rows.{Cat}
+use Rattle.grid_model.specs.Gridding.{grid_of}
 use Rattle.grid_model.specs.Lines.{is_request}
 use Rattle.grid_model.specs.Inputs.{Asked, HasBody, Takes, none_taken, AreRequests, ends_blank, ends_in_line, ends_in_body, IsPart, of_line, of_body}
 use Rattle.grid_model.specs.Requests.{Asks}
-use Rattle.grid_model.specs.Commands.{State, Done, command}
+use Rattle.grid_model.specs.Commands.{State, Done, command, After, none as nothing_done, state_after}
 use Rattle.grid_model.specs.Replies.{reply, replies, AddsFirst}
-use Rattle.grid_model.specs.Catalogue.{Stands, kept_line, kept_lines, longest_catalogue}
 use Rattle.grid_model.specs.declared.requests.Verb.{Verb}
 use Rattle.grid_model.specs.declared.refusal.Refusal.{Refusal}
 use Rattle.grid_server.specs.declared.status.Status.{Status}
@@ -23,64 +27,104 @@ use Rattle.grid_server.specs.declared.serving.Service.{Service}
 use Rattle.grid_server.specs.declared.serving.Taken.TheVariants as taken
 use Rattle.grid_server.specs.declared.line_reader.Ended.TheVariants as ended
 use Rattle.grid_server.specs.declared.line_reader.Passed.TheVariants as passed
+use Rattle.grid_server.specs.Held.{state_of, StandsFor, IsHeld}
 use Rattle.grid_server.specs.Reading.{Reader, ReadsLine, ReadsPart, Passes, PassesPart}
-use Rattle.grid_server.specs.Answering.{Keeps, Answers, Did, Stays, state_of}
+use Rattle.grid_server.specs.Answering.{Works, Answers, worked, not_begun, Did, Stays, Rests, last_of}
 use Rattle.grid_server.specs.Turning.{Gets, with_body, cut_short, at_end, InBody, Turns, answered, stopped, idle, status_of}
-use Rattle.grid_server.specs.Serving.{DidAll, Whole, Begins, EndsDone, EndsBroken, EndsLong, EndsEarly, Serves, begins}
+use Rattle.grid_server.specs.Opening.{begun}
+use Rattle.grid_server.specs.Serving.{begins, Begins, Shows, IsCut, AllButOne, IsBefore, IsAfter, OneImage, IsKept, ShowsAll, ClosesAt, ReadAll, ReadPart, ReadMost, NextChanges, Ends, Serves}
 use Rattle.grid_server.proofs.InputLemmas.{push_request, push_blank, takes_of}
-use Rattle.grid_server.proofs.DoneLemmas.{done_none, done_more, did_held, kept_lines-push, replies-push}
+use Rattle.grid_server.proofs.DoneLemmas.{After-push, did_held, replies-push, state_after-more, state_after-all, shows_more, shows_part, shows_whole, shows_all, image_more, image_of, all_but_one, closes_at, cut_or_whole}
+use Rattle.grid_server.proofs.CarryingLemmas.{held_stands}
 use Rattle.grid_server.proofs.RequestLemmas.{held_request, body_held}
+use Rattle.grid_server.proofs.TurnLemmas.{held_rests}
 
--- the requests so far were handled
-pub record Served (found : Grid) (main_old main_now : DiskState) (from now : SourceState) (sink_old sink_now : SinkState) (service : Service) : Type 0 where
+-- the requests so far were handled, from so many moments on
+pub record Served (found : Cat) (since : ℕ) (main_old main_now : DiskState) (from now : SourceState) (sink_old sink_now : SinkState) (service : Service) : Type 0 where
   pub front : Text
   pub split : from.left ≡ front ++ (service.reader.unread ++ now.left)
   pub taken : service.reader.taken ≡ length front + length service.reader.unread
   pub asked : List Asked
   pub takes : Takes front asked []
-  pub whole : Whole found main_old main_now sink_old sink_now asked
-  pub state : whole.did.end ≡ state_of service.server
-  pub number : service.number ≡ length whole.did.done
-  pub size : service.server.size ≡ length main_now.holds
+  pub done : List Done
+  pub end : State
+  pub after : After (begins (grid_of found)) asked done end
+  pub state : end ≡ state_of service.server
+  pub number : service.number ≡ length done
+  pub run : service.server.store.cat.numbers.run ≡ found.numbers.run + 1
+  pub last : service.server.store.cat.numbers.last ≤ length done
+  pub pending : service.server.store.cat.pending ≡ found.pending
+  pub shown : IsTrue sink_old.tells → sink_now.holds ≡ sink_old.holds ++ replies 1 done
+  pub main_settled : IsSettled main_old → IsSettled main_now
+  pub sink_settled : IsTrue sink_old.tells → IsSettled sink_old → IsSettled sink_now
+  pub held : IsHeld main_now service.server
+  pub images : IsTrue sink_old.tells → IsSettled main_old → IsSettled sink_old → (t : ℕ) (main sink : Text) → since < t → main_now.left t main → sink_now.left t sink → OneImage found done sink_old.holds main sink
 
 -- nothing yet
-pub served_none : (found : Grid) (main : DiskState) (from : SourceState) (sink : SinkState) (service : Service) → Stands main.holds (Ok found) → service.reader.unread ≡ [] → service.reader.taken ≡ 0 → service.number ≡ 0
-    → begins found ≡ state_of service.server → service.server.size ≡ length main.holds → Served found main main from from sink sink service
-served_none found main from sink service stood unread taken number state size = record {
-  front = [];
-  split = sym (ap (λ (t : Text). t ++ from.left) unread);
-  taken = omega (arith, taken, ap length unread);
-  asked = [];
-  takes = none_taken;
-  whole = record { did = done_none found main.holds stood; kept = sym (append-nil main.holds); shown = λ told. sym (append-nil sink.holds) };
-  state = state;
-  number = number;
-  size = size;
-}
+pub served_none : (found : Cat) (since : ℕ) (main : DiskState) (from : SourceState) (sink : SinkState) (service : Service) → IsTrue main.tells → main.last ≤ since → sink.last ≤ since → service.reader.unread ≡ [] → service.reader.taken ≡ 0 → service.number ≡ 0
+    → service.server.store.cat ≡ begun found → grid_of (begun found) ≡ grid_of found → service.server.logged_in ≡ false → IsHeld main service.server → Served found since main main from from sink sink service
+served_none found since main from sink service told main_last sink_last unread taken number cat grid nobody held =
+    let state : begins (grid_of found) ≡ state_of service.server =
+    ap (λ (g : Grid). begins g) (sym grid ∙ ap grid_of (sym cat)) ∙ ap (λ b. (let s : State = record { grid = grid_of service.server.store.cat; logged_in = b } in s)) (sym nobody) in
+    let stood : StandsFor main.holds (begun found) = (let P : Cat → Type 0 = λ c. StandsFor main.holds c in subst P cat (held_stands main service.server held told)) in
+    record {
+      front = [];
+      split = sym (ap (λ (t : Text). t ++ from.left) unread);
+      taken = omega (arith, taken, ap length unread);
+      asked = [];
+      takes = none_taken;
+      done = [];
+      end = begins (grid_of found);
+      after = nothing_done;
+      state = state;
+      number = number;
+      run = ap (λ (c : Cat). c.numbers.run) cat;
+      last = omega (arith, ap (λ (c : Cat). c.numbers.last) cat);
+      pending = ap (λ (c : Cat). c.pending) cat;
+      shown = λ told. sym (append-nil sink.holds);
+      main_settled = λ settled. settled;
+      sink_settled = λ told settled. settled;
+      held = held;
+      images = λ sink_told main_settled sink_settled t main_image sink_image late main_left sink_left.
+          image_of found [] sink.holds main.holds (begun found) 0 main_image sink_image (main_settled t main_image (omega (arith, main_last, late)) main_left) stood
+          (sink_settled t sink_image (omega (arith, sink_last, late)) sink_left ∙ sym (append-nil sink.holds)) (inr (record { run = refl; within = omega arith; grid = grid })) refl;
+    }
 
 -- a line and its newline, and more
 joins : (front line body more : Text) → front ++ (line ++ 0x0A ∷ (body ++ more)) ≡ (front ++ (line ++ 0x0A ∷ body)) ++ more
 joins front line body more = ap (λ (t : Text). front ++ t) (sym (append_assoc line (0x0A ∷ body) more)) ∙ sym (append_assoc front (line ++ 0x0A ∷ body) more)
 
-module _ (found : Grid) (main_old main_mid : DiskState) (from mid : SourceState) (sink_old sink_mid : SinkState) (old : Service) (served : Served found main_old main_mid from mid sink_old sink_mid old)
-    (main_told : IsTrue main_mid.tells) (source_told : IsTrue mid.tells) (sink_told : IsTrue sink_old.tells → IsTrue sink_mid.tells) where
-  -- main holds so many bytes before the next line
-  main_size : length main_old.holds + length (kept_lines served.whole.did.done) ≡ length main_mid.holds
-  main_size = omega (arith, ap length served.whole.kept, length-append main_old.holds (kept_lines served.whole.did.done))
+module _ (found : Cat) (since since_now : ℕ) (later : since ≤ since_now) (main_old main_mid : DiskState) (from mid : SourceState) (sink_old sink_mid : SinkState) (old : Service)
+    (served : Served found since main_old main_mid from mid sink_old sink_mid old) (main_told : IsTrue main_mid.tells) (source_told : IsTrue mid.tells) (sink_told : IsTrue sink_old.tells → IsTrue sink_mid.tells) where
+  -- ---- nothing was done
 
-  by_room : (d : Done) → (d.made ≡ None) ⊎ (old.server.size ≤ longest_catalogue) → (d.made ≡ None) ⊎ (length main_old.holds + length (kept_lines served.whole.did.done) ≤ longest_catalogue)
-  by_room d (inl e) = inl e
-  by_room d (inr le) = inr (omega (arith, le, served.size, main_size))
+  same_shown : (sink_new : SinkState) → Rests sink_mid sink_new → ShowsAll served.done sink_old sink_new
+  same_shown sink_new rests told = rests.stays (sink_told told) ∙ served.shown told
 
-  -- nothing was added
-  same_kept : (main_new : DiskState) → Stays main_mid main_new → main_new.holds ≡ main_old.holds ++ kept_lines served.whole.did.done
-  same_kept main_new stays = stays main_told ∙ served.whole.kept
+  same_kept : (main_new : DiskState) → Rests main_mid main_new → IsKept main_new.holds served.end.grid
+  same_kept main_new rests =
+      let P : Text → Type 0 = λ t. StandsFor t old.server.store.cat in
+      record { cat = old.server.store.cat; stands = subst P (sym (rests.stays main_told)) (held_stands main_mid old.server served.held main_told); grid = ap (λ (s : State). s.grid) (sym served.state) }
 
-  same_shown : (sink_new : SinkState) → Stays sink_mid sink_new → IsTrue sink_old.tells → sink_new.holds ≡ sink_old.holds ++ replies 1 served.whole.did.done
-  same_shown sink_new stays told = stays (sink_told told) ∙ served.whole.shown told
+  -- what a stop leaves is what it left
+  same_images : (main_new : DiskState) (sink_new : SinkState) → Rests main_mid main_new → Rests sink_mid sink_new → IsTrue sink_old.tells → IsSettled main_old → IsSettled sink_old → (t : ℕ) (main sink : Text) → since < t
+      → main_new.left t main → sink_new.left t sink → OneImage found served.done sink_old.holds main sink
+  same_images main_new sink_new main_rests sink_rests told main_settled sink_settled t main sink late main_left sink_left =
+      served.images told main_settled sink_settled t main sink late (main_rests.left t main main_left) (sink_rests.left t sink sink_left)
 
-  abbrev same_whole : (main_new : DiskState) (sink_new : SinkState) → Stays main_mid main_new → Stays sink_mid sink_new → Whole found main_old main_new sink_old sink_new (served.asked)
-  same_whole main_new sink_new main_stays sink_stays = record { did = served.whole.did; kept = same_kept main_new main_stays; shown = same_shown sink_new sink_stays }
+  -- a run that ends without another request
+  ends_quiet : (main_new : DiskState) (to : SourceState) (sink_new : SinkState) (s : Status) → Begins from.left served.asked → Rests main_mid main_new → Rests sink_mid sink_new
+      → Ends found served.asked served.done served.end main_new from to sink_old sink_new s → Serves found since main_old main_new from to sink_old sink_new s
+  ends_quiet main_new to sink_new s first main_rests sink_rests ends = record {
+    asked = served.asked;
+    first = first;
+    done = served.done;
+    end = served.end;
+    after = served.after;
+    shown = λ told. shows_all sink_old.holds served.done sink_new.holds (same_shown sink_new sink_rests told);
+    ends = ends;
+    images = same_images main_new sink_new main_rests sink_rests;
+  }
 
   -- ---- one request, however it was read
 
@@ -89,81 +133,126 @@ module _ (found : Grid) (main_old main_mid : DiskState) (from mid : SourceState)
     d = command (state_of old.server) asked
 
     -- it did so from the state that the requests before it left
-    did_next : Did served.whole.did.end request.line (command (state_of old.server) asked)
+    did_next : Did served.end request.line (command (state_of old.server) asked)
     did_next =
         let P : State → Type 0 = λ s. Did s request.line (command (state_of old.server) asked) in
         subst P (sym served.state) (did_held (state_of old.server) held request.line asked held_is asks)
 
-    abbrev more : (d.made ≡ None) ⊎ (old.server.size ≤ longest_catalogue) → DidAll found main_old.holds (served.asked ++ request ∷ [])
-    more room = done_more found main_old.holds (served.asked) request (command (state_of old.server) asked) served.whole.did did_next (by_room (command (state_of old.server) asked) room)
+    abbrev done_more : List Done
+    done_more = served.done ++ command (state_of old.server) asked ∷ []
 
-    more_kept : (main_new : DiskState) (new_server : Server) → Keeps old.server (command (state_of old.server) asked) main_mid main_new (Ok tt) new_server
-        → main_new.holds ≡ main_old.holds ++ kept_lines (served.whole.did.done ++ command (state_of old.server) asked ∷ [])
-    more_kept main_new new_server keeps =
-        let d = command (state_of old.server) asked in
-        keeps.3 main_told ∙ ap (λ (t : Text). t ++ kept_line d) served.whole.kept ∙ append_assoc main_old.holds (kept_lines served.whole.did.done) (kept_line d)
-        ∙ ap (λ (t : Text). main_old.holds ++ t) (sym (kept_lines-push served.whole.did.done d))
+    after_more : After (begins (grid_of found)) (served.asked ++ request ∷ []) (served.done ++ command (state_of old.server) asked ∷ []) (command (state_of old.server) asked).state
+    after_more = After-push request (command (state_of old.server) asked) served.after did_next
 
-    next_number : 1 + length served.whole.did.done ≡ old.number + 1
-    next_number = omega (arith, served.number)
+    -- what a stop leaves, where the request was worked on
+    more_images : (main_new : DiskState) (sink_new : SinkState) (result : Result ⊤ Stop) (new : Server) → Works old.server asked (old.number + 1) since_now main_mid main_new sink_mid sink_new result new
+        → IsTrue sink_old.tells → IsSettled main_old → IsSettled sink_old → (t : ℕ) (main sink : Text) → since < t → main_new.left t main → sink_new.left t sink → OneImage found done_more sink_old.holds main sink
+    more_images main_new sink_new result new works told main_settled sink_settled t main sink late main_left sink_left = by_time (cases_lt since_now t)
+      where
+        grid_before : grid_of old.server.store.cat ≡ (state_after (begins (grid_of found)) served.done (length served.done)).grid
+        grid_before = ap (λ (s : State). s.grid) (sym served.state ∙ sym (state_after-all (begins (grid_of found)) served.asked served.done served.end served.after))
 
-    more_shown : (sink_new : SinkState) → (IsTrue sink_mid.tells → sink_new.holds ≡ sink_mid.holds ++ reply (old.number + 1) d.answer)
-        → IsTrue sink_old.tells → sink_new.holds ≡ sink_old.holds ++ replies 1 (served.whole.did.done ++ command (state_of old.server) asked ∷ [])
+        by_time : (since_now < t) ⊎ (t ≤ since_now) → OneImage found done_more sink_old.holds main sink
+        by_time (inr before) =
+            image_more found served.done (command (state_of old.server) asked) sink_old.holds main sink
+            (served.images told main_settled sink_settled t main sink late (works.main.earlier t main before main_left) (works.sink.earlier t sink before sink_left))
+        by_time (inl now) =
+            cut_or_whole found served.done (command (state_of old.server) asked) sink_old.holds sink_mid.holds main sink old.server.store.cat works.after (old.number + 1) (omega (arith, served.number)) (served.shown told) served.run served.last
+            served.pending grid_before works.follows
+            (works.leaves main_told (sink_told told) (served.main_settled main_settled) (served.sink_settled told sink_settled) t main sink now main_left sink_left)
+
+    last_within : (b : Bool) → last_of b (old.number + 1) old.server.store.cat.numbers.last ≤ length served.done + 1
+    last_within true = omega (arith, served.number)
+    last_within false = omega (arith, served.last)
+
+    more_shown : (sink_new : SinkState) → (IsTrue sink_mid.tells → sink_new.holds ≡ sink_mid.holds ++ reply (old.number + 1) (command (state_of old.server) asked).answer) → IsTrue sink_old.tells
+        → sink_new.holds ≡ sink_old.holds ++ replies 1 (served.done ++ command (state_of old.server) asked ∷ [])
     more_shown sink_new added told =
         let d = command (state_of old.server) asked in
-        added (sink_told told) ∙ ap (λ (t : Text). t ++ reply (old.number + 1) d.answer) (served.whole.shown told) ∙ append_assoc sink_old.holds (replies 1 served.whole.did.done) (reply (old.number + 1) d.answer)
-        ∙ ap (λ (k : ℕ). sink_old.holds ++ (replies 1 served.whole.did.done ++ reply k d.answer)) (sym next_number)
-        ∙ ap (λ (t : Text). sink_old.holds ++ t) (sym (replies-push 1 served.whole.did.done d))
+        let next_number : 1 + length served.done ≡ old.number + 1 = omega (arith, served.number) in
+        added (sink_told told) ∙ ap (λ (t : Text). t ++ reply (old.number + 1) d.answer) (served.shown told) ∙ append_assoc sink_old.holds (replies 1 served.done) (reply (old.number + 1) d.answer)
+        ∙ ap (λ (k : ℕ). sink_old.holds ++ (replies 1 served.done ++ reply k d.answer)) (sym next_number) ∙ ap (λ (t : Text). sink_old.holds ++ t) (sym (replies-push 1 served.done d))
 
-    -- it was answered
-    abbrev with_it : (new_server : Server) (main_new : DiskState) (sink_new : SinkState) → Answers old.server asked (old.number + 1) main_mid main_new sink_mid sink_new (Ok tt) new_server
-        → Whole found main_old main_new sink_old sink_new (served.asked ++ request ∷ [])
-    with_it new_server main_new sink_new a = record { did = more a.0.2; kept = more_kept main_new new_server a.0; shown = more_shown sink_new a.1 }
+    -- it was done, kept and shown, and the run goes on
+    next_worked : (new : Service) (main_new : DiskState) (to : SourceState) (sink_new : SinkState) (front : Text) → from.left ≡ front ++ (new.reader.unread ++ to.left) → new.reader.taken ≡ length front + length new.reader.unread
+        → Takes front (served.asked ++ request ∷ []) [] → new.number ≡ old.number + 1 → Works old.server asked (old.number + 1) since_now main_mid main_new sink_mid sink_new (Ok tt) new.server → Served found since main_old main_new from to sink_old sink_new new
+    next_worked new main_new to sink_new front split taken takes number works =
+        let same : new.server.store.cat ≡ works.after = works.ends.0.cat in
+        record {
+          front = front;
+          split = split;
+          taken = taken;
+          asked = served.asked ++ request ∷ [];
+          takes = takes;
+          done = done_more;
+          end = (command (state_of old.server) asked).state;
+          after = after_more;
+          state = sym works.ends.0.state;
+          number = omega (arith, number, served.number, length-append served.done (command (state_of old.server) asked ∷ []));
+          run = ap (λ (c : Cat). c.numbers.run) same ∙ works.follows.run ∙ served.run;
+          last = omega (arith, ap (λ (c : Cat). c.numbers.last) same, works.follows.last, last_within (command (state_of old.server) asked).changed, served.last, length-append served.done (command (state_of old.server) asked ∷ []));
+          pending = ap (λ (c : Cat). c.pending) same ∙ works.follows.pending ∙ served.pending;
+          shown = λ told. more_shown sink_new works.ends.1 told;
+          main_settled = λ settled. works.ends.0.settled main_told (served.main_settled settled);
+          sink_settled = λ told settled. works.sink_settled (sink_told told) (served.sink_settled told settled);
+          held = works.ends.0.held;
+          images = more_images main_new sink_new (Ok tt) new.server works;
+        }
+
+    -- main stands for the grid after it
+    kept_more : (main_new : DiskState) (new : Server) (works_held : IsHeld main_new new) → main_new.tells ≡ main_mid.tells → state_of new ≡ (command (state_of old.server) asked).state → IsKept main_new.holds (command (state_of old.server) asked).state.grid
+    kept_more main_new new works_held tells state =
+        record { cat = new.store.cat; stands = held_stands main_new new works_held (subst IsTrue (sym tells) main_told); grid = ap (λ (s : State). s.grid) state }
 
     -- how the run ends in it, by what stopped it
-    stops : (new_server : Server) (main_new : DiskState) (to : SourceState) (sink_new : SinkState) (stop : Stop) → Begins from.left (served.asked) → Begins from.left (served.asked ++ request ∷ [])
-        → Answers old.server asked (old.number + 1) main_mid main_new sink_mid sink_new (Err stop) new_server → Serves found main_old main_new from to sink_old sink_new (status_of stop)
-    stops new_server main_new to sink_new stop.Disk first begins a =
-        let trails = a.0.2 main_told in
-        record {
-          asked = served.asked;
-          begins = first;
-          did = served.whole.did;
-          tail = trails.tail;
-          kept = trails.is ∙ ap (λ (t : Text). t ++ trails.tail) served.whole.kept;
-          tail_is = inr (request, command (state_of old.server) asked, begins, did_next, trails.short);
-          shown = same_shown sink_new a.1;
-        }
-    stops new_server main_new to sink_new stop.Sink first begins a = record {
+    stops : (new : Server) (main_new : DiskState) (to : SourceState) (sink_new : SinkState) (stop : Stop) → Begins from.left served.asked → Begins from.left (served.asked ++ request ∷ [])
+        → Answers old.server asked (old.number + 1) since_now main_mid main_new sink_mid sink_new (Err stop) new → Serves found since main_old main_new from to sink_old sink_new (status_of stop)
+    stops new main_new to sink_new stop.Disk first begins_more (worked w) = record {
       asked = served.asked ++ request ∷ [];
-      begins = begins;
-      did = more a.0.2;
-      kept = more_kept main_new new_server a.0;
-      front = served.whole.did.done;
-      last = command (state_of old.server) asked;
-      done_is = refl;
+      first = begins_more;
+      done = done_more;
+      end = (command (state_of old.server) asked).state;
+      after = after_more;
       shown = λ told.
-          let d = command (state_of old.server) asked in
-          let part = a.1 (sink_told told) in
-          let R : ℕ → Type 0 = λ k. AddsFirst (reply k d.answer) (sink_old.holds ++ replies 1 served.whole.did.done) sink_new.holds in
-          let H : Text → Type 0 = λ t. AddsFirst (reply (old.number + 1) d.answer) t sink_new.holds in
-          subst R (sym next_number) (subst H (served.whole.shown told) part);
+          let quiet : sink_new.holds ≡ sink_old.holds ++ replies 1 served.done = w.ends.1 (sink_told told) ∙ served.shown told in
+          record {
+            whole = length served.done;
+            shows = shows_more sink_old.holds served.done (command (state_of old.server) asked) (length served.done) sink_new.holds (shows_whole sink_old.holds served.done sink_new.holds quiet);
+            few = omega (arith, length-append served.done (command (state_of old.server) asked ∷ []));
+          };
+      ends = tt;
+      images = more_images main_new sink_new (Err stop.Disk) new w;
     }
-    stops new_server main_new to sink_new stop.Memory first begins a = record { asked = served.asked; begins = first; whole = same_whole main_new sink_new a.0 a.1 }
-    stops new_server main_new to sink_new (stop.Worn place) first begins a = (
-      refl,
-      record {
-        asked = served.asked;
-        request = request;
-        begins = begins;
-        whole = same_whole main_new sink_new a.0.3 a.1;
-        next = command (state_of old.server) asked;
-        did = did_next;
-        adds = a.0.0;
-        place_is = omega (arith, a.0.1, served.size, ap length (a.0.3 main_told));
-        too_long = a.0.2;
-      },
-    )
+    stops new main_new to sink_new stop.Sink first begins_more (worked w) = record {
+      asked = served.asked ++ request ∷ [];
+      first = begins_more;
+      done = done_more;
+      end = (command (state_of old.server) asked).state;
+      after = after_more;
+      shown = λ told.
+          all_but_one sink_old.holds served.done (command (state_of old.server) asked) sink_new.holds
+          (shows_part sink_old.holds sink_mid.holds served.done (command (state_of old.server) asked) (old.number + 1) sink_new.holds (omega (arith, served.number)) (served.shown told) (w.ends.1 (sink_told told)));
+      ends = kept_more main_new new w.ends.0.held w.main.tells w.ends.0.state;
+      images = more_images main_new sink_new (Err stop.Sink) new w;
+    }
+    stops new main_new to sink_new stop.Memory first begins_more (worked w) = ends_quiet main_new to sink_new status.Memory first w.ends.0 w.ends.1 (same_shown sink_new w.ends.1, same_kept main_new w.ends.0)
+    stops new main_new to sink_new (stop.Worn place) first begins_more (worked w) =
+        ends_quiet main_new to sink_new (status_of (stop.Worn place)) first w.ends.3 w.ends.4 (
+          (
+            w.ends.2,
+            (
+                let P : Text → Type 0 = λ t. ClosesAt t place in
+                subst P (sym (w.ends.3.stays main_told)) (closes_at old.server.store.cat old.server.store main_mid.holds place w.ends.1 (served.held.keeps main_told))
+                ),
+            inr (record { request = request; begins = begins_more; next = command (state_of old.server) asked; did = did_next; changes = w.ends.0 }),
+          ),
+          same_shown sink_new w.ends.4,
+          same_kept main_new w.ends.3,
+        )
+    stops new main_new to sink_new stop.Disk first begins_more (not_begun is main sink) = absurd (cc)
+    stops new main_new to sink_new stop.Sink first begins_more (not_begun is main sink) = absurd (cc)
+    stops new main_new to sink_new stop.Memory first begins_more (not_begun is main sink) = ends_quiet main_new to sink_new status.Memory first main sink (same_shown sink_new sink, same_kept main_new main)
+    stops new main_new to sink_new (stop.Worn place) first begins_more (not_begun is main sink) = absurd (cc)
 
   -- ---- the input, by how it was read
 
@@ -290,22 +379,13 @@ module _ (found : Grid) (main_old main_mid : DiskState) (from mid : SourceState)
   -- ---- one turn
 
   next_handled : (new : Service) (main_new : DiskState) (to : SourceState) (sink_new : SinkState) (asked : Result Verb Refusal) (held : Text) (w : Went new.reader to held) → Asks held asked
-      → Answers old.server asked (old.number + 1) main_mid main_new sink_mid sink_new (Ok tt) new.server → new.number ≡ old.number + 1 → Served found main_old main_new from to sink_old sink_new new
-  next_handled new main_new to sink_new asked held w asks a number = record {
-    front = w.front;
-    split = w.split;
-    taken = w.taken;
-    asked = served.asked ++ w.request ∷ [];
-    takes = w.takes;
-    whole = with_it w.request asked held w.held_is asks new.server main_new sink_new a;
-    state = sym a.0.0;
-    number = omega (arith, number, served.number, length-append served.whole.did.done (command (state_of old.server) asked ∷ []));
-    size = omega (arith, a.0.1, served.size, ap length (a.0.3 main_told), length-append main_mid.holds (kept_line (command (state_of old.server) asked)));
-  }
+      → Answers old.server asked (old.number + 1) since_now main_mid main_new sink_mid sink_new (Ok tt) new.server → new.number ≡ old.number + 1 → Served found since main_old main_new from to sink_old sink_new new
+  next_handled new main_new to sink_new asked held w asks (worked works) number = next_worked w.request asked held w.held_is asks new main_new to sink_new w.front w.split w.taken w.takes number works
+  next_handled new main_new to sink_new asked held w asks (not_begun is main sink) number = absurd (cc)
 
   next_skipped : (new : Service) (main_new : DiskState) (to : SourceState) (sink_new : SinkState) (held : Text) (reads : ReadsLine old.reader ended.Line new.reader mid to held) → is_request held ≡ false
-      → new.server ≡ old.server → new.number ≡ old.number → Stays main_mid main_new → Stays sink_mid sink_new → Served found main_old main_new from to sink_old sink_new new
-  next_skipped new main_new to sink_new held reads none server number main_stays sink_stays = record {
+      → new.server ≡ old.server → new.number ≡ old.number → Rests main_mid main_new → Rests sink_mid sink_new → Served found since main_old main_new from to sink_old sink_new new
+  next_skipped new main_new to sink_new held reads none server number main_rests sink_rests = record {
     front = served.front ++ (reads.line ++ 0x0A ∷ []);
     split = behind_line new.reader to held reads ∙ joins served.front reads.line [] (new.reader.unread ++ to.left);
     taken = omega (
@@ -320,15 +400,24 @@ module _ (found : Grid) (main_old main_mid : DiskState) (from mid : SourceState)
     );
     asked = served.asked;
     takes = push_blank served.front reads.line served.asked served.takes reads.is (sym (held_request held reads.line reads.held) ∙ none);
-    whole = same_whole main_new sink_new main_stays sink_stays;
+    done = served.done;
+    end = served.end;
+    after = served.after;
     state = served.state ∙ ap state_of (sym server);
     number = omega (arith, number, served.number);
-    size = omega (arith, ap (λ (s : Server). s.size) server, served.size, ap length (main_stays main_told));
+    run = ap (λ (s : Server). s.store.cat.numbers.run) server ∙ served.run;
+    last = omega (arith, ap (λ (s : Server). s.store.cat.numbers.last) server, served.last);
+    pending = ap (λ (s : Server). s.store.cat.pending) server ∙ served.pending;
+    shown = same_shown sink_new sink_rests;
+    main_settled = λ settled t image late left. served.main_settled settled t image (omega (arith, late, main_rests.last)) (main_rests.left t image left) ∙ sym (main_rests.stays main_told);
+    sink_settled = λ told settled t image late left. served.sink_settled told settled t image (omega (arith, late, sink_rests.last)) (sink_rests.left t image left) ∙ sym (sink_rests.stays (sink_told told));
+    held = (let P : Server → Type 0 = λ s. IsHeld main_new s in subst P (sym server) (held_rests main_mid main_new old.server main_rests served.held));
+    images = same_images main_new sink_new main_rests sink_rests;
   }
 
   -- the run goes on
-  pub next_served : (new : Service) (main_new : DiskState) (to : SourceState) (sink_new : SinkState) (o : Option Status) → Turns old new main_mid main_new mid to sink_mid sink_new o → o ≡ None
-      → Served found main_old main_new from to sink_old sink_new new
+  pub next_served : (new : Service) (main_new : DiskState) (to : SourceState) (sink_new : SinkState) (o : Option Status) → Turns old new since_now main_mid main_new mid to sink_mid sink_new o → o ≡ None
+      → Served found since main_old main_new from to sink_old sink_new new
   next_served new main_new to sink_new o (answered asked true finds handles) e = absurd (cc)
   next_served new main_new to sink_new o (answered asked false finds handles) e =
       next_handled new main_new to sink_new asked finds.0 (went new.reader to finds.0 finds.2 finds.1) finds.3 handles.answers handles.number
@@ -343,17 +432,23 @@ module _ (found : Grid) (main_old main_mid : DiskState) (from mid : SourceState)
   -- ---- the end
 
   end_answered : (new : Service) (main_new : DiskState) (to : SourceState) (sink_new : SinkState) (asked : Result Verb Refusal) (held : Text) (l : Last to held) → Asks held asked
-      → Answers old.server asked (old.number + 1) main_mid main_new sink_mid sink_new (Ok tt) new.server → EndsDone found main_old main_new from to sink_old sink_new
-  end_answered new main_new to sink_new asked held l asks a = record {
-    asked = served.asked ++ l.request ∷ [];
-    are = l.are;
-    whole = with_it l.request asked held l.held_is asks new.server main_new sink_new a;
-    all = l.all;
-    fits = l.fits;
-  }
+      → Answers old.server asked (old.number + 1) since_now main_mid main_new sink_mid sink_new (Ok tt) new.server → Serves found since main_old main_new from to sink_old sink_new status.Done
+  end_answered new main_new to sink_new asked held l asks (not_begun is main sink) = absurd (cc)
+  end_answered new main_new to sink_new asked held l asks (worked w) =
+      let all : ShowsAll (served.done ++ command (state_of old.server) asked ∷ []) sink_old sink_new = more_shown l.request asked held l.held_is asks sink_new w.ends.1 in
+      record {
+        asked = served.asked ++ l.request ∷ [];
+        first = inr l.are;
+        done = served.done ++ command (state_of old.server) asked ∷ [];
+        end = (command (state_of old.server) asked).state;
+        after = after_more l.request asked held l.held_is asks;
+        shown = λ told. shows_all sink_old.holds (served.done ++ command (state_of old.server) asked ∷ []) sink_new.holds (all told);
+        ends = (record { are = l.are; all = l.all; fits = l.fits }, all, kept_more l.request asked held l.held_is asks main_new new.server w.ends.0.held w.main.tells w.ends.0.state);
+        images = more_images l.request asked held l.held_is asks main_new sink_new (Ok tt) new.server w;
+      }
 
   end_stopped : (new : Service) (main_new : DiskState) (to : SourceState) (sink_new : SinkState) (asked : Result Verb Refusal) (over : Bool) (stop : Stop) (held : Text) → Gets old.reader new.reader mid to held over → is_request held ≡ true
-      → Asks held asked → Answers old.server asked (old.number + 1) main_mid main_new sink_mid sink_new (Err stop) new.server → Serves found main_old main_new from to sink_old sink_new (status_of stop)
+      → Asks held asked → Answers old.server asked (old.number + 1) since_now main_mid main_new sink_mid sink_new (Err stop) new.server → Serves found since main_old main_new from to sink_old sink_new (status_of stop)
   end_stopped new main_new to sink_new asked false stop held gets some asks a =
       let w = went new.reader to held some gets in
       let rest = new.reader.unread ++ to.left in
@@ -363,41 +458,42 @@ module _ (found : Grid) (main_old main_mid : DiskState) (from mid : SourceState)
       stops l.request asked held l.held_is asks new.server main_new to sink_new stop so_far (inr l.are) a
 
   end_blank : (new : Service) (main_new : DiskState) (to : SourceState) (sink_new : SinkState) (held : Text) (reads : ReadsLine old.reader ended.End new.reader mid to held) → is_request held ≡ false
-      → Stays main_mid main_new → Stays sink_mid sink_new → EndsDone found main_old main_new from to sink_old sink_new
-  end_blank new main_new to sink_new held reads none main_stays sink_stays = record {
-    asked = served.asked;
-    are = record {
-      whole = served.asked;
-      left = reads.line;
-      last = [];
-      takes = takes_of from.left served.front reads.line served.asked (last_line new.reader to held reads) served.takes;
-      ends = ends_blank reads.is (sym (held_request held reads.line reads.held) ∙ none);
-      are = sym (append-nil served.asked);
-    };
-    whole = same_whole main_new sink_new main_stays sink_stays;
-    all = (reads.ends.2 source_told).1;
-    fits = last_fits new.reader to held reads;
-  }
+      → Rests main_mid main_new → Rests sink_mid sink_new → Serves found since main_old main_new from to sink_old sink_new status.Done
+  end_blank new main_new to sink_new held reads none main_rests sink_rests =
+      let are : AreRequests from.left served.asked =
+      record {
+        whole = served.asked;
+        left = reads.line;
+        last = [];
+        takes = takes_of from.left served.front reads.line served.asked (last_line new.reader to held reads) served.takes;
+        ends = ends_blank reads.is (sym (held_request held reads.line reads.held) ∙ none);
+        are = sym (append-nil served.asked);
+      } in
+      ends_quiet main_new to sink_new status.Done (inr are) main_rests sink_rests
+      (record { are = are; all = (reads.ends.2 source_told).1; fits = last_fits new.reader to held reads }, same_shown sink_new sink_rests, same_kept main_new main_rests)
 
   -- more bytes than are read stand behind these
   ends_long : (main_new : DiskState) (to : SourceState) (sink_new : SinkState) (rest : Text) (byte : ℕ) → from.left ≡ (served.front ++ rest) ++ byte ∷ to.left → length (served.front ++ rest) ≡ 2 ^ 48 → IsPart rest
-      → Stays main_mid main_new → Stays sink_mid sink_new → EndsLong found main_old main_new from to sink_old sink_new
-  ends_long main_new to sink_new rest byte split size part main_stays sink_stays =
+      → Rests main_mid main_new → Rests sink_mid sink_new → Serves found since main_old main_new from to sink_old sink_new (status.Long (2 ^ 48 + 1))
+  ends_long main_new to sink_new rest byte split size part main_rests sink_rests =
       let front = served.front ++ rest in
-      record {
-        taken = front ++ byte ∷ [];
-        split = split ∙ sym (append_assoc front (byte ∷ []) to.left);
-        size = omega (arith, size, length-append front (byte ∷ []));
-        asked = served.asked;
-        left = rest;
-        takes = takes_of (take (2 ^ 48) (front ++ byte ∷ [])) served.front rest served.asked (take_at front (byte ∷ []) (2 ^ 48) size) served.takes;
-        part = part;
-        whole = same_whole main_new sink_new main_stays sink_stays;
-      }
+      ends_quiet main_new to sink_new (status.Long (2 ^ 48 + 1)) so_far main_rests sink_rests (
+        refl,
+        record {
+          taken = front ++ byte ∷ [];
+          split = split ∙ sym (append_assoc front (byte ∷ []) to.left);
+          size = omega (arith, size, length-append front (byte ∷ []));
+          left = rest;
+          takes = takes_of (take (2 ^ 48) (front ++ byte ∷ [])) served.front rest served.asked (take_at front (byte ∷ []) (2 ^ 48) size) served.takes;
+          part = part;
+        },
+        same_shown sink_new sink_rests,
+        same_kept main_new main_rests,
+      )
 
-  end_long_line : (new : Service) (main_new : DiskState) (to : SourceState) (sink_new : SinkState) (held : Text) → ReadsLine old.reader ended.Long new.reader mid to held → Stays main_mid main_new → Stays sink_mid sink_new
-      → EndsLong found main_old main_new from to sink_old sink_new
-  end_long_line new main_new to sink_new held reads main_stays sink_stays =
+  end_long_line : (new : Service) (main_new : DiskState) (to : SourceState) (sink_new : SinkState) (held : Text) → ReadsLine old.reader ended.Long new.reader mid to held → Rests main_mid main_new → Rests sink_mid sink_new
+      → Serves found since main_old main_new from to sink_old sink_new (status.Long (2 ^ 48 + 1))
+  end_long_line new main_new to sink_new held reads main_rests sink_rests =
       let byte = reads.ends.2.0 in
       let split : from.left ≡ (served.front ++ reads.line) ++ byte ∷ to.left =
       served.split ∙ ap (λ (t : Text). served.front ++ t)
@@ -406,11 +502,11 @@ module _ (found : Grid) (main_old main_mid : DiskState) (from mid : SourceState)
       ∙ sym (append_assoc served.front reads.line (byte ∷ to.left)) in
       let size : length (served.front ++ reads.line) ≡ 2 ^ 48 =
       omega (arith, length-append served.front reads.line, ap length reads.ends.0, length-append old.reader.unread reads.got, served.taken, reads.ends.3) in
-      ends_long main_new to sink_new reads.line byte split size (of_line reads.is) main_stays sink_stays
+      ends_long main_new to sink_new reads.line byte split size (of_line reads.is) main_rests sink_rests
 
   end_long_body : (new : Service) (main_new : DiskState) (to : SourceState) (sink_new : SinkState) (reader : Reader) (between : SourceState) (count : ℕ) (in_body : InBody old.reader reader mid between count)
-      → Passes reader count passed.Long new.reader between to → Stays main_mid main_new → Stays sink_mid sink_new → EndsLong found main_old main_new from to sink_old sink_new
-  end_long_body new main_new to sink_new reader between count in_body passes main_stays sink_stays =
+      → Passes reader count passed.Long new.reader between to → Rests main_mid main_new → Rests sink_mid sink_new → Serves found since main_old main_new from to sink_old sink_new (status.Long (2 ^ 48 + 1))
+  end_long_body new main_new to sink_new reader between count in_body passes main_rests sink_rests =
       let reads = in_body.reads in
       let line = reads.line in
       let body = passes.body in
@@ -436,31 +532,25 @@ module _ (found : Grid) (main_old main_mid : DiskState) (from mid : SourceState)
         length-append line (10 ∷ body),
       ) in
       ends_long main_new to sink_new (line ++ 0x0A ∷ body) byte split size
-      (of_body line body refl reads.is (sym (held_request in_body.held line reads.held) ∙ in_body.some) (body_held line count (subst H reads.held in_body.has)) passes.ends.1) main_stays sink_stays
+      (of_body line body refl reads.is (sym (held_request in_body.held line reads.held) ∙ in_body.some) (body_held line count (subst H reads.held in_body.has)) passes.ends.1) main_rests sink_rests
 
   -- the source failed behind these
-  ends_broken : (main_new : DiskState) (to : SourceState) (sink_new : SinkState) (rest : Text) → from.left ≡ (served.front ++ rest) ++ to.left → IsPart rest → Stays main_mid main_new → Stays sink_mid sink_new
-      → EndsBroken found main_old main_new from to sink_old sink_new
-  ends_broken main_new to sink_new rest split part main_stays sink_stays = record {
-    taken = served.front ++ rest;
-    split = split;
-    asked = served.asked;
-    left = rest;
-    takes = takes_of (served.front ++ rest) served.front rest served.asked refl served.takes;
-    part = part;
-    whole = same_whole main_new sink_new main_stays sink_stays;
-  }
+  ends_broken : (main_new : DiskState) (to : SourceState) (sink_new : SinkState) (rest : Text) → from.left ≡ (served.front ++ rest) ++ to.left → IsPart rest → Rests main_mid main_new → Rests sink_mid sink_new
+      → Serves found since main_old main_new from to sink_old sink_new status.SourceFault
+  ends_broken main_new to sink_new rest split part main_rests sink_rests =
+      ends_quiet main_new to sink_new status.SourceFault so_far main_rests sink_rests
+      (record { taken = served.front ++ rest; split = split; left = rest; takes = takes_of (served.front ++ rest) served.front rest served.asked refl served.takes; part = part }, same_shown sink_new sink_rests, same_kept main_new main_rests)
 
-  end_broken_line : (main_new : DiskState) (to : SourceState) (sink_new : SinkState) → ReadsPart old.reader mid to → Stays main_mid main_new → Stays sink_mid sink_new → EndsBroken found main_old main_new from to sink_old sink_new
-  end_broken_line main_new to sink_new part main_stays sink_stays =
+  end_broken_line : (main_new : DiskState) (to : SourceState) (sink_new : SinkState) → ReadsPart old.reader mid to → Rests main_mid main_new → Rests sink_mid sink_new → Serves found since main_old main_new from to sink_old sink_new status.SourceFault
+  end_broken_line main_new to sink_new part main_rests sink_rests =
       let rest = old.reader.unread ++ part.got in
       ends_broken main_new to sink_new rest
       (served.split ∙ ap (λ (t : Text). served.front ++ t) (ap (λ (t : Text). old.reader.unread ++ t) (part.took source_told) ∙ sym (append_assoc old.reader.unread part.got to.left)) ∙ sym (append_assoc served.front rest to.left))
-      (of_line part.is) main_stays sink_stays
+      (of_line part.is) main_rests sink_rests
 
   end_broken_body : (main_new : DiskState) (to : SourceState) (sink_new : SinkState) (reader : Reader) (between : SourceState) (count : ℕ) (in_body : InBody old.reader reader mid between count)
-      → PassesPart reader count between to → Stays main_mid main_new → Stays sink_mid sink_new → EndsBroken found main_old main_new from to sink_old sink_new
-  end_broken_body main_new to sink_new reader between count in_body part main_stays sink_stays =
+      → PassesPart reader count between to → Rests main_mid main_new → Rests sink_mid sink_new → Serves found since main_old main_new from to sink_old sink_new status.SourceFault
+  end_broken_body main_new to sink_new reader between count in_body part main_rests sink_rests =
       let reads = in_body.reads in
       let line = reads.line in
       let body = reader.unread ++ part.got in
@@ -469,19 +559,19 @@ module _ (found : Grid) (main_old main_mid : DiskState) (from mid : SourceState)
       let rest : reader.unread ++ between.left ≡ body ++ to.left = ap (λ (t : Text). reader.unread ++ t) (part.took between_told) ∙ sym (append_assoc reader.unread part.got to.left) in
       ends_broken main_new to sink_new (line ++ 0x0A ∷ body)
       (behind_line reader between in_body.held reads ∙ ap (λ (t : Text). served.front ++ (line ++ 0x0A ∷ t)) rest ∙ joins served.front line body to.left)
-      (of_body line body refl reads.is (sym (held_request in_body.held line reads.held) ∙ in_body.some) (body_held line count (subst H reads.held in_body.has)) part.short) main_stays sink_stays
+      (of_body line body refl reads.is (sym (held_request in_body.held line reads.held) ∙ in_body.some) (body_held line count (subst H reads.held in_body.has)) part.short) main_rests sink_rests
 
-  end_early : (main_new : DiskState) (sink_new : SinkState) → Stays main_mid main_new → Stays sink_mid sink_new → EndsEarly found main_old main_new from sink_old sink_new
-  end_early main_new sink_new main_stays sink_stays = record { asked = served.asked; begins = so_far; whole = same_whole main_new sink_new main_stays sink_stays }
+  end_early : (main_new : DiskState) (to : SourceState) (sink_new : SinkState) → Rests main_mid main_new → Rests sink_mid sink_new → Serves found since main_old main_new from to sink_old sink_new status.Memory
+  end_early main_new to sink_new main_rests sink_rests = ends_quiet main_new to sink_new status.Memory so_far main_rests sink_rests (same_shown sink_new sink_rests, same_kept main_new main_rests)
 
-  pub ends_so : (new : Service) (main_new : DiskState) (to : SourceState) (sink_new : SinkState) (o : Option Status) (s : Status) → Turns old new main_mid main_new mid to sink_mid sink_new o → o ≡ Some s
-      → Serves found main_old main_new from to sink_old sink_new s
+  pub ends_so : (new : Service) (main_new : DiskState) (to : SourceState) (sink_new : SinkState) (o : Option Status) (s : Status) → Turns old new since_now main_mid main_new mid to sink_mid sink_new o → o ≡ Some s
+      → Serves found since main_old main_new from to sink_old sink_new s
   ends_so new main_new to sink_new o s turns e = by_turn o turns s e
     where
-      ends : (t : Status) (s : Status) → t ≡ s → Serves found main_old main_new from to sink_old sink_new t → Serves found main_old main_new from to sink_old sink_new s
-      ends t s same serves = let Q : Status → Type 0 = λ u. Serves found main_old main_new from to sink_old sink_new u in subst Q same serves
+      ends : (t : Status) (s : Status) → t ≡ s → Serves found since main_old main_new from to sink_old sink_new t → Serves found since main_old main_new from to sink_old sink_new s
+      ends t s same serves = let Q : Status → Type 0 = λ u. Serves found since main_old main_new from to sink_old sink_new u in subst Q same serves
 
-      by_turn : (o : Option Status) → Turns old new main_mid main_new mid to sink_mid sink_new o → (s : Status) → o ≡ Some s → Serves found main_old main_new from to sink_old sink_new s
+      by_turn : (o : Option Status) → Turns old new since_now main_mid main_new mid to sink_mid sink_new o → (s : Status) → o ≡ Some s → Serves found since main_old main_new from to sink_old sink_new s
       by_turn o (answered asked false finds handles) s e = absurd (cc)
       by_turn o (answered asked true finds handles) s e =
           ends status.Done s (cc) (end_answered new main_new to sink_new asked finds.0 (last new.reader to finds.0 finds.2 finds.1) finds.3 handles.answers)
@@ -489,17 +579,27 @@ module _ (found : Grid) (main_old main_mid : DiskState) (from mid : SourceState)
       by_turn o (idle taken.Skipped finds is idles) s e = absurd (cc)
       by_turn o (idle taken.Over finds is idles) s e = ends status.Done s (cc) (end_blank new main_new to sink_new finds.0 finds.1 finds.2 idles.main idles.sink)
       by_turn o (idle (taken.Request asked over) finds is idles) s e = absurd is
-      by_turn o (idle taken.Long (inl line) is idles) s e = ends (status.Long (2 ^ 48 + 1)) s (cc) (refl, end_long_line new main_new to sink_new line.0 line.1 idles.main idles.sink)
+      by_turn o (idle taken.Long (inl line) is idles) s e = ends (status.Long (2 ^ 48 + 1)) s (cc) (end_long_line new main_new to sink_new line.0 line.1 idles.main idles.sink)
       by_turn o (idle taken.Long (inr body) is idles) s e =
-          ends (status.Long (2 ^ 48 + 1)) s (cc) (refl, end_long_body new main_new to sink_new body.0 body.1 body.2 body.3 body.4 idles.main idles.sink)
+          ends (status.Long (2 ^ 48 + 1)) s (cc) (end_long_body new main_new to sink_new body.0 body.1 body.2 body.3 body.4 idles.main idles.sink)
       by_turn o (idle taken.Fault (inl part) is idles) s e = ends status.SourceFault s (cc) (end_broken_line main_new to sink_new part idles.main idles.sink)
       by_turn o (idle taken.Fault (inr body) is idles) s e = ends status.SourceFault s (cc) (end_broken_body main_new to sink_new body.0 body.1 body.2 body.3 body.4 idles.main idles.sink)
-      by_turn o (idle taken.Memory finds is idles) s e = ends status.Memory s (cc) (end_early main_new sink_new idles.main idles.sink)
+      by_turn o (idle taken.Memory finds is idles) s e = ends status.Memory s (cc) (end_early main_new to sink_new idles.main idles.sink)
 
--- a run that begins nothing
-pub ends_at_once : (found : Grid) (main : DiskState) (from : SourceState) (sink : SinkState) → Stands main.holds (Ok found) → EndsEarly found main main from sink sink
-ends_at_once found main from sink stood = record {
-  asked = [];
-  begins = inl (from.left, none_taken);
-  whole = record { did = done_none found main.holds stood; kept = sym (append-nil main.holds); shown = λ told. sym (append-nil sink.holds) };
-}
+-- a run over which nothing was read, whatever it comes to
+pub ends_at_once : (found : Cat) (since : ℕ) (main : DiskState) (from : SourceState) (sink : SinkState) (server : Server) → IsTrue main.tells → main.last ≤ since → sink.last ≤ since → server.store.cat ≡ begun found → grid_of (begun found) ≡ grid_of found
+    → IsHeld main server → Serves found since main main from from sink sink status.Memory
+ends_at_once found since main from sink server told main_last sink_last cat grid held =
+    let stood : StandsFor main.holds (begun found) = (let P : Cat → Type 0 = λ c. StandsFor main.holds c in subst P cat (held_stands main server held told)) in
+    record {
+      asked = [];
+      first = inl (from.left, none_taken);
+      done = [];
+      end = begins (grid_of found);
+      after = nothing_done;
+      shown = λ sink_told. shows_all sink.holds [] sink.holds (sym (append-nil sink.holds));
+      ends = (λ sink_told. sym (append-nil sink.holds), record { cat = begun found; stands = stood; grid = grid });
+      images = λ sink_told main_settled sink_settled t main_image sink_image late main_left sink_left.
+          image_of found [] sink.holds main.holds (begun found) 0 main_image sink_image (main_settled t main_image (omega (arith, main_last, late)) main_left) stood
+          (sink_settled t sink_image (omega (arith, sink_last, late)) sink_left ∙ sym (append-nil sink.holds)) (inr (record { run = refl; within = omega arith; grid = grid })) refl;
+    }

@@ -1,9 +1,8 @@
 -- What each turn counts.
-use Rattle.std.proofs.Common.{◌≡◌, true, false, ◌+◌, ◌^◌, ◌≤◌, ◌∷◌, length, Option, None, Some, IsTrue, arith, subst, ap, length-append}
+use Rattle.std.proofs.Common.{◌≡◌, true, false, ℕ, ◌+◌, ◌^◌, ◌≤◌, ◌∷◌, length, Option, None, Some, IsTrue, Result, Ok, Err, arith, subst, ap, sym, ◌∙◌, length-append}
 use Rattle.grid_outside.specs.Disk.{DiskState}
 use Rattle.grid_outside.specs.Sink.{SinkState}
 use Rattle.grid_outside.specs.Source.{SourceState}
-use Rattle.grid_model.specs.Catalogue.{kept_line}
 use Rattle.grid_server.specs.declared.status.Status.{Status}
 use Rattle.grid_server.specs.declared.status.Status.TheVariants as status
 use Rattle.grid_server.specs.declared.server.Stop.{Stop}
@@ -11,19 +10,20 @@ use Rattle.grid_server.specs.declared.server.Stop.TheVariants as stop
 use Rattle.grid_server.specs.declared.server.Server.{Server}
 use Rattle.grid_server.specs.declared.serving.Service.{Service}
 use Rattle.grid_model.specs.Names.{Text}
-use Rattle.grid_model.specs.Commands.{command}
-use Rattle.grid_server.specs.Answering.{state_of}
+use Rattle.grid_model.specs.Rows.{Cat}
+use Rattle.grid_server.specs.Held.{IsHeld}
+use Rattle.grid_server.specs.Answering.{Goes, Rests, Answers, worked, not_begun}
+use Rattle.grid_journal.specs.Journal.{Keeps}
 use Rattle.grid_server.specs.Reading.{Reader}
 use Rattle.grid_server.specs.declared.serving.Taken.TheVariants as taken
 use Rattle.grid_server.specs.Turning.{Gets, with_body, Turns, answered, stopped, idle, status_of}
 use Rattle.grid_server.specs.Serving.{IsServing}
 
 -- a turn after which the run goes on
-pub record Counted (old new : Service) (main_old main_new : DiskState) : Type 0 where
+pub record Counted (old new : Service) : Type 0 where
   pub most : new.reader.taken ≤ 2 ^ 48
   pub ahead : old.reader.taken + length new.reader.unread + 1 ≤ new.reader.taken + length old.reader.unread
   pub number : new.number ≤ old.number + 1
-  pub size : IsTrue main_old.tells → length main_old.holds ≡ old.server.size → length main_new.holds ≡ new.server.size
 
 -- a request with its body was got, and the input goes on
 got_one : (old new : Reader) (from to : SourceState) (held : Text) → Gets old new from to held false → (new.taken ≤ 2 ^ 48) × (old.taken + length new.unread + 1 ≤ new.taken + length old.unread)
@@ -36,17 +36,39 @@ got_one old new from to held (with_body {mid = mid} reads tells has passes) =
       omega (arith, ends.2, over.3, sizes, more, length-append old.unread reads.got, length-append reads.line (10 ∷ mid.unread), length-append mid.unread passes.got, length-append passes.body new.unread),
     )
 
-module _ (old new : Service) (main_old main_new : DiskState) (from to : SourceState) (sink_old sink_new : SinkState) where
-  pub counted : (o : Option Status) → Turns old new main_old main_new from to sink_old sink_new o → o ≡ None → Counted old new main_old main_new
+-- what rests goes nowhere
+pub goes_rest : (from : ℕ) (old new : DiskState) → Rests old new → Goes from old new
+goes_rest from old new rests = record { faults = rests.faults; tells = rests.tells; earlier = λ t image le left. rests.left t image left }
+
+pub goes_more : (from to : ℕ) (old mid new : DiskState) → from ≤ to → Goes from old mid → Goes to mid new → Goes from old new
+goes_more from to old mid new le first then = record {
+  faults = omega (arith, first.faults, then.faults);
+  tells = then.tells ∙ first.tells;
+  earlier = λ t image before left. first.earlier t image before (then.earlier t image (omega (arith, before, le)) left);
+}
+
+-- what rests holds what it held
+pub held_rests : (old new : DiskState) (s : Server) → Rests old new → IsHeld old s → IsHeld new s
+held_rests old new s rests held =
+    let P : Text → Type 0 = λ t. Keeps s.store.cat s.store t in
+    record {
+      sound = held.sound;
+      staged = held.staged;
+      keeps = λ told. (let was : IsTrue old.tells = subst IsTrue rests.tells told in subst P (sym (rests.stays was)) (held.keeps was));
+      in_order = held.in_order;
+      paths = held.paths;
+      some_vault = held.some_vault;
+    }
+
+module _ (old new : Service) (since : ℕ) (main_old main_new : DiskState) (from to : SourceState) (sink_old sink_new : SinkState) where
+  pub counted : (o : Option Status) → Turns old new since main_old main_new from to sink_old sink_new o → o ≡ None → Counted old new
   counted o (answered asked true finds handles) e = absurd (cc)
   counted o (answered asked false finds handles) e =
       let got = got_one old.reader new.reader from to finds.0 finds.1 in
-      let keeps = handles.answers.0 in
       record {
         most = got.0;
         ahead = got.1;
         number = omega (arith, handles.number);
-        size = λ told size. omega (arith, size, keeps.1, ap length (keeps.3 told), length-append main_old.holds (kept_line (command (state_of old.server) asked)));
       }
   counted o (stopped asked over stop finds handles) e = absurd (cc)
   counted o (idle taken.Skipped finds is idles) e =
@@ -56,7 +78,6 @@ module _ (old new : Service) (main_old main_new : DiskState) (from to : SourceSt
         most = ends.3;
         ahead = omega (arith, ends.2, sizes, length-append old.reader.unread finds.1.got, length-append finds.1.line (10 ∷ new.reader.unread));
         number = omega (arith, idles.number);
-        size = λ told size. omega (arith, size, ap length (idles.main told), ap (λ (s : Server). s.size) idles.server);
       }
   counted o (idle taken.Over finds is idles) e = absurd (cc)
   counted o (idle (taken.Request asked over) finds is idles) e = absurd is
@@ -70,7 +91,7 @@ module _ (old new : Service) (main_old main_new : DiskState) (from to : SourceSt
   stop_serves stop.Memory = tt
   stop_serves (stop.Worn place) = tt
 
-  pub serving_so : (o : Option Status) → Turns old new main_old main_new from to sink_old sink_new o → (s : Status) → o ≡ Some s → IsServing s
+  pub serving_so : (o : Option Status) → Turns old new since main_old main_new from to sink_old sink_new o → (s : Status) → o ≡ Some s → IsServing s
   serving_so o (answered asked true finds handles) s e = let same : status.Done ≡ s = cc in subst (λ (t : Status). IsServing t) same tt
   serving_so o (answered asked false finds handles) s e = absurd (cc)
   serving_so o (stopped asked over stop finds handles) s e = let same : status_of stop ≡ s = cc in subst (λ (t : Status). IsServing t) same (stop_serves stop)
@@ -80,3 +101,25 @@ module _ (old new : Service) (main_old main_new : DiskState) (from to : SourceSt
   serving_so o (idle taken.Long finds is idles) s e = let same : status.Long (2 ^ 48 + 1) ≡ s = cc in subst (λ (t : Status). IsServing t) same tt
   serving_so o (idle taken.Fault finds is idles) s e = let same : status.SourceFault ≡ s = cc in subst (λ (t : Status). IsServing t) same tt
   serving_so o (idle taken.Memory finds is idles) s e = let same : status.Memory ≡ s = cc in subst (λ (t : Status). IsServing t) same tt
+
+  goes_answers : (n : ℕ) (r : _) (asked : _) → Answers old.server asked n since main_old main_new sink_old sink_new r new.server → Goes since main_old main_new × Goes since sink_old sink_new
+  goes_answers n r asked (worked w) = (w.main, w.sink)
+  goes_answers n r asked (not_begun e main sink) = (goes_rest since main_old main_new main, goes_rest since sink_old sink_new sink)
+
+  -- what a stop before the turn may leave is as before
+  pub turn_goes : (o : Option Status) → Turns old new since main_old main_new from to sink_old sink_new o → Goes since main_old main_new × Goes since sink_old sink_new
+  turn_goes o (answered asked over finds handles) = goes_answers (old.number + 1) (Ok tt) asked handles.answers
+  turn_goes o (stopped asked over stop finds handles) = goes_answers (old.number + 1) (Err stop) asked handles.answers
+  turn_goes o (idle taken finds is idles) = (goes_rest since main_old main_new idles.main, goes_rest since sink_old sink_new idles.sink)
+
+  -- the rows are those of main again
+  pub turn_holds : (o : Option Status) → Turns old new since main_old main_new from to sink_old sink_new o → o ≡ None → IsHeld main_old old.server → IsHeld main_new new.server
+  turn_holds o (answered asked over finds handles) e held = by_answers handles.answers
+    where
+      by_answers : Answers old.server asked (old.number + 1) since main_old main_new sink_old sink_new (Ok tt) new.server → IsHeld main_new new.server
+      by_answers (worked w) = w.ends.0.held
+      by_answers (not_begun is main sink) = absurd (cc)
+  turn_holds o (stopped asked over stop finds handles) e held = absurd (cc)
+  turn_holds o (idle taken finds is idles) e held =
+      let P : Server → Type 0 = λ s. IsHeld main_new s in
+      subst P (sym idles.server) (held_rests main_old main_new old.server idles.main held)

@@ -1,14 +1,27 @@
--- What the server holds in memory stands for.
-use Rattle.std.specs.Prelude.{List, [], ◌∷◌}
-use Rattle.grid_model.specs.Maps.{Set, empty, add}
-use Rattle.grid_model.specs.Names.{Path, path_cmp}
-use Rattle.grid_model.specs.Grid as model
-use Rattle.grid_server.specs.declared.grid.Grid.{Grid}
+-- What the server holds in memory, and what main has beside it.
+use Rattle.std.specs.Prelude.{◌≡◌, ℕ, ◌<◌, List, [], IsTrue, Ok}
+use Rattle.grid_outside.specs.Disk.{DiskState}
+use Rattle.grid_model.specs.Names.{Text}
+use Rattle.grid_model.specs.Rows.{Cat, IsCat}
+use Rattle.grid_model.specs.Gridding.{grid_of, HasPaths}
+use Rattle.grid_model.specs.Commands.{State}
+use Rattle.grid_journal.specs.Journal.{Journal, Keeps}
+use Rattle.grid_journal.specs.Stands.{Stands}
+use Rattle.grid_server.specs.declared.server.Server.{Server}
 
--- a set with these paths, one after another
-abbrev pub with_all : Set path_cmp → List Path → Set path_cmp
-with_all s [] = s
-with_all s (p ∷ ps) = with_all (add s p) ps
+abbrev pub state_of : Server → State
+state_of s = record { grid = grid_of s.store.cat; logged_in = s.logged_in }
 
-abbrev pub grid_of : Grid → model.Grid
-grid_of g = record { zone = g.zone; admin = g.admin; collections = with_all empty g.collections.items }
+-- with every spare, main stands for this catalogue
+abbrev pub StandsFor : Text → Cat → Type 0
+StandsFor main c = (spare : Text) → Stands main spare (Ok c)
+
+-- The rows in memory are those that main has, with nothing staged. Each collection has a path, and a vault number is
+-- still to be drawn.
+pub record IsHeld (main : DiskState) (s : Server) : Type 0 where
+  pub sound : IsTrue s.store.sound
+  pub staged : s.store.staged ≡ []
+  pub keeps : IsTrue main.tells → Keeps s.store.cat s.store main.holds
+  pub in_order : IsCat s.store.cat
+  pub paths : HasPaths s.store.cat
+  pub some_vault : 0 < s.store.cat.numbers.next_vault

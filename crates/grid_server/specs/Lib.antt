@@ -1,11 +1,13 @@
 pub mod Answering
 pub mod Asking
-pub mod Catalogue
+pub mod Deciding
 pub mod Held
+pub mod Opening
 pub mod Reading
 pub mod Requests
 pub mod Running
 pub mod Serving
 pub mod Starting
+pub mod Stopping
 pub mod Tasks
 pub mod Turning

@@ -1,37 +1,41 @@
 -- How a run ends, by its words and its status.
-use Rattle.std.specs.Prelude.{◌≡◌, ◌⊎◌, ℕ, IsTrue}
+use Rattle.std.specs.Prelude.{◌≡◌, ◌≢◌, ◌⊎◌, ℕ, [], IsTrue}
 use Rattle.grid_outside.specs.Disk.{DiskState}
 use Rattle.grid_outside.specs.Sink.{SinkState}
 use Rattle.grid_model.specs.Names.{Text}
 use Rattle.grid_model.specs.Replies.{AddsFirst}
 use Rattle.grid_model.specs.declared.grid.Side.{Side}
-use Rattle.grid_model.specs.declared.grid.Side.TheVariants.{Main}
+use Rattle.grid_journal.specs.Store.{IsNotEmpty}
 use Rattle.grid_server.specs.declared.status.Status.{Status}
 use Rattle.grid_server.specs.declared.status.Status.TheVariants as status
-use Rattle.grid_server.specs.Answering.{Adds, Stays}
-use Rattle.grid_server.specs.Starting.{Begun, BegunInPart, NotEmpty, ok_line, not_empty_line, not_a_catalogue_line}
+use Rattle.grid_server.specs.Answering.{Adds, Stays, Rests}
+use Rattle.grid_server.specs.Starting.{Started, ok_line, not_empty_line, not_a_catalogue_line, stores_line}
 
 -- the sink got this line, or a first part of it and failed
 abbrev pub Says : Text → Status → SinkState → SinkState → Status → Type 0
 Says line wanted old new s = ((s ≡ wanted) × Adds line old new) ⊎ ((s ≡ status.SinkFault) × (IsTrue old.tells → AddsFirst line old.holds new.holds))
 
--- main stands for no grid, from this place on: that is said, unless something fails before
-abbrev pub Refuses : ℕ → SinkState → SinkState → Status → Type 0
-Refuses place old new s = Says (not_a_catalogue_line place) (status.NotACatalogue Main place) old new s ⊎ (((s ≡ status.DiskFault) ⊎ (s ≡ status.Memory)) × Stays old new)
+-- there is no catalogue, which shows at this place: that is said, unless something fails before
+abbrev pub Refuses : Side → ℕ → SinkState → SinkState → Status → Type 0
+Refuses side place old new s = Says (not_a_catalogue_line side place) (status.NotACatalogue side place) old new s ⊎ (((s ≡ status.DiskFault) ⊎ (s ≡ status.Memory)) × Stays old new)
+
+-- it is of another number of stores: that is said, unless something fails before
+abbrev pub RefusesStores : ℕ → ℕ → SinkState → SinkState → Status → Type 0
+RefusesStores had given old new s = Says (stores_line had given) (status.Stores had given) old new s ⊎ (((s ≡ status.DiskFault) ⊎ (s ≡ status.Memory)) × Stays old new)
 
 -- a disk is not empty where a grid was to be begun
 abbrev pub RefusesStart : DiskState → DiskState → DiskState → SinkState → SinkState → Status → Type 0
-RefusesStart main_old main_new spare old new s = (side : Side) × (len : ℕ) × NotEmpty main_old spare side len × Stays main_old main_new × Says (not_empty_line side len) (status.NotEmpty side len) old new s
+RefusesStart main_old main_new spare old new s = (side : Side) × (len : ℕ) × IsNotEmpty main_old spare len side × Stays main_old main_new × Says (not_empty_line side len) (status.NotEmpty side len) old new s
 
--- how `init` ends
-abbrev pub Inits : Text → Text → DiskState → DiskState → DiskState → SinkState → SinkState → Status → Type 0
-Inits zone admin main_old main_new spare old new s =
-    (Begun zone admin main_old main_new spare × Says ok_line status.Done old new s)
+-- how `init` ends. Where a disk failed, main may hold anything if it was empty
+abbrev pub Inits : Text → Text → ℕ → DiskState → DiskState → DiskState → SinkState → SinkState → Status → Type 0
+Inits zone admin stores main_old main_new spare old new s =
+    (Started zone admin stores main_old main_new spare × Says ok_line status.Done old new s)
     ⊎ RefusesStart main_old main_new spare old new s
-    ⊎ ((s ≡ status.DiskFault) × BegunInPart zone admin main_old main_new × Stays old new)
+    ⊎ ((s ≡ status.DiskFault) × (IsTrue main_old.tells → main_old.holds ≢ [] → main_new.holds ≡ main_old.holds) × Stays old new)
     ⊎ ((s ≡ status.Memory) × Stays main_old main_new × Stays old new)
 
--- a run over an open catalogue came to its end, or memory or the room of the catalogue ran out
+-- a run over an open catalogue came to its end, or memory, the numbers of runs or the room of the log ran out
 abbrev pub IsComplete : Status → Type 0
 IsComplete status.Done = Unit {0}
 IsComplete status.Memory = Unit {0}

@@ -1,123 +1,163 @@
--- What a run of `serve` did over a grid, and what it left.
-use Rattle.std.specs.Prelude.{◌≡◌, ◌≢◌, ◌⊎◌, ℕ, ◌+◌, ◌^◌, ◌<◌, ◌≤◌, false, List, [], ◌∷◌, ◌++◌, length, take, None, Ok, IsTrue}
+-- What a run of `serve` did over a catalogue, and what it left.
+use Rattle.std.specs.Prelude.{◌≡◌, ◌≢◌, ◌⊎◌, ℕ, ◌+◌, ◌-◌, ◌^◌, ◌<◌, ◌≤◌, max, true, false, List, [], ◌∷◌, ◌++◌, length, take, slice_get, Some, Ok, IsTrue}
+use Rattle.grid_outside.specs.Device.{IsSettled}
 use Rattle.grid_outside.specs.Disk.{DiskState}
 use Rattle.grid_outside.specs.Sink.{SinkState}
 use Rattle.grid_outside.specs.Source.{SourceState}
-use Rattle.grid_outside.specs.declared.outside.Wear.TheVariants.{Log}
+use Rattle.grid_outside.specs.declared.outside.Wear.{Wear}
+use Rattle.grid_outside.specs.declared.outside.Wear.TheVariants as wear
+use Rattle.frame_log.specs.Log.{IsLog, frames}
 use Rattle.grid_model.specs.Names.{Text}
 use Rattle.grid_model.specs.Grid.{Grid}
+use Rattle.grid_model.specs.Rows.{Cat}
+use Rattle.grid_model.specs.Gridding.{grid_of}
 use Rattle.grid_model.specs.Inputs.{Asked, Takes, AreRequests, IsPart}
-use Rattle.grid_model.specs.Commands.{State, Done, After}
-use Rattle.grid_model.specs.Replies.{reply, replies, AddsFirst}
-use Rattle.grid_model.specs.Catalogue.{Stands, kept_line, kept_lines, HasRoom, longest_catalogue}
+use Rattle.grid_model.specs.Commands.{State, Done, After, state_after}
+use Rattle.grid_model.specs.Replies.{reply, replies}
 use Rattle.grid_server.specs.declared.status.Status.{Status}
 use Rattle.grid_server.specs.declared.status.Status.TheVariants as status
+use Rattle.grid_server.specs.Held.{StandsFor}
 use Rattle.grid_server.specs.Answering.{Did}
 
 -- nobody is logged in
 abbrev pub begins : Grid → State
 begins g = record { grid = g; logged_in = false }
 
--- These requests were done, one after another from the grid on, and what they changed was kept behind these bytes.
-pub record DidAll (found : Grid) (bytes : Text) (asked : List Asked) : Type 0 where
-  pub done : List Done
-  pub end : State
-  pub after : After (begins found) asked done end
-  pub room : HasRoom (length bytes) done
-  pub stands : Stands (bytes ++ kept_lines done) (Ok end.grid)
-
--- main holds all that they changed, and the sink all their replies
-pub record Whole (found : Grid) (main_old main_new : DiskState) (sink_old sink_new : SinkState) (asked : List Asked) : Type 0 where
-  pub did : DidAll found main_old.holds asked
-  pub kept : main_new.holds ≡ main_old.holds ++ kept_lines did.done
-  pub shown : IsTrue sink_old.tells → sink_new.holds ≡ sink_old.holds ++ replies 1 did.done
-
--- all was read and answered
-pub record EndsDone (found : Grid) (main_old main_new : DiskState) (from to : SourceState) (sink_old sink_new : SinkState) : Type 0 where
-  pub asked : List Asked
-  pub are : AreRequests from.left asked
-  pub whole : Whole found main_old main_new sink_old sink_new asked
-  pub all : to.left ≡ []
-  pub fits : length from.left ≤ 2 ^ 48
-
--- the requests that ended within the bytes taken were answered
-pub record EndsBroken (found : Grid) (main_old main_new : DiskState) (from to : SourceState) (sink_old sink_new : SinkState) : Type 0 where
-  pub taken : Text
-  pub split : from.left ≡ taken ++ to.left
-  pub asked : List Asked
-  pub left : Text
-  pub takes : Takes taken asked left
-  pub part : IsPart left
-  pub whole : Whole found main_old main_new sink_old sink_new asked
-
--- the requests that ended within the first 2^48 bytes were answered, and there are more
-pub record EndsLong (found : Grid) (main_old main_new : DiskState) (from to : SourceState) (sink_old sink_new : SinkState) : Type 0 where
-  pub taken : Text
-  pub split : from.left ≡ taken ++ to.left
-  pub size : length taken ≡ 2 ^ 48 + 1
-  pub asked : List Asked
-  pub left : Text
-  pub takes : Takes (take (2 ^ 48) taken) asked left
-  pub part : IsPart left
-  pub whole : Whole found main_old main_new sink_old sink_new asked
-
 -- these are the first requests of an input
 abbrev pub Begins : Text → List Asked → Type 0
 Begins input asked = ((left : Text) × Takes input asked left) ⊎ AreRequests input asked
 
--- the first requests were answered
-pub record EndsEarly (found : Grid) (main_old main_new : DiskState) (from : SourceState) (sink_old sink_new : SinkState) : Type 0 where
-  pub asked : List Asked
-  pub begins : Begins from.left asked
-  pub whole : Whole found main_old main_new sink_old sink_new asked
+-- ---- what the sink shows
 
--- the next request would have added a line to a catalogue of this length, which is too long
-pub record EndsWorn (found : Grid) (main_old main_new : DiskState) (from : SourceState) (sink_old sink_new : SinkState) (place : ℕ) : Type 0 where
-  pub asked : List Asked
-  pub request : Asked
-  pub begins : Begins from.left (asked ++ request ∷ [])
-  pub whole : Whole found main_old main_new sink_old sink_new asked
+-- the last text that was added is a part of the reply of this number, and not all of it
+pub record IsCut (done : List Done) (number : ℕ) (part : Text) : Type 0 where
   pub next : Done
-  pub did : Did whole.did.end request.line next
-  pub adds : next.made ≢ None
-  pub place_is : place ≡ length main_new.holds
-  pub too_long : longest_catalogue < place
+  pub is_next : slice_get done number ≡ Some next
+  pub more : Text
+  pub some : more ≢ []
+  pub split : reply (number + 1) next.answer ≡ part ++ more
 
--- The first requests were answered. Behind what they changed there may be a part of the line of the next one, or other bytes in its place.
-pub record EndsTorn (found : Grid) (main_old main_new : DiskState) (from : SourceState) (sink_old sink_new : SinkState) : Type 0 where
+-- So many of the replies were added whole, and behind them nothing or a part of the next one.
+pub record Shows (old : Text) (done : List Done) (whole : ℕ) (new : Text) : Type 0 where
+  pub within : whole ≤ length done
+  pub part : Text
+  pub is : new ≡ (old ++ replies 1 (take whole done)) ++ part
+  pub part_is : (part ≡ []) ⊎ IsCut done whole part
+
+-- all replies were added but for the last one, of which there may be a part
+pub record AllButOne (done : List Done) (old new : Text) : Type 0 where
+  pub whole : ℕ
+  pub shows : Shows old done whole new
+  pub few : length done ≤ whole + 1
+
+-- ---- what a stop leaves
+
+-- the run has changed nothing yet
+pub record IsBefore (found c : Cat) (whole : ℕ) : Type 0 where
+  pub run : c.numbers.run ≡ found.numbers.run
+  pub grid : grid_of c ≡ grid_of found
+  pub none_shown : whole ≡ 0
+
+-- the catalogue is that after so many requests: as many as are shown whole, or as the catalogue says if these are more
+pub record IsAfter (found : Cat) (done : List Done) (c : Cat) (whole : ℕ) : Type 0 where
+  pub run : c.numbers.run ≡ found.numbers.run + 1
+  pub within : max whole c.numbers.last ≤ length done
+  pub grid : grid_of c ≡ (state_after (begins (grid_of found)) done (max whole c.numbers.last)).grid
+
+-- One image of main and of the sink. Main stands for the grid after the first requests, with every one whose reply
+-- is shown whole among them.
+pub record OneImage (found : Cat) (done : List Done) (shown main sink : Text) : Type 0 where
+  pub cat : Cat
+  pub stands : StandsFor main cat
+  pub whole : ℕ
+  pub shows : Shows shown done whole sink
+  pub reached : IsBefore found cat whole ⊎ IsAfter found done cat whole
+  pub pending : cat.pending ≡ found.pending
+
+-- ---- how a run ends
+
+-- main stands for this grid
+pub record IsKept (main : Text) (g : Grid) : Type 0 where
+  pub cat : Cat
+  pub stands : StandsFor main cat
+  pub grid : grid_of cat ≡ g
+
+-- all replies were added
+abbrev pub ShowsAll : List Done → SinkState → SinkState → Type 0
+ShowsAll done old new = IsTrue old.tells → new.holds ≡ old.holds ++ replies 1 done
+
+-- the log on main closes at this place
+pub record ClosesAt (main : Text) (place : ℕ) : Type 0 where
+  pub records : List (List ℕ)
+  pub log : IsLog 16 records main
+  pub place_is : place ≡ 16 + length (frames records)
+
+-- all of the input was read
+pub record ReadAll (asked : List Asked) (from to : SourceState) : Type 0 where
+  pub are : AreRequests from.left asked
+  pub all : to.left ≡ []
+  pub fits : length from.left ≤ 2 ^ 48
+
+-- the requests are those that ended within the bytes that were taken
+pub record ReadPart (asked : List Asked) (from to : SourceState) : Type 0 where
+  pub taken : Text
+  pub split : from.left ≡ taken ++ to.left
+  pub left : Text
+  pub takes : Takes taken asked left
+  pub part : IsPart left
+
+-- they are those that ended within the first 2^48 bytes, and there are more
+pub record ReadMost (asked : List Asked) (from to : SourceState) : Type 0 where
+  pub taken : Text
+  pub split : from.left ≡ taken ++ to.left
+  pub size : length taken ≡ 2 ^ 48 + 1
+  pub left : Text
+  pub takes : Takes (take (2 ^ 48) taken) asked left
+  pub part : IsPart left
+
+-- the next request changes something
+pub record NextChanges (input : Text) (asked : List Asked) (end : State) : Type 0 where
+  pub request : Asked
+  pub begins : Begins input (asked ++ request ∷ [])
+  pub next : Done
+  pub did : Did end request.line next
+  pub changes : next.changed ≡ true
+
+-- what has run out: the numbers of runs, before anything was done, or the room behind the log, which either the
+-- beginning of the run or the next request needs
+abbrev pub WearsOut : Cat → Text → List Asked → State → DiskState → ℕ → Wear → Type 0
+WearsOut found input asked end main place wear.Runs = (asked ≡ []) × (place ≡ found.numbers.run) × (place ≡ 2 ^ 64 - 1)
+WearsOut found input asked end main place wear.Vaults = ⊥
+WearsOut found input asked end main place wear.Log = (2 ^ 62 < place) × ClosesAt main.holds place × ((asked ≡ []) ⊎ NextChanges input asked end)
+
+-- what each status says
+abbrev pub Ends : Cat → List Asked → List Done → State → DiskState → SourceState → SourceState → SinkState → SinkState → Status → Type 0
+Ends found asked done end main from to sink_old sink_new status.Done = ReadAll asked from to × ShowsAll done sink_old sink_new × IsKept main.holds end.grid
+Ends found asked done end main from to sink_old sink_new status.SourceFault = ReadPart asked from to × ShowsAll done sink_old sink_new × IsKept main.holds end.grid
+Ends found asked done end main from to sink_old sink_new (status.Long taken) = (taken ≡ 2 ^ 48 + 1) × ReadMost asked from to × ShowsAll done sink_old sink_new × IsKept main.holds end.grid
+Ends found asked done end main from to sink_old sink_new status.Memory = ShowsAll done sink_old sink_new × IsKept main.holds end.grid
+Ends found asked done end main from to sink_old sink_new (status.Worn what place) = WearsOut found from.left asked end main place what × ShowsAll done sink_old sink_new × IsKept main.holds end.grid
+Ends found asked done end main from to sink_old sink_new status.DiskFault = Unit {0}
+Ends found asked done end main from to sink_old sink_new status.SinkFault = IsKept main.holds end.grid
+Ends found asked done end main from to sink_old sink_new status.Usage = ⊥
+Ends found asked done end main from to sink_old sink_new (status.NotACatalogue side place) = ⊥
+Ends found asked done end main from to sink_old sink_new (status.NotEmpty side len) = ⊥
+Ends found asked done end main from to sink_old sink_new (status.Stores had given) = ⊥
+
+-- A run over this catalogue, from so many moments on: the requests that were begun, what each did, what is shown of
+-- their replies, of which at most the last one is not shown whole, and what a stop at any moment leaves.
+pub record Serves (found : Cat) (since : ℕ) (main_old main_new : DiskState) (from to : SourceState) (sink_old sink_new : SinkState) (s : Status) : Type 0 where
   pub asked : List Asked
-  pub begins : Begins from.left asked
-  pub did : DidAll found main_old.holds asked
-  pub tail : Text
-  pub kept : main_new.holds ≡ (main_old.holds ++ kept_lines did.done) ++ tail
-  pub tail_is : (tail ≡ []) ⊎ ((request : Asked) × (next : Done) × Begins from.left (asked ++ request ∷ []) × Did did.end request.line next × (length tail ≤ length (kept_line next)))
-  pub shown : IsTrue sink_old.tells → sink_new.holds ≡ sink_old.holds ++ replies 1 did.done
+  pub first : Begins from.left asked
+  pub done : List Done
+  pub end : State
+  pub after : After (begins (grid_of found)) asked done end
+  pub shown : IsTrue sink_old.tells → AllButOne done sink_old.holds sink_new.holds
+  pub ends : Ends found asked done end main_new from to sink_old sink_new s
+  pub images : IsTrue sink_old.tells → IsSettled main_old → IsSettled sink_old → (t : ℕ) (main sink : Text) → since < t → main_new.left t main → sink_new.left t sink
+      → OneImage found done sink_old.holds main sink
 
--- The first requests were done, and of the last one's reply only a first part was written.
-pub record EndsMute (found : Grid) (main_old main_new : DiskState) (from : SourceState) (sink_old sink_new : SinkState) : Type 0 where
-  pub asked : List Asked
-  pub begins : Begins from.left asked
-  pub did : DidAll found main_old.holds asked
-  pub kept : main_new.holds ≡ main_old.holds ++ kept_lines did.done
-  pub front : List Done
-  pub last : Done
-  pub done_is : did.done ≡ front ++ last ∷ []
-  pub shown : IsTrue sink_old.tells → AddsFirst (reply (1 + length front) last.answer) (sink_old.holds ++ replies 1 front) sink_new.holds
-
--- how a run over this grid ends, by its status
-abbrev pub Serves : Grid → DiskState → DiskState → SourceState → SourceState → SinkState → SinkState → Status → Type 0
-Serves found main_old main_new from to sink_old sink_new status.Done = EndsDone found main_old main_new from to sink_old sink_new
-Serves found main_old main_new from to sink_old sink_new status.SourceFault = EndsBroken found main_old main_new from to sink_old sink_new
-Serves found main_old main_new from to sink_old sink_new (status.Long taken) = (taken ≡ 2 ^ 48 + 1) × EndsLong found main_old main_new from to sink_old sink_new
-Serves found main_old main_new from to sink_old sink_new status.Memory = EndsEarly found main_old main_new from sink_old sink_new
-Serves found main_old main_new from to sink_old sink_new (status.Worn what place) = (what ≡ Log) × EndsWorn found main_old main_new from sink_old sink_new place
-Serves found main_old main_new from to sink_old sink_new status.DiskFault = EndsTorn found main_old main_new from sink_old sink_new
-Serves found main_old main_new from to sink_old sink_new status.SinkFault = EndsMute found main_old main_new from sink_old sink_new
-Serves found main_old main_new from to sink_old sink_new status.Usage = ⊥
-Serves found main_old main_new from to sink_old sink_new (status.NotACatalogue side place) = ⊥
-Serves found main_old main_new from to sink_old sink_new (status.NotEmpty side len) = ⊥
-
--- a status that a run comes to once its catalogue is open
+-- a status that a run comes to once its catalogue is read
 abbrev pub IsServing : Status → Type 0
 IsServing status.Done = Unit {0}
 IsServing status.SourceFault = Unit {0}
@@ -129,3 +169,4 @@ IsServing status.SinkFault = Unit {0}
 IsServing status.Usage = ⊥
 IsServing (status.NotACatalogue side place) = ⊥
 IsServing (status.NotEmpty side len) = ⊥
+IsServing (status.Stores had given) = ⊥

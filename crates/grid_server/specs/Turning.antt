@@ -10,15 +10,10 @@ use Rattle.grid_model.specs.Inputs.{HasBody}
 use Rattle.grid_model.specs.Requests.{Asks}
 use Rattle.grid_model.specs.declared.requests.Verb.{Verb}
 use Rattle.grid_model.specs.declared.refusal.Refusal.{Refusal}
-use Rattle.grid_model.specs.Catalogue.{Stands}
 use Rattle.grid_server.specs.declared.status.Status.{Status}
 use Rattle.grid_server.specs.declared.status.Status.TheVariants as status
 use Rattle.grid_server.specs.declared.server.Stop.{Stop}
 use Rattle.grid_server.specs.declared.server.Stop.TheVariants as stop
-use Rattle.grid_server.specs.declared.catalogue.CatalogueError.{CatalogueError}
-use Rattle.grid_server.specs.declared.catalogue.CatalogueError.TheVariants as catalogue
-use Rattle.grid_server.specs.declared.serving.OpenError.{OpenError}
-use Rattle.grid_server.specs.declared.serving.OpenError.TheVariants as opening
 use Rattle.grid_server.specs.declared.serving.Service.{Service}
 use Rattle.grid_server.specs.declared.serving.Taken.{Taken}
 use Rattle.grid_server.specs.declared.serving.Taken.TheVariants as taken
@@ -26,17 +21,7 @@ use Rattle.grid_server.specs.declared.line_reader.Ended.TheVariants as ended
 use Rattle.grid_server.specs.declared.line_reader.Passed.{Passed}
 use Rattle.grid_server.specs.declared.line_reader.Passed.TheVariants as passed
 use Rattle.grid_server.specs.Reading.{Reader, ReadsLine, ReadsPart, Passes, PassesPart}
-use Rattle.grid_server.specs.Answering.{Answers, Stays}
-
-abbrev pub open_error_of : CatalogueError → OpenError
-open_error_of (catalogue.BadLine place) = opening.NotACatalogue place
-open_error_of catalogue.Memory = opening.Memory
-
--- the bytes stand for no grid, where that is the error
-abbrev pub HasNoGrid : Text → OpenError → Type 0
-HasNoGrid bytes (opening.NotACatalogue place) = Stands bytes (Err place)
-HasNoGrid bytes opening.Disk = Unit {0}
-HasNoGrid bytes opening.Memory = Unit {0}
+use Rattle.grid_server.specs.Answering.{Answers, Rests}
 
 abbrev pub status_of : Stop → Status
 status_of stop.Disk = status.DiskFault
@@ -111,18 +96,18 @@ after_answer false = None
 pub record Idles (old new : Service) (main_old main_new : DiskState) (sink_old sink_new : SinkState) : Type 0 where
   pub server : new.server ≡ old.server
   pub number : new.number ≡ old.number
-  pub main : Stays main_old main_new
-  pub sink : Stays sink_old sink_new
+  pub main : Rests main_old main_new
+  pub sink : Rests sink_old sink_new
 
--- the next request was answered
-pub record Handles (old new : Service) (main_old main_new : DiskState) (sink_old sink_new : SinkState) (asked : Result Verb Refusal) (result : Result ⊤ Stop) : Type 0 where
-  pub answers : Answers old.server asked (old.number + 1) main_old main_new sink_old sink_new result new.server
+-- the next request was answered, from so many moments on
+pub record Handles (old new : Service) (since : ℕ) (main_old main_new : DiskState) (sink_old sink_new : SinkState) (asked : Result Verb Refusal) (result : Result ⊤ Stop) : Type 0 where
+  pub answers : Answers old.server asked (old.number + 1) since main_old main_new sink_old sink_new result new.server
   pub number : new.number ≡ old.number + 1
 
 -- what one turn does, by whether and how the run ends with it
-pub data Turns (old new : Service) (main_old main_new : DiskState) (from to : SourceState) (sink_old sink_new : SinkState) : Option Status → Type 0 where
-  answered : (asked : Result Verb Refusal) (over : Bool) → Finds old.reader new.reader from to (taken.Request asked over) → Handles old new main_old main_new sink_old sink_new asked (Ok tt)
-      → Turns old new main_old main_new from to sink_old sink_new (after_answer over)
-  stopped : (asked : Result Verb Refusal) (over : Bool) (stop : Stop) → Finds old.reader new.reader from to (taken.Request asked over) → Handles old new main_old main_new sink_old sink_new asked (Err stop)
-      → Turns old new main_old main_new from to sink_old sink_new (Some (status_of stop))
-  idle : (taken : Taken) → Finds old.reader new.reader from to taken → IsIdle taken → Idles old new main_old main_new sink_old sink_new → Turns old new main_old main_new from to sink_old sink_new (status_after taken)
+pub data Turns (old new : Service) (since : ℕ) (main_old main_new : DiskState) (from to : SourceState) (sink_old sink_new : SinkState) : Option Status → Type 0 where
+  answered : (asked : Result Verb Refusal) (over : Bool) → Finds old.reader new.reader from to (taken.Request asked over) → Handles old new since main_old main_new sink_old sink_new asked (Ok tt)
+      → Turns old new since main_old main_new from to sink_old sink_new (after_answer over)
+  stopped : (asked : Result Verb Refusal) (over : Bool) (stop : Stop) → Finds old.reader new.reader from to (taken.Request asked over) → Handles old new since main_old main_new sink_old sink_new asked (Err stop)
+      → Turns old new since main_old main_new from to sink_old sink_new (Some (status_of stop))
+  idle : (taken : Taken) → Finds old.reader new.reader from to taken → IsIdle taken → Idles old new main_old main_new sink_old sink_new → Turns old new since main_old main_new from to sink_old sink_new (status_after taken)

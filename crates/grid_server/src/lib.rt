@@ -1,20 +1,16 @@
 //! The top call: `run` does what the words of the program say, over devices that are known by their traits alone.
 #![tactic(auto)]
 
-mod catalogue;
-mod grid;
+mod decision;
 mod line_reader;
 mod lines;
+mod opening;
 mod request;
 mod running;
 mod server;
 mod serving;
-mod start;
 mod status;
 mod words;
 
 pub use running::run;
 pub use status::Status;
-
-#[cfg(test)]
-mod tests;

@@ -1,21 +1,26 @@
-ghost use Rattle.std.specs.Prelude.{◌≡◌, ◌⊎◌, ◌+◌, ◌^◌, ◌<◌, ◌≤◌, ℕ, List, [], length, IsTrue, IfOk, Ok, Err};
-ghost use Rattle.grid_outside.specs.Device.{Looks};
+ghost use Rattle.std.specs.Prelude.{◌≡◌, ◌≢◌, ◌⊎◌, ◌+◌, ◌^◌, ◌<◌, ◌≤◌, ℕ, List, [], length, IsTrue, IfOk, Ok, Err, vec_len};
+ghost use Rattle.grid_outside.specs.Device.{Looks, IsSettled};
 ghost use Rattle.grid_outside.specs.Fault.{Rose};
-ghost use Rattle.grid_model.specs.Grid.{Grid};
-ghost use Rattle.grid_model.specs.Catalogue.{Stands};
-ghost use Rattle.grid_server.specs.Answering.{Stays};
-ghost use Rattle.grid_server.specs.Starting.{usage_line as usage_text, not_empty_line as not_empty_text, not_a_catalogue_line as not_a_catalogue_text};
-ghost use Rattle.grid_server.specs.Running.{Says, Refuses, Inits, IsComplete};
-ghost use Rattle.grid_server.specs.Serving.{Serves};
+ghost use Rattle.grid_model.specs.Names.{is_name};
+ghost use Rattle.grid_model.specs.Grid.{everybody};
+ghost use Rattle.grid_model.specs.Rows.{Cat};
+ghost use Rattle.grid_model.specs.Gridding.{HasPaths};
+ghost use Rattle.grid_journal.specs.Journal.{Keeps};
+ghost use Rattle.grid_journal.specs.Stands.{Stands};
+ghost use Rattle.grid_server.specs.Answering.{Stays, Rests};
+ghost use Rattle.grid_server.specs.Starting.{usage_line as usage_text, not_empty_line as not_empty_text, not_a_catalogue_line as not_a_catalogue_text, stores_line as stores_text, side_name as side_text};
+ghost use Rattle.grid_server.specs.Running.{Says, Refuses, RefusesStores, Inits, IsComplete};
+ghost use Rattle.grid_server.specs.Serving.{Serves, IsServing};
 ghost use Rattle.grid_server.specs.Tasks as task;
 ghost use Rattle.grid_server.specs.Tasks.{AsksFor, AsksNothing};
 
 use crate::Status;
-use crate::serving::{OpenError, open, serve_all};
-use crate::start::{StartError, start_catalogue};
+use crate::opening::{BeginError, begin_run};
+use crate::serving::serve_all;
 use crate::words::{Asked, read_words};
+use grid_journal::{JournalError, Store};
 use grid_model::{Side, Text};
-use grid_outside::{Ambient, Disk, Moments, Outside, Sink, Source};
+use grid_outside::{Ambient, Disk, Moments, Outside, Sink, Source, Wear};
 use std::alloc::{AllocError, Global};
 
 /// Does what the words of the program ask for.
@@ -32,6 +37,7 @@ pub fn run<D: Disk, S: Source, K: Sink, A: Ambient>(
     requires main_last { (D.disk outside.old.main).last ≤ outside.old.moments }
     requires sink_last { (K.sink sink.old).last ≤ outside.old.moments }
     requires room { outside.old.moments + 2 ^ 61 < 2 ^ 128 }
+    requires stores { (0 < vec_len outside.old.stores) × (vec_len outside.old.stores ≤ 16) }
 
     // Words that ask for nothing: the line of usage, and no device but the sink is touched.
     ensures usage { AsksNothing words.now → Says usage_text Status.Usage (K.sink sink.old) (K.sink sink.new) result }
@@ -41,21 +47,26 @@ pub fn run<D: Disk, S: Source, K: Sink, A: Ambient>(
 
     // To begin a grid.
     ensures init { (zone admin : List ℕ) → AsksFor words.now (task.init zone admin) →
-        Inits zone admin (D.disk outside.old.main) (D.disk outside.new.main) (D.disk outside.old.spare) (K.sink sink.old) (K.sink sink.new) result }
+        Inits zone admin (vec_len outside.old.stores) (D.disk outside.old.main) (D.disk outside.new.main) (D.disk outside.old.spare) (K.sink sink.old) (K.sink sink.new) result }
     ensures init_source { (zone admin : List ℕ) → AsksFor words.now (task.init zone admin) → source.new ≡ source.old }
 
-    // To answer requests.
-    ensures serve { (found : Grid) → AsksFor words.now task.serve → IsTrue (D.disk outside.old.main).tells → IsTrue (S.source source.old).tells → Stands (D.disk outside.old.main).holds (Ok found) →
-        Serves found (D.disk outside.old.main) (D.disk outside.new.main) (S.source source.old) (S.source source.new) (K.sink sink.old) (K.sink sink.new) result }
-    ensures refuses { (place : ℕ) → AsksFor words.now task.serve → IsTrue (D.disk outside.old.main).tells → Stands (D.disk outside.old.main).holds (Err place) →
-        Refuses place (K.sink sink.old) (K.sink sink.new) result }
-    ensures refuses_main { (place : ℕ) → AsksFor words.now task.serve → IsTrue (D.disk outside.old.main).tells → Stands (D.disk outside.old.main).holds (Err place) →
-        Stays (D.disk outside.old.main) (D.disk outside.new.main) }
-    ensures refuses_source { (place : ℕ) → AsksFor words.now task.serve → IsTrue (D.disk outside.old.main).tells → Stands (D.disk outside.old.main).holds (Err place) →
-        source.new ≡ source.old }
-    // It is said only of bytes that are none.
+    // To answer requests: what was answered and shown, and what a stop at any moment leaves of main and the sink.
+    ensures serve { (found : Cat) → AsksFor words.now task.serve → IsTrue (D.disk outside.old.main).tells → IsTrue (S.source source.old).tells →
+        Stands (D.disk outside.old.main).holds (D.disk outside.old.spare).holds (Ok found) → found.stores ≡ vec_len outside.old.stores →
+        Serves found outside.old.moments (D.disk outside.old.main) (D.disk outside.new.main) (S.source source.old) (S.source source.new) (K.sink sink.old) (K.sink sink.new) result }
+
+    // The catalogue is of another number of stores.
+    ensures stores { (found : Cat) → AsksFor words.now task.serve → IsTrue (D.disk outside.old.main).tells →
+        Stands (D.disk outside.old.main).holds (D.disk outside.old.spare).holds (Ok found) → found.stores ≢ vec_len outside.old.stores →
+        RefusesStores found.stores (vec_len outside.old.stores) (K.sink sink.old) (K.sink sink.new) result × Rests (D.disk outside.old.main) (D.disk outside.new.main) × (source.new ≡ source.old) }
+    ensures stores_only { (had given : ℕ) → result ≡ Status.Stores had given → (had ≢ given) × (given ≡ vec_len outside.old.stores) }
+
+    // The disks hold none.
+    ensures refuses { (side : Side) (place : ℕ) → AsksFor words.now task.serve → IsTrue (D.disk outside.old.main).tells →
+        Stands (D.disk outside.old.main).holds (D.disk outside.old.spare).holds (Err (side, place)) →
+        Refuses side place (K.sink sink.old) (K.sink sink.new) result × Rests (D.disk outside.old.main) (D.disk outside.new.main) × (source.new ≡ source.old) }
     ensures not_a_catalogue { (side : Side) (place : ℕ) → result ≡ Status.NotACatalogue side place → IsTrue (D.disk outside.old.main).tells →
-        (side ≡ Side.Main) × Stands (D.disk outside.old.main).holds (Err place) }
+        Stands (D.disk outside.old.main).holds (D.disk outside.old.spare).holds (Err (side, place)) }
 
     // A fault is answered only where that device failed.
     ensures disk_fault { result ≡ Status.DiskFault →
@@ -63,31 +74,24 @@ pub fn run<D: Disk, S: Source, K: Sink, A: Ambient>(
     ensures source_fault { result ≡ Status.SourceFault → Rose (S.source source.old).faults (S.source source.new).faults }
     ensures sink_fault { result ≡ Status.SinkFault → Rose (K.sink sink.old).faults (K.sink sink.new).faults }
 
-    // Where no count of faults rose all is done, unless memory or the room of the catalogue runs out.
+    // Where no count of faults rose all is done, unless memory or something else runs out.
     ensures init_all { (zone admin : List ℕ) → AsksFor words.now (task.init zone admin) → IsTrue (D.disk outside.old.main).tells → IsTrue (D.disk outside.old.spare).tells →
         (D.disk outside.old.main).holds ≡ [] → (D.disk outside.old.spare).holds ≡ [] →
         ¬ Rose (D.disk outside.old.main).faults (D.disk outside.new.main).faults → ¬ Rose (D.disk outside.old.spare).faults (D.disk outside.new.spare).faults →
         ¬ Rose (K.sink sink.old).faults (K.sink sink.new).faults → (result ≡ Status.Done) ⊎ (result ≡ Status.Memory) }
-    ensures serve_all { (found : Grid) → AsksFor words.now task.serve → IsTrue (D.disk outside.old.main).tells → IsTrue (S.source source.old).tells → Stands (D.disk outside.old.main).holds (Ok found) →
+    ensures serve_all { (found : Cat) → AsksFor words.now task.serve → IsTrue (D.disk outside.old.main).tells → IsTrue (S.source source.old).tells →
+        Stands (D.disk outside.old.main).holds (D.disk outside.old.spare).holds (Ok found) → found.stores ≡ vec_len outside.old.stores →
         length (S.source source.old).left ≤ 2 ^ 48 → ¬ Rose (D.disk outside.old.main).faults (D.disk outside.new.main).faults →
-        ¬ Rose (S.source source.old).faults (S.source source.new).faults → ¬ Rose (K.sink sink.old).faults (K.sink sink.new).faults → IsComplete result }
+        ¬ Rose (D.disk outside.old.spare).faults (D.disk outside.new.spare).faults → ¬ Rose (S.source source.old).faults (S.source source.new).faults → ¬ Rose (K.sink sink.old).faults (K.sink sink.new).faults → IsComplete result }
 
     // What is never changed.
     ensures spare { Looks (D.disk outside.old.spare) (D.disk outside.new.spare) }
-    ensures stores { outside.new.stores ≡ outside.old.stores }
+    ensures other_stores { outside.new.stores ≡ outside.old.stores }
     ensures ambient { outside.new.ambient ≡ outside.old.ambient }
 {
     match read_words(words) {
-        Asked::Serve => serve(alloc, &mut outside.main, &mut outside.moments, source, sink),
-        Asked::Init { zone, admin } => init(
-            alloc,
-            zone,
-            admin,
-            &mut outside.main,
-            &mut outside.spare,
-            &mut outside.moments,
-            sink,
-        ),
+        Asked::Serve => serve(alloc, outside, source, sink),
+        Asked::Init { zone, admin } => init(alloc, zone, admin, outside, sink),
         Asked::Nothing => say(
             &mut outside.moments,
             sink,
@@ -110,90 +114,184 @@ fn say<K: Sink>(moments: &mut Moments, sink: &mut K, line: &[u8], status: Status
     }
 }
 
-// Answers the requests of the source over the catalogue on main.
-fn serve<D: Disk, S: Source, K: Sink>(
+// Answers the requests of the source over the catalogue on the disks.
+fn serve<D: Disk, S: Source, K: Sink, A: Ambient>(
     alloc: Global,
-    main: &mut D,
-    moments: &mut Moments,
+    outside: &mut Outside<D, A>,
     source: &mut S,
     sink: &mut K,
 ) -> Status
-    requires main_last { (D.disk main.old).last ≤ moments.old }
-    requires sink_last { (K.sink sink.old).last ≤ moments.old }
-    requires room { moments.old + 2 ^ 60 < 2 ^ 128 }
-    ensures serve { (found : Grid) → IsTrue (D.disk main.old).tells → IsTrue (S.source source.old).tells → Stands (D.disk main.old).holds (Ok found) →
-        Serves found (D.disk main.old) (D.disk main.new) (S.source source.old) (S.source source.new) (K.sink sink.old) (K.sink sink.new) result }
-    ensures refuses { (place : ℕ) → IsTrue (D.disk main.old).tells → Stands (D.disk main.old).holds (Err place) → Refuses place (K.sink sink.old) (K.sink sink.new) result }
-    ensures refuses_main { (place : ℕ) → IsTrue (D.disk main.old).tells → Stands (D.disk main.old).holds (Err place) → Stays (D.disk main.old) (D.disk main.new) }
-    ensures refuses_source { (place : ℕ) → IsTrue (D.disk main.old).tells → Stands (D.disk main.old).holds (Err place) → source.new ≡ source.old }
-    ensures not_a_catalogue { (side : Side) (place : ℕ) → result ≡ Status.NotACatalogue side place → IsTrue (D.disk main.old).tells → (side ≡ Side.Main) × Stands (D.disk main.old).holds (Err place) }
-    ensures disk { result ≡ Status.DiskFault → Rose (D.disk main.old).faults (D.disk main.new).faults }
+    requires main_last { (D.disk outside.old.main).last ≤ outside.old.moments }
+    requires sink_last { (K.sink sink.old).last ≤ outside.old.moments }
+    requires room { outside.old.moments + 2 ^ 61 < 2 ^ 128 }
+    requires stores { (0 < vec_len outside.old.stores) × (vec_len outside.old.stores ≤ 16) }
+    ensures serve { (found : Cat) → IsTrue (D.disk outside.old.main).tells → IsTrue (S.source source.old).tells →
+        Stands (D.disk outside.old.main).holds (D.disk outside.old.spare).holds (Ok found) → found.stores ≡ vec_len outside.old.stores →
+        Serves found outside.old.moments (D.disk outside.old.main) (D.disk outside.new.main) (S.source source.old) (S.source source.new) (K.sink sink.old) (K.sink sink.new) result }
+    ensures stores { (found : Cat) → IsTrue (D.disk outside.old.main).tells →
+        Stands (D.disk outside.old.main).holds (D.disk outside.old.spare).holds (Ok found) → found.stores ≢ vec_len outside.old.stores →
+        RefusesStores found.stores (vec_len outside.old.stores) (K.sink sink.old) (K.sink sink.new) result × Rests (D.disk outside.old.main) (D.disk outside.new.main) × (source.new ≡ source.old) }
+    ensures stores_only { (had given : ℕ) → result ≡ Status.Stores had given → (had ≢ given) × (given ≡ vec_len outside.old.stores) }
+    ensures refuses { (side : Side) (place : ℕ) → IsTrue (D.disk outside.old.main).tells →
+        Stands (D.disk outside.old.main).holds (D.disk outside.old.spare).holds (Err (side, place)) →
+        Refuses side place (K.sink sink.old) (K.sink sink.new) result × Rests (D.disk outside.old.main) (D.disk outside.new.main) × (source.new ≡ source.old) }
+    ensures not_a_catalogue { (side : Side) (place : ℕ) → result ≡ Status.NotACatalogue side place → IsTrue (D.disk outside.old.main).tells →
+        Stands (D.disk outside.old.main).holds (D.disk outside.old.spare).holds (Err (side, place)) }
+    ensures disk { result ≡ Status.DiskFault → Rose (D.disk outside.old.main).faults (D.disk outside.new.main).faults }
     ensures source { result ≡ Status.SourceFault → Rose (S.source source.old).faults (S.source source.new).faults }
     ensures sink { result ≡ Status.SinkFault → Rose (K.sink sink.old).faults (K.sink sink.new).faults }
     ensures words { (result ≡ Status.Usage) → ⊥ }
+    ensures spare { outside.new.spare ≡ outside.old.spare }
+    ensures other_stores { outside.new.stores ≡ outside.old.stores }
+    ensures ambient { outside.new.ambient ≡ outside.old.ambient }
 {
-    match open(alloc, main) {
-        Ok(server) => serve_all(alloc, server, main, moments, source, sink),
-        Err(OpenError::NotACatalogue { at }) => refuse(alloc, moments, sink, at),
-        Err(OpenError::Disk) => Status::DiskFault,
-        Err(OpenError::Memory) => Status::Memory,
+    match Store::open(alloc, &mut outside.main, &mut outside.spare) {
+        Ok(store) => serve_over(alloc, store, outside, source, sink),
+        Err(JournalError::NotACatalogue { side, at }) => {
+            refuse(alloc, &mut outside.moments, sink, side, at)
+        }
+        Err(JournalError::DiskFault) => Status::DiskFault,
+        Err(JournalError::Memory) => Status::Memory,
+        Err(JournalError::NotEmpty { side: _, len: _ }) => unreachable!(),
+        Err(JournalError::Worn { what: _, at: _ }) => unreachable!(),
     }
 }
 
-// Says that main is no catalogue from this place on.
-fn refuse<K: Sink>(alloc: Global, moments: &mut Moments, sink: &mut K, at: u64) -> Status
-    requires sink_last { (K.sink sink.old).last ≤ moments.old }
-    requires room { moments.old + 1 < 2 ^ 128 }
-    ensures refuses { Refuses at (K.sink sink.old) (K.sink sink.new) result }
-    ensures ends { (result ≡ Status.NotACatalogue Side.Main at) ⊎ (result ≡ Status.Memory) ⊎ (result ≡ Status.SinkFault) }
-    ensures fault { result ≡ Status.SinkFault → Rose (K.sink sink.old).faults (K.sink sink.new).faults }
+// Answers the requests of the source over a catalogue that was read.
+fn serve_over<D: Disk, S: Source, K: Sink, A: Ambient>(
+    alloc: Global,
+    store: Store,
+    outside: &mut Outside<D, A>,
+    source: &mut S,
+    sink: &mut K,
+) -> Status
+    requires sound { IsTrue store.sound }
+    requires staged { store.staged ≡ [] }
+    requires keeps { IsTrue (D.disk outside.old.main).tells → Keeps store.cat store (D.disk outside.old.main).holds }
+    requires paths { HasPaths store.cat }
+    requires vault { 0 < store.cat.numbers.next_vault }
+    requires main_last { (D.disk outside.old.main).last ≤ outside.old.moments }
+    requires sink_last { (K.sink sink.old).last ≤ outside.old.moments }
+    requires room { outside.old.moments + 2 ^ 61 < 2 ^ 128 }
+    requires stores { (0 < vec_len outside.old.stores) × (vec_len outside.old.stores ≤ 16) }
+    ensures serve { IsTrue (D.disk outside.old.main).tells → IsTrue (S.source source.old).tells → store.cat.stores ≡ vec_len outside.old.stores →
+        Serves store.cat outside.old.moments (D.disk outside.old.main) (D.disk outside.new.main) (S.source source.old) (S.source source.new) (K.sink sink.old) (K.sink sink.new) result }
+    ensures stores { store.cat.stores ≢ vec_len outside.old.stores →
+        RefusesStores store.cat.stores (vec_len outside.old.stores) (K.sink sink.old) (K.sink sink.new) result × (outside.new.main ≡ outside.old.main) × (source.new ≡ source.old) }
+    ensures stores_only { (had given : ℕ) → result ≡ Status.Stores had given → (had ≢ given) × (given ≡ vec_len outside.old.stores) }
+    ensures disk { result ≡ Status.DiskFault → Rose (D.disk outside.old.main).faults (D.disk outside.new.main).faults }
+    ensures source { result ≡ Status.SourceFault → Rose (S.source source.old).faults (S.source source.new).faults }
+    ensures sink { result ≡ Status.SinkFault → Rose (K.sink sink.old).faults (K.sink sink.new).faults }
+    ensures words { (result ≡ Status.Usage) → ⊥ }
+    ensures not_a_catalogue { (side : Side) (place : ℕ) → ¬ (result ≡ Status.NotACatalogue side place) }
+    ensures spare { outside.new.spare ≡ outside.old.spare }
+    ensures other_stores { outside.new.stores ≡ outside.old.stores }
+    ensures ambient { outside.new.ambient ≡ outside.old.ambient }
 {
-    let Ok(line) = not_a_catalogue_line(alloc, at) else {
-        return Status::Memory;
-    };
-    say(
-        moments,
-        sink,
-        &line,
-        Status::NotACatalogue {
-            side: Side::Main,
+    let kept = store.tables().stores();
+    let given = outside.stores.len() as u8;
+    if kept != given {
+        return refuse_stores(alloc, &mut outside.moments, sink, kept, given);
+    }
+    match begin_run(alloc, store, outside) {
+        Ok(server) => serve_all(alloc, server, outside, source, sink),
+        Err(BeginError::Runs { at }) => Status::Worn {
+            what: Wear::Runs,
             at,
         },
-    )
+        Err(BeginError::Log { at }) => Status::Worn {
+            what: Wear::Log,
+            at,
+        },
+        Err(BeginError::Disk) => Status::DiskFault,
+        Err(BeginError::Memory) => Status::Memory,
+    }
+}
+
+// Says that the disks hold no catalogue, which shows at this place.
+fn refuse<K: Sink>(
+    alloc: Global,
+    moments: &mut Moments,
+    sink: &mut K,
+    side: Side,
+    at: u64,
+) -> Status
+    requires sink_last { (K.sink sink.old).last ≤ moments.old }
+    requires room { moments.old + 1 < 2 ^ 128 }
+    ensures refuses { Refuses side at (K.sink sink.old) (K.sink sink.new) result }
+    ensures ends { (result ≡ Status.NotACatalogue side at) ⊎ (result ≡ Status.Memory) ⊎ (result ≡ Status.SinkFault) }
+    ensures fault { result ≡ Status.SinkFault → Rose (K.sink sink.old).faults (K.sink sink.new).faults }
+{
+    let Ok(line) = not_a_catalogue_line(alloc, side, at) else {
+        return Status::Memory;
+    };
+    say(moments, sink, &line, Status::NotACatalogue { side, at })
+}
+
+// Says that the catalogue is of another number of stores.
+fn refuse_stores<K: Sink>(
+    alloc: Global,
+    moments: &mut Moments,
+    sink: &mut K,
+    kept: u8,
+    given: u8,
+) -> Status
+    requires sink_last { (K.sink sink.old).last ≤ moments.old }
+    requires room { moments.old + 1 < 2 ^ 128 }
+    ensures refuses { RefusesStores kept given (K.sink sink.old) (K.sink sink.new) result }
+    ensures ends { (result ≡ Status.Stores kept given) ⊎ (result ≡ Status.Memory) ⊎ (result ≡ Status.SinkFault) }
+    ensures fault { result ≡ Status.SinkFault → Rose (K.sink sink.old).faults (K.sink sink.new).faults }
+{
+    let Ok(line) = stores_line(alloc, kept, given) else {
+        return Status::Memory;
+    };
+    say(moments, sink, &line, Status::Stores { kept, given })
 }
 
 // Begins a grid and says so, or why not.
-fn init<D: Disk, K: Sink>(
+fn init<D: Disk, K: Sink, A: Ambient>(
     alloc: Global,
     zone: &Text,
     admin: &Text,
-    main: &mut D,
-    spare: &mut D,
-    moments: &mut Moments,
+    outside: &mut Outside<D, A>,
     sink: &mut K,
 ) -> Status
-    requires main_last { (D.disk main.old).last ≤ moments.old }
-    requires sink_last { (K.sink sink.old).last ≤ moments.old }
-    requires room { moments.old + 3 < 2 ^ 128 }
-    ensures inits { Inits zone.now admin.now (D.disk main.old) (D.disk main.new) (D.disk spare.old) (K.sink sink.old) (K.sink sink.new) result }
-    ensures spare { Looks (D.disk spare.old) (D.disk spare.new) }
-    ensures disk { result ≡ Status.DiskFault → Rose (D.disk main.old).faults (D.disk main.new).faults ⊎ Rose (D.disk spare.old).faults (D.disk spare.new).faults }
+    requires zone { IsTrue (is_name zone.now) }
+    requires admin { IsTrue (is_name admin.now) }
+    requires not_public { admin.now ≢ everybody }
+    requires main_last { (D.disk outside.old.main).last ≤ outside.old.moments }
+    requires sink_last { (K.sink sink.old).last ≤ outside.old.moments }
+    requires room { outside.old.moments + 3 < 2 ^ 128 }
+    requires stores { (0 < vec_len outside.old.stores) × (vec_len outside.old.stores ≤ 16) }
+    ensures inits { Inits zone.now admin.now (vec_len outside.old.stores) (D.disk outside.old.main) (D.disk outside.new.main) (D.disk outside.old.spare) (K.sink sink.old) (K.sink sink.new) result }
+    ensures spare { Looks (D.disk outside.old.spare) (D.disk outside.new.spare) }
+    ensures disk { result ≡ Status.DiskFault → Rose (D.disk outside.old.main).faults (D.disk outside.new.main).faults ⊎ Rose (D.disk outside.old.spare).faults (D.disk outside.new.spare).faults }
     ensures sink { result ≡ Status.SinkFault → Rose (K.sink sink.old).faults (K.sink sink.new).faults }
     ensures words { (result ≡ Status.Usage) → ⊥ }
     ensures source { (result ≡ Status.SourceFault) → ⊥ }
+    ensures catalogue { (side : Side) (place : ℕ) → ¬ (result ≡ Status.NotACatalogue side place) }
+    ensures no_stores { (had given : ℕ) → ¬ (result ≡ Status.Stores had given) }
+    ensures other_stores { outside.new.stores ≡ outside.old.stores }
+    ensures ambient { outside.new.ambient ≡ outside.old.ambient }
 {
-    match start_catalogue(
+    let stores = outside.stores.len() as u8;
+    match Store::init(
         alloc,
-        zone.as_slice(),
-        admin.as_slice(),
-        main,
-        spare,
-        moments,
+        &mut outside.main,
+        &mut outside.spare,
+        &mut outside.moments,
+        zone,
+        admin,
+        stores,
     ) {
-        Ok(()) => say(moments, sink, b"ok\n", Status::Done),
-        Err(StartError::NotEmpty { side, len }) => refuse_start(alloc, moments, sink, side, len),
-        Err(StartError::Disk) => Status::DiskFault,
-        Err(StartError::Memory) => Status::Memory,
+        Ok(()) => say(&mut outside.moments, sink, b"ok\n", Status::Done),
+        Err(JournalError::NotEmpty { side, len }) => {
+            refuse_start(alloc, &mut outside.moments, sink, side, len)
+        }
+        Err(JournalError::DiskFault) => Status::DiskFault,
+        Err(JournalError::Memory) => Status::Memory,
+        Err(JournalError::NotACatalogue { side: _, at: _ }) => unreachable!(),
+        Err(JournalError::Worn { what: _, at: _ }) => unreachable!(),
     }
 }
 
@@ -216,23 +314,41 @@ fn refuse_start<K: Sink>(
     say(moments, sink, &line, Status::NotEmpty { side, len })
 }
 
-fn not_a_catalogue_line(alloc: Global, at: u64) -> Result<Vec<u8>, AllocError>
-    ensures { IfOk result (λ line. line.items ≡ not_a_catalogue_text at) }
+fn not_a_catalogue_line(alloc: Global, side: Side, at: u64) -> Result<Vec<u8>, AllocError>
+    ensures { IfOk result (λ line. line.items ≡ not_a_catalogue_text side at) }
 {
-    let mut line = b"err NotACatalogue main ".to_vec(alloc)?;
+    let mut line = b"err NotACatalogue ".to_vec(alloc)?;
+    line.extend_from_slice(side_name(side))?;
     line.extend_from_slice(at.to_string(alloc)?.as_bytes())?;
     line.extend_from_slice(b"\n")?;
     Ok(line)
+}
+
+fn stores_line(alloc: Global, kept: u8, given: u8) -> Result<Vec<u8>, AllocError>
+    ensures { IfOk result (λ line. line.items ≡ stores_text kept given) }
+{
+    let mut line = b"err Stores ".to_vec(alloc)?;
+    line.extend_from_slice(kept.to_string(alloc)?.as_bytes())?;
+    line.extend_from_slice(b" ")?;
+    line.extend_from_slice(given.to_string(alloc)?.as_bytes())?;
+    line.extend_from_slice(b"\n")?;
+    Ok(line)
+}
+
+fn side_name(side: Side) -> &'static [u8]
+    ensures { result.now ≡ side_text side }
+{
+    match side {
+        Side::Main => b"main ",
+        Side::Spare => b"spare ",
+    }
 }
 
 fn not_empty_line(alloc: Global, side: Side, len: u64) -> Result<Vec<u8>, AllocError>
     ensures { IfOk result (λ line. line.items ≡ not_empty_text side len) }
 {
     let mut line = b"err NotEmpty ".to_vec(alloc)?;
-    match side {
-        Side::Main => line.extend_from_slice(b"main ")?,
-        Side::Spare => line.extend_from_slice(b"spare ")?,
-    }
+    line.extend_from_slice(side_name(side))?;
     line.extend_from_slice(len.to_string(alloc)?.as_bytes())?;
     line.extend_from_slice(b"\n")?;
     Ok(line)

@@ -1,21 +1,21 @@
-ghost use Rattle.std.specs.Prelude.{◌≡◌, ◌+◌, ◌^◌, ◌<◌, ◌≤◌, ◌++◌, length, [], IsTrue, IfOk, OnOk, OnErr, Ok, Some, IsErrOf};
-ghost use Rattle.grid_outside.specs.Fault.{HasCause, Rose};
-ghost use Rattle.grid_outside.specs.Device.{IsSettled};
-ghost use Rattle.grid_server.specs.Answering.{AddsTail};
-ghost use Rattle.grid_model.specs.Commands.{command};
+ghost use Rattle.std.specs.Prelude.{Result as ResultOf, ◌≡◌, ◌+◌, ◌^◌, ◌<◌, ◌≤◌, ◌∷◌, [], List, IsTrue, IfOk, IsErrOf};
+ghost use Rattle.grid_outside.specs.Fault.{Rose};
+ghost use Rattle.grid_model.specs.Names.{Path as PathOf, is_name};
+ghost use Rattle.grid_model.specs.Deltas.{text};
+ghost use Rattle.grid_model.specs.Gridding.{IsNewAt};
 ghost use Rattle.grid_model.specs.Replies.{reply};
-ghost use Rattle.grid_model.specs.Catalogue.{kept_line, path_line as path_line_of};
-ghost use Rattle.grid_server.specs.declared.server.Stop.TheVariants.{Disk as DiskFailed, Memory as NoMemory};
+ghost use Rattle.grid_server.specs.Stopping.{IsOfCommit, stop_of};
+ghost use Rattle.grid_server.specs.Deciding.{answer_of};
 
-use crate::catalogue::path_line;
-use crate::grid::Grid;
+use crate::decision::Decision;
 use cmd_reply::rest;
-use grid_model::{End, Marks, Passeds, Path, Refusal, Reply, Rows, Text, Texts, Verb};
-use grid_outside::{Disk, DiskFault, Moments, Sink, SinkFault};
+use grid_journal::{JournalError, Store};
+use grid_model::{
+    CollectionRow, Delta, Deltas, End, Marks, Numbers, Passeds, Refusal, Reply, Rows, Text, Texts,
+    Verb,
+};
+use grid_outside::{Ambient, Disk, Outside, Sink, SinkFault};
 use std::alloc::{AllocError, Global};
-
-/// How many bytes a catalogue has at most to which a line is added.
-const LONGEST_CATALOGUE: u64 = 1 << 62;
 
 /// Why a run ends in the middle of a request.
 #[derive(Clone, Copy, Debug, PartialEq, Eq)]
@@ -23,205 +23,203 @@ pub(crate) enum Stop {
     Disk,
     Sink,
     Memory,
-    /// The catalogue has this many bytes, too many for one more line.
+    /// The closing gate of the catalogue's log stands here, too far for one more record.
     Worn { at: u64 },
 }
 
-impl From<DiskFault> for Stop {
-    ghost from_gives = { λ _ e. e ≡ DiskFailed };
-
-    fn from(_: DiskFault) -> Self {
-        Stop::Disk
-    }
-}
-
-impl From<AllocError> for Stop {
-    ghost from_gives = { λ _ e. e ≡ NoMemory };
-
-    fn from(_: AllocError) -> Self {
-        Stop::Memory
-    }
-}
-
-/// The grid with its session, and how many bytes its catalogue has.
+/// The catalogue with its session.
 #[derive(Drop)]
 pub(crate) struct Server {
-    pub(crate) grid: Grid,
+    pub(crate) store: Store,
     pub(crate) logged_in: bool,
-    pub(crate) size: u64,
 }
 
 impl Server {
-    ghost use Rattle.grid_server.specs.Answering.{state_of, Keeps, Makes, Answers};
+    ghost use Rattle.grid_server.specs.Held.{IsHeld};
+    ghost use Rattle.grid_server.specs.Answering.{Answers, Carries, Makes, Decides};
 
-    /// Answers a request: it is done, what it changed is kept, and then the reply is written.
+    /// Answers a request: it is decided, what it changes is kept, and then the reply is written.
     /// `Disk` and `Sink` come only where that device failed.
-    pub(crate) fn answer<D: Disk, K: Sink>(
+    pub(crate) fn answer<D: Disk, K: Sink, A: Ambient>(
         &mut self,
         alloc: Global,
-        main: &mut D,
-        moments: &mut Moments,
+        outside: &mut Outside<D, A>,
         sink: &mut K,
         number: u64,
         asked: Result<Verb, Refusal>,
     ) -> Result<(), Stop>
-        requires main_last { (D.disk main.old).last ≤ moments.old }
-        requires sink_last { (K.sink sink.old).last ≤ moments.old }
-        requires room { moments.old + 3 < 2 ^ 128 }
-        requires size { IsTrue (D.disk main.old).tells → length (D.disk main.old).holds ≡ self.old.size }
-        requires short { length (kept_line (command (state_of self.old) asked)) ≤ 2 ^ 62 }
-        ensures answers { Answers self.old asked number (D.disk main.old) (D.disk main.new) (K.sink sink.old) (K.sink sink.new) result self.new }
-        ensures main_tells { (D.disk main.new).tells ≡ (D.disk main.old).tells }
-        ensures sink_tells { (K.sink sink.new).tells ≡ (K.sink sink.old).tells }
-        ensures main_last { (D.disk main.new).last ≤ moments.new }
-        ensures sink_last { (K.sink sink.new).last ≤ moments.new }
-        ensures main_later { (D.disk main.old).faults ≤ (D.disk main.new).faults }
-        ensures sink_later { (K.sink sink.old).faults ≤ (K.sink sink.new).faults }
-        ensures disk { IsErrOf result Stop.Disk → Rose (D.disk main.old).faults (D.disk main.new).faults }
+        requires held { IsHeld (D.disk outside.old.main) self.old }
+        requires main_last { (D.disk outside.old.main).last ≤ outside.old.moments }
+        requires sink_last { (K.sink sink.old).last ≤ outside.old.moments }
+        requires room { outside.old.moments + 5 < 2 ^ 128 }
+        ensures answers { Answers self.old asked number outside.old.moments (D.disk outside.old.main) (D.disk outside.new.main) (K.sink sink.old) (K.sink sink.new) result self.new }
+        ensures main_last { (D.disk outside.new.main).last ≤ outside.new.moments }
+        ensures sink_last { (K.sink sink.new).last ≤ outside.new.moments }
+        ensures disk { IsErrOf result Stop.Disk → Rose (D.disk outside.old.main).faults (D.disk outside.new.main).faults }
         ensures sink { IsErrOf result Stop.Sink → Rose (K.sink sink.old).faults (K.sink sink.new).faults }
-        ensures drawn { moments.new ≤ moments.old + 3 }
+        ensures drawn_from { outside.old.moments ≤ outside.new.moments }
+        ensures drawn { outside.new.moments ≤ outside.old.moments + 5 }
+        ensures spare { outside.new.spare ≡ outside.old.spare }
+        ensures stores { outside.new.stores ≡ outside.old.stores }
+        ensures ambient { outside.new.ambient ≡ outside.old.ambient }
     {
-        let answer = self.judge(alloc, &asked)?;
-        let text = reply_line(alloc, number, &answer)?;
-        match self.keep(alloc, main, moments, asked, &answer) {
+        match self.decide(alloc, asked) {
+            Ok(decision) => self.reply(alloc, outside, sink, number, decision),
+            Err(_) => Err(Stop::Memory),
+        }
+    }
+
+    // Keeps what was decided, and then writes the reply.
+    fn reply<D: Disk, K: Sink, A: Ambient>(
+        &mut self,
+        alloc: Global,
+        outside: &mut Outside<D, A>,
+        sink: &mut K,
+        number: u64,
+        decision: Decision,
+    ) -> Result<(), Stop>
+        requires held { IsHeld (D.disk outside.old.main) self.old }
+        requires decided { (asked : ResultOf Verb Refusal) × Decides self.old asked decision }
+        requires main_last { (D.disk outside.old.main).last ≤ outside.old.moments }
+        requires sink_last { (K.sink sink.old).last ≤ outside.old.moments }
+        requires room { outside.old.moments + 5 < 2 ^ 128 }
+        ensures answers { (asked : ResultOf Verb Refusal) → Decides self.old asked decision →
+            Answers self.old asked number outside.old.moments (D.disk outside.old.main) (D.disk outside.new.main) (K.sink sink.old) (K.sink sink.new) result self.new }
+        ensures main_last { (D.disk outside.new.main).last ≤ outside.new.moments }
+        ensures sink_last { (K.sink sink.new).last ≤ outside.new.moments }
+        ensures disk { IsErrOf result Stop.Disk → Rose (D.disk outside.old.main).faults (D.disk outside.new.main).faults }
+        ensures sink { IsErrOf result Stop.Sink → Rose (K.sink sink.old).faults (K.sink sink.new).faults }
+        ensures drawn_from { outside.old.moments ≤ outside.new.moments }
+        ensures drawn { outside.new.moments ≤ outside.old.moments + 5 }
+        ensures spare { outside.new.spare ≡ outside.old.spare }
+        ensures stores { outside.new.stores ≡ outside.old.stores }
+        ensures ambient { outside.new.ambient ≡ outside.old.ambient }
+    {
+        let Ok(text) = reply_line(alloc, number, &decision) else {
+            return Err(Stop::Memory);
+        };
+        match self.carry_out(alloc, outside, number, decision) {
             Ok(()) => {}
             Err(stop) => return Err(stop),
         }
-        match sink.put(moments.next(), text.as_slice()) {
+        match sink.put(outside.moments.next(), text.as_slice()) {
             Ok(()) => Ok(()),
             Err(SinkFault) => Err(Stop::Sink),
         }
     }
 
-    // What is answered to a request, before anything is done. Fails for want of memory alone.
-    fn judge(
-        &self,
-        alloc: Global,
-        asked: &Result<Verb, Refusal>,
-    ) -> Result<Result<(), Refusal>, AllocError>
-        ensures { IfOk result (λ answer. answer ≡ (command (state_of self.now) asked.now).answer) }
-    {
-        match asked {
-            Err(refusal) => Ok(Err(*refusal)),
-            Ok(Verb::Login { user }) => {
-                if *user == self.grid.admin {
-                    return Ok(Ok(()));
-                }
-                Ok(Err(Refusal::NoUser))
-            }
-            Ok(Verb::MkDir { path }) => {
-                if !self.logged_in {
-                    return Ok(Err(Refusal::NoLogin));
-                }
-                if self.grid.contains(path) {
-                    return Ok(Err(Refusal::Exists));
-                }
-                if !self.grid.has_parent(alloc, path)? {
-                    return Ok(Err(Refusal::NoCollection));
-                }
-                Ok(Ok(()))
-            }
-        }
-    }
-
-    // Does a request that is answered so, and keeps what it changes.
-    fn keep<D: Disk>(
+    // Does what was decided and keeps what it changes.
+    fn carry_out<D: Disk, A: Ambient>(
         &mut self,
         alloc: Global,
-        main: &mut D,
-        moments: &mut Moments,
-        asked: Result<Verb, Refusal>,
-        answer: &Result<(), Refusal>,
+        outside: &mut Outside<D, A>,
+        number: u64,
+        decision: Decision,
     ) -> Result<(), Stop>
-        requires judged { answer.now ≡ (command (state_of self.old) asked).answer }
-        requires short { length (kept_line (command (state_of self.old) asked)) ≤ 2 ^ 62 }
-        requires main_last { (D.disk main.old).last ≤ moments.old }
-        requires room { moments.old + 2 < 2 ^ 128 }
-        requires size { IsTrue (D.disk main.old).tells → length (D.disk main.old).holds ≡ self.old.size }
-        ensures keeps { Keeps self.old (command (state_of self.old) asked) (D.disk main.old) (D.disk main.new) result self.new }
-        ensures main_tells { (D.disk main.new).tells ≡ (D.disk main.old).tells }
-        ensures main_last { (D.disk main.new).last ≤ moments.new }
-        ensures main_later { (D.disk main.old).faults ≤ (D.disk main.new).faults }
-        ensures disk { IsErrOf result Stop.Disk → Rose (D.disk main.old).faults (D.disk main.new).faults }
-        ensures drawn_from { moments.old ≤ moments.new }
-        ensures drawn { moments.new ≤ moments.old + 2 }
+        requires held { IsHeld (D.disk outside.old.main) self.old }
+        requires decided { (asked : ResultOf Verb Refusal) × Decides self.old asked decision }
+        requires main_last { (D.disk outside.old.main).last ≤ outside.old.moments }
+        requires room { outside.old.moments + 4 < 2 ^ 128 }
+        ensures carries { (asked : ResultOf Verb Refusal) → Decides self.old asked decision → Carries self.old asked number outside.old.moments (D.disk outside.old.main) (D.disk outside.new.main) result self.new }
+        ensures main_last { (D.disk outside.new.main).last ≤ outside.new.moments }
+        ensures disk { IsErrOf result Stop.Disk → Rose (D.disk outside.old.main).faults (D.disk outside.new.main).faults }
+        ensures sink { (IsErrOf result Stop.Sink) → ⊥ }
+        ensures drawn_from { outside.old.moments ≤ outside.new.moments }
+        ensures drawn { outside.new.moments ≤ outside.old.moments + 4 }
+        ensures spare { outside.new.spare ≡ outside.old.spare }
+        ensures stores { outside.new.stores ≡ outside.old.stores }
+        ensures ambient { outside.new.ambient ≡ outside.old.ambient }
     {
-        if answer.is_err() {
-            return Ok(());
-        }
-        match asked {
-            Err(_) => Ok(()),
-            Ok(Verb::Login { user: _ }) => {
+        match decision {
+            Decision::Refuse(_) => Ok(()),
+            Decision::LogIn => {
                 self.logged_in = true;
                 Ok(())
             }
-            Ok(Verb::MkDir { path }) => self.make(alloc, main, moments, path),
+            Decision::Make(row) => self.make(alloc, outside, number, row),
         }
     }
 
-    // Makes a collection: its line is written at the end of the catalogue and synced.
-    fn make<D: Disk>(
+    // Makes a collection: its row and the number of the request are committed.
+    fn make<D: Disk, A: Ambient>(
         &mut self,
         alloc: Global,
-        main: &mut D,
-        moments: &mut Moments,
-        path: Path,
+        outside: &mut Outside<D, A>,
+        number: u64,
+        row: CollectionRow,
     ) -> Result<(), Stop>
-        requires short { length (path_line_of path) ≤ 2 ^ 62 }
-        requires main_last { (D.disk main.old).last ≤ moments.old }
-        requires room { moments.old + 2 < 2 ^ 128 }
-        requires size { IsTrue (D.disk main.old).tells → length (D.disk main.old).holds ≡ self.old.size }
-        ensures makes { Makes self.old path (D.disk main.old) (D.disk main.new) result self.new }
-        ensures main_tells { (D.disk main.new).tells ≡ (D.disk main.old).tells }
-        ensures main_last { (D.disk main.new).last ≤ moments.new }
-        ensures main_later { (D.disk main.old).faults ≤ (D.disk main.new).faults }
-        ensures disk { IsErrOf result Stop.Disk → Rose (D.disk main.old).faults (D.disk main.new).faults }
-        ensures drawn_from { moments.old ≤ moments.new }
-        ensures drawn { moments.new ≤ moments.old + 2 }
+        requires held { IsHeld (D.disk outside.old.main) self.old }
+        requires row { (p : PathOf) × IsNewAt self.old.store.cat row p }
+        requires main_last { (D.disk outside.old.main).last ≤ outside.old.moments }
+        requires room { outside.old.moments + 4 < 2 ^ 128 }
+        ensures makes { Makes self.old row number outside.old.moments (D.disk outside.old.main) (D.disk outside.new.main) result self.new }
+        ensures main_last { (D.disk outside.new.main).last ≤ outside.new.moments }
+        ensures disk { IsErrOf result Stop.Disk → Rose (D.disk outside.old.main).faults (D.disk outside.new.main).faults }
+        ensures drawn_from { outside.old.moments ≤ outside.new.moments }
+        ensures drawn { outside.new.moments ≤ outside.old.moments + 4 }
+        ensures spare { outside.new.spare ≡ outside.old.spare }
+        ensures stores { outside.new.stores ≡ outside.old.stores }
+        ensures ambient { outside.new.ambient ≡ outside.old.ambient }
     {
-        if self.size > LONGEST_CATALOGUE {
-            return Err(Stop::Worn { at: self.size });
+        let numbers = Numbers {
+            last: number,
+            ..self.store.tables().numbers()
+        };
+        name_is_text(row.name.as_slice());
+        let Ok(deltas) = both(alloc, Delta::Collection(row), Delta::Numbers(numbers)) else {
+            return Err(Stop::Memory);
+        };
+        match self.store.commit(
+            alloc,
+            &mut outside.main,
+            &mut outside.spare,
+            &mut outside.moments,
+            deltas,
+        ) {
+            Ok(()) => {
+                self.store.tables().in_order();
+                Ok(())
+            }
+            Err(error) => Err(stop_of(error)),
         }
-        let line = path_line(alloc, &path)?;
-        self.grid.add(path)?;
-        append(main, moments, self.size, &line)?;
-        self.size += line.len() as u64;
-        Ok(())
     }
 }
 
-/// Writes bytes at the end of a disk that has so many bytes, and makes them last.
-pub(crate) fn append<D: Disk>(
-    main: &mut D,
-    moments: &mut Moments,
-    size: u64,
-    bytes: &[u8],
-) -> Result<(), DiskFault>
-    requires main_last { (D.disk main.old).last ≤ moments.old }
-    requires room { moments.old + 2 < 2 ^ 128 }
-    requires size { IsTrue (D.disk main.old).tells → length (D.disk main.old).holds ≡ size }
-    requires fits { size + length bytes.now ≤ 2 ^ 63 }
-    ensures added { OnOk result (IsTrue (D.disk main.old).tells → (D.disk main.new).holds ≡ (D.disk main.old).holds ++ bytes.now) }
-    ensures settled { OnOk result (IsTrue (D.disk main.old).tells → IsSettled (D.disk main.new)) }
-    ensures part { OnErr result (AddsTail bytes.now (D.disk main.old) (D.disk main.new)) }
-    ensures main_tells { (D.disk main.new).tells ≡ (D.disk main.old).tells }
-    ensures main_last { (D.disk main.new).last ≤ moments.new }
-    ensures cause { HasCause (D.disk main.old).faults (D.disk main.new).faults result }
-    ensures drawn_from { moments.old ≤ moments.new }
-    ensures drawn { moments.new ≤ moments.old + 2 }
+// These two changes. Fails for want of memory alone.
+fn both(alloc: Global, first: Delta, then: Delta) -> Result<Deltas, AllocError>
+    ensures { IfOk result (λ deltas. deltas ≡ first ∷ then ∷ []) }
 {
-    main.write_at(moments.next(), size, bytes)?;
-    main.sync(moments.next())?;
-    Ok(())
+    let deltas = vec![in alloc; first, then]?;
+    Ok(Deltas::from_vec(deltas))
 }
 
-// The reply to the request of this number.
-fn reply_line(alloc: Global, number: u64, answer: &Result<(), Refusal>) -> Result<Text, AllocError>
-    ensures { IfOk result (λ text. text ≡ reply number answer.now) }
+// What stops a run whose commit failed so.
+fn stop_of(error: JournalError) -> Stop
+    requires { IsOfCommit error }
+    ensures { result ≡ stop_of error }
 {
-    let end = match answer {
-        Ok(()) => End::Done(Texts::from_vec(Vec::new(alloc))),
-        Err(refusal) => End::Refused(*refusal),
+    match error {
+        JournalError::Memory => Stop::Memory,
+        JournalError::DiskFault => Stop::Disk,
+        JournalError::Worn { what: _, at } => Stop::Worn { at },
+        JournalError::NotEmpty { side: _, len: _ } => unreachable!(),
+        JournalError::NotACatalogue { side: _, at: _ } => unreachable!(),
+    }
+}
+
+// A name may stand as a text in the catalogue. It does nothing.
+fn name_is_text(name: &[u8])
+    requires { IsTrue (is_name name.now) }
+    ensures { IsTrue (text name.now).fits }
+{}
+
+// The reply to the request of this number that comes to this.
+fn reply_line(alloc: Global, number: u64, decision: &Decision) -> Result<Text, AllocError>
+    ensures { IfOk result (λ text. text ≡ reply number (answer_of decision.now)) }
+{
+    let end = match decision {
+        Decision::Refuse(refusal) => End::Refused(*refusal),
+        Decision::LogIn | Decision::Make(_) => End::Done(Texts::from_vec(Vec::new(alloc))),
     };
     rest(alloc, number, &of_end(alloc, end))
 }

@@ -8,10 +8,12 @@ pub enum Status {
     Done,
     /// The words ask for nothing that is built.
     Usage,
-    /// The disks hold no catalogue. `at` is the place of the first line that is wrong.
+    /// The disks hold no catalogue. `at` is the place on that disk where this shows.
     NotACatalogue { side: Side, at: u64 },
     /// A grid was to be begun on a disk that has `len` bytes.
     NotEmpty { side: Side, len: u64 },
+    /// The catalogue is of a grid with `kept` stores, and `given` were handed in.
+    Stores { kept: u8, given: u8 },
     /// A disk failed.
     DiskFault,
     /// The source failed.

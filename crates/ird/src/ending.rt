@@ -10,6 +10,7 @@ pub fn exit_status(status: Status) -> u8
     ensures usage { status ≡ Status.Usage → result ≡ 2 }
     ensures no_catalogue { (side : Side) (at : ℕ) → status ≡ Status.NotACatalogue side at → result ≡ 3 }
     ensures not_empty { (side : Side) (len : ℕ) → status ≡ Status.NotEmpty side len → result ≡ 3 }
+    ensures other_stores { (kept given : ℕ) → status ≡ Status.Stores kept given → result ≡ 3 }
     ensures disk { status ≡ Status.DiskFault → result ≡ 4 }
     ensures source { status ≡ Status.SourceFault → result ≡ 5 }
     ensures sink { status ≡ Status.SinkFault → result ≡ 6 }
@@ -20,7 +21,9 @@ pub fn exit_status(status: Status) -> u8
     match status {
         Status::Done => 0,
         Status::Usage => 2,
-        Status::NotACatalogue { side: _, at: _ } | Status::NotEmpty { side: _, len: _ } => 3,
+        Status::NotACatalogue { side: _, at: _ }
+        | Status::NotEmpty { side: _, len: _ }
+        | Status::Stores { kept: _, given: _ } => 3,
         Status::DiskFault => 4,
         Status::SourceFault => 5,
         Status::SinkFault => 6,

@@ -1,4 +1,8 @@
+use crate::ending::exit_status;
 use crate::words::program_words;
+use grid_model::Side;
+use grid_outside::Wear;
+use grid_server::Status;
 use std::env::{Env, FillError};
 use std::test::Fail;
 
@@ -37,4 +41,30 @@ fn words_are_read_byte_for_byte(rt: HostRuntime) -> Result<(), Fail> {
     assert_eq!(rt; words[0].as_slice().len(), 300);
     assert_eq!(rt; words[1].as_slice(), [0xffu8].as_slice());
     Ok(())
+}
+
+#[test]
+fn each_end_has_its_exit_status(rt: HostRuntime) {
+    let side = Side::Main;
+    for (status, exit) in [
+        (Status::Done, 0),
+        (Status::Usage, 2),
+        (Status::NotACatalogue { side, at: 7 }, 3),
+        (Status::NotEmpty { side, len: 7 }, 3),
+        (Status::Stores { kept: 1, given: 8 }, 3),
+        (Status::DiskFault, 4),
+        (Status::SourceFault, 5),
+        (Status::SinkFault, 6),
+        (Status::Memory, 7),
+        (Status::Long { taken: 7 }, 8),
+        (
+            Status::Worn {
+                what: Wear::Log,
+                at: 7,
+            },
+            9,
+        ),
+    ] {
+        assert_eq!(rt; exit_status(status), exit, "{status:?}");
+    }
 }

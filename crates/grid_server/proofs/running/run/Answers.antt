@@ -1,6 +1,12 @@
 use Rattle.std.proofs.Common.{inl, inr}
-use Rattle.grid_server.proofs.RunLemmas.{serve_or_init, inits_so, complete, complete_init, usage_says_none, inits_none}
+use Rattle.grid_server.proofs.RunLemmas.{serve_or_init, inits_so, complete, complete_init, asked_names, usage_says_none, usage_says_no_stores}
 use Rattle.grid_server.proofs.running.run.Goals as goal
+
+pub init-requires-clause-zone : goal.init-requires-clause-zone
+init-requires-clause-zone g c = (asked_names c.in-Init.ensures).0
+
+pub init-requires-clause-admin : goal.init-requires-clause-admin
+init-requires-clause-admin g c = (asked_names c.in-Init.ensures).1
 
 pub returns-in-Serve-clause-init : goal.returns-in-Serve-clause-init
 returns-in-Serve-clause-init g c = λ zone admin asks. absurd (serve_or_init c.in-Serve.ensures asks)
@@ -9,34 +15,34 @@ pub returns-in-Serve-clause-init_all : goal.returns-in-Serve-clause-init_all
 returns-in-Serve-clause-init_all g c = λ zone admin asks. absurd (serve_or_init c.in-Serve.ensures asks)
 
 pub returns-in-Serve-clause-serve_all : goal.returns-in-Serve-clause-serve_all
-returns-in-Serve-clause-serve_all g c = λ found asks told source_told stood fits main source sink.
-    complete found _ _ _ _ _ _ c.serve.result (c.serve.ensures.serve found told source_told stood) fits (λ e. main (c.serve.ensures.disk e)) (λ e. source (c.serve.ensures.source e))
-    (λ e. sink (c.serve.ensures.sink e))
+returns-in-Serve-clause-serve_all g c = λ found asks told source_told stood stores fits main spare source sink.
+    complete found c.args.outside.now.moments (g.D.Disk.disk c.args.outside.now.main) (g.D.Disk.disk c.serve.new.outside.main) (g.S.Source.source c.args.source.now) (g.S.Source.source c.serve.new.source) (g.K.Sink.sink c.args.sink.now)
+    (g.K.Sink.sink c.serve.new.sink) c.serve.result (c.serve.ensures.serve found told source_told stood stores) fits (λ e. main (c.serve.ensures.disk e)) (λ e. source (c.serve.ensures.source e)) (λ e. sink (c.serve.ensures.sink e))
 
 pub returns-in-Init-clause-init : goal.returns-in-Init-clause-init
-returns-in-Init-clause-init g c = λ zone admin asks. inits_so c.in-Init.zone.now c.in-Init.admin.now zone admin (g.D.Disk.disk c.args.outside.now.main) (g.D.Disk.disk c.init.new.main) (g.D.Disk.disk c.args.outside.now.spare) (g.K.Sink.sink c.args.sink.now) (g.K.Sink.sink c.init.new.sink) c.init.result c.in-Init.ensures asks c.init.ensures.inits
+returns-in-Init-clause-init g c = λ zone admin asks.
+    inits_so c.in-Init.zone.now c.in-Init.admin.now zone admin _ (g.D.Disk.disk c.args.outside.now.main) (g.D.Disk.disk c.init.new.outside.main) (g.D.Disk.disk c.args.outside.now.spare) (g.K.Sink.sink c.args.sink.now) (g.K.Sink.sink c.init.new.sink)
+    c.init.result c.in-Init.ensures asks c.init.ensures.inits
 
 pub returns-in-Init-clause-init_all : goal.returns-in-Init-clause-init_all
 returns-in-Init-clause-init_all g c = λ zone admin asks main_told spare_told main_empty spare_empty main spare sink.
-    complete_init c.in-Init.zone.now c.in-Init.admin.now (g.D.Disk.disk c.args.outside.now.main) (g.D.Disk.disk c.init.new.main) (g.D.Disk.disk c.args.outside.now.spare) (g.K.Sink.sink c.args.sink.now) (g.K.Sink.sink c.init.new.sink) c.init.result c.init.ensures.inits main_told spare_told main_empty spare_empty
-    (λ e. elim (c.init.ensures.disk e) [ inl rose ↦ main rose | inr rose ↦ spare rose ]) (λ e. sink (c.init.ensures.sink e))
+    complete_init c.in-Init.zone.now c.in-Init.admin.now _ (g.D.Disk.disk c.args.outside.now.main) (g.D.Disk.disk c.init.new.outside.main) (g.D.Disk.disk c.args.outside.now.spare) (g.K.Sink.sink c.args.sink.now) (g.K.Sink.sink c.init.new.sink)
+    c.init.result c.init.ensures.inits main_told spare_told main_empty spare_empty (λ e. elim (c.init.ensures.disk e) [ inl rose ↦ main rose | inr rose ↦ spare rose ]) (λ e. sink (c.init.ensures.sink e))
 
 pub returns-in-Init-clause-serve : goal.returns-in-Init-clause-serve
 returns-in-Init-clause-serve g c = λ found asks. absurd (serve_or_init asks c.in-Init.ensures)
 
-pub returns-in-Init-clause-refuses : goal.returns-in-Init-clause-refuses
-returns-in-Init-clause-refuses g c = λ place asks. absurd (serve_or_init asks c.in-Init.ensures)
+pub returns-in-Init-clause-stores : goal.returns-in-Init-clause-stores
+returns-in-Init-clause-stores g c = λ found asks. absurd (serve_or_init asks c.in-Init.ensures)
 
-pub returns-in-Init-clause-refuses_main : goal.returns-in-Init-clause-refuses_main
-returns-in-Init-clause-refuses_main g c = λ place asks. absurd (serve_or_init asks c.in-Init.ensures)
+pub returns-in-Init-clause-refuses : goal.returns-in-Init-clause-refuses
+returns-in-Init-clause-refuses g c = λ side place asks. absurd (serve_or_init asks c.in-Init.ensures)
 
 pub returns-in-Init-clause-serve_all : goal.returns-in-Init-clause-serve_all
 returns-in-Init-clause-serve_all g c = λ found asks. absurd (serve_or_init asks c.in-Init.ensures)
 
-pub returns-in-Init-clause-not_a_catalogue : goal.returns-in-Init-clause-not_a_catalogue
-returns-in-Init-clause-not_a_catalogue g c = λ side place is told.
-    absurd (inits_none c.in-Init.zone.now c.in-Init.admin.now (g.D.Disk.disk c.args.outside.now.main) (g.D.Disk.disk c.init.new.main) (g.D.Disk.disk c.args.outside.now.spare) (g.K.Sink.sink c.args.sink.now) (g.K.Sink.sink c.init.new.sink) c.init.result side place c.init.ensures.inits is)
-
 pub returns-in-Nothing-clause-not_a_catalogue : goal.returns-in-Nothing-clause-not_a_catalogue
-returns-in-Nothing-clause-not_a_catalogue g c = λ side place is told.
-    absurd (usage_says_none _ c.say.result (g.K.Sink.sink c.args.sink.now) (g.K.Sink.sink c.say.new.sink) side place c.say.ensures.says is)
+returns-in-Nothing-clause-not_a_catalogue g c = λ side place is told. absurd (usage_says_none _ c.say.result (g.K.Sink.sink c.args.sink.now) (g.K.Sink.sink c.say.new.sink) side place c.say.ensures.says is)
+
+pub returns-in-Nothing-clause-stores_only : goal.returns-in-Nothing-clause-stores_only
+returns-in-Nothing-clause-stores_only g c = λ had given is. absurd (usage_says_no_stores _ c.say.result (g.K.Sink.sink c.args.sink.now) (g.K.Sink.sink c.say.new.sink) had given c.say.ensures.says is)

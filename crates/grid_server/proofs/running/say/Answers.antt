@@ -1,5 +1,5 @@
 use Rattle.std.proofs.Common.{inr, refl}
-use Rattle.grid_server.proofs.CommandLemmas.{adds_first}
+use Rattle.grid_server.proofs.CarryingLemmas.{adds_first}
 use Rattle.grid_server.proofs.running.say.Goals as goal
 
 pub returns-in-Err-clause-says : goal.returns-in-Err-clause-says

@@ -1,39 +1,87 @@
-use Rattle.std.proofs.Common.{IsTrue, subst, sym}
-use Rattle.grid_server.specs.Held.{grid_of}
-use Rattle.grid_server.specs.Turning.{HasNoGrid}
-use Rattle.grid_server.proofs.RunLemmas.{no_both, serves_found, early_at_once, torn_at_once, refuses_there, not_served, refused_at}
+use Rattle.std.proofs.Common.{◌≡◌, IsTrue, Err, subst, sym, ap, ◌∙◌, refl}
+use Rattle.grid_model.specs.Rows.{Cat}
+use Rattle.grid_outside.specs.declared.outside.Wear.TheVariants.{Log}
+use Rattle.grid_model.specs.declared.grid.Side.TheVariants.{Main}
+use Rattle.grid_server.proofs.OpenedLemmas.{paths_made, vault_made}
+use Rattle.grid_server.proofs.RunLemmas.{one_cat, no_both, stands_for, serves_found, unread_fault, unread_memory, refuses_there, refused_at, looked_rests, rests_then, other_stores}
 use Rattle.grid_server.proofs.running.serve.Goals as goal
 
+pub serve_over-requires-clause-paths : goal.serve_over-requires-clause-paths
+serve_over-requires-clause-paths g c = paths_made c.in-Ok.ensures.made.0 c.in-Ok.store.cat c.in-Ok.ensures.made.1
+
+pub serve_over-requires-clause-vault : goal.serve_over-requires-clause-vault
+serve_over-requires-clause-vault g c = vault_made c.in-Ok.ensures.made.0 c.in-Ok.store.cat c.in-Ok.ensures.made.1
+
+pub unreachable-requires : goal.unreachable-requires
+unreachable-requires g c = (c.in-Err-NotEmpty.ensures.no_other _ Log _).0 (ap Err c.in-Err-NotEmpty.field-0-is)
+
+pub unreachable-requires-in-Err-Worn : goal.unreachable-requires-in-Err-Worn
+unreachable-requires-in-Err-Worn g c = (c.in-Err-Worn.ensures.no_other Main _ _).1 (ap Err c.in-Err-Worn.field-0-is)
+
+-- the catalogue was opened
+
 pub returns-in-Ok-clause-serve : goal.returns-in-Ok-clause-serve
-returns-in-Ok-clause-serve g c = λ found told source_told stood.
-    serves_found (grid_of c.in-Ok.server.grid) found _ (g.D.Disk.disk c.open.new.main) _ _ _ _ _ c.serve_all.result (c.open.ensures.looks.holds told) (c.in-Ok.ensures.opened told) stood
-    (c.serve_all.ensures.serves (subst IsTrue (sym c.open.ensures.looks.tells) told) source_told)
+returns-in-Ok-clause-serve g c = λ found told source_told stood stores.
+    let main_old = g.D.Disk.disk c.args.outside.now.main in
+    let spare = (g.D.Disk.disk c.args.outside.now.spare).holds in
+    let held = c.in-Ok.ensures.stands told spare in
+    let same : c.in-Ok.store.cat ≡ found = one_cat main_old.holds spare c.in-Ok.store.cat found held stood in
+    serves_found c.in-Ok.store.cat found c.args.outside.now.moments main_old (g.D.Disk.disk c.open.new.main) (g.D.Disk.disk c.serve_over.new.outside.main) spare (g.S.Source.source c.args.source.now) (g.S.Source.source c.serve_over.new.source)
+    (g.K.Sink.sink c.args.sink.now) (g.K.Sink.sink c.serve_over.new.sink) c.serve_over.result held stood (c.open.ensures.settled told)
+    (c.serve_over.ensures.serve (subst IsTrue (sym c.open.ensures.looks.tells) told) source_told (ap (λ (c : Cat). c.stores) same ∙ stores))
+
+pub returns-in-Ok-clause-stores : goal.returns-in-Ok-clause-stores
+returns-in-Ok-clause-stores g c = λ found told stood other.
+    let main_old = g.D.Disk.disk c.args.outside.now.main in
+    let spare = (g.D.Disk.disk c.args.outside.now.spare).holds in
+    let held = c.in-Ok.ensures.stands told spare in
+    let same : c.in-Ok.store.cat ≡ found = one_cat main_old.holds spare c.in-Ok.store.cat found held stood in
+    let refused = c.serve_over.ensures.stores (λ e. other (sym (ap (λ (c : Cat). c.stores) same) ∙ e)) in (
+      other_stores main_old.holds spare c.in-Ok.store.cat found _ (g.K.Sink.sink c.args.sink.now) (g.K.Sink.sink c.serve_over.new.sink) c.serve_over.result held stood refused.0,
+      rests_then g.D.Disk.disk main_old c.open.new.main c.serve_over.new.outside.main refused.1 (looked_rests main_old (g.D.Disk.disk c.open.new.main) c.open.ensures.looks c.open.ensures.later),
+      refused.2,
+    )
 
 pub returns-in-Ok-clause-refuses : goal.returns-in-Ok-clause-refuses
-returns-in-Ok-clause-refuses g c = λ place told stood. absurd (no_both (c.in-Ok.ensures.opened told) stood)
+returns-in-Ok-clause-refuses g c = λ side place told stood.
+    let spare = (g.D.Disk.disk c.args.outside.now.spare).holds in
+    absurd (no_both (g.D.Disk.disk c.args.outside.now.main).holds spare c.in-Ok.store.cat side place (c.in-Ok.ensures.stands told spare) stood)
 
-pub returns-in-Ok-clause-refuses_main : goal.returns-in-Ok-clause-refuses_main
-returns-in-Ok-clause-refuses_main g c = λ place told stood again. absurd (no_both (c.in-Ok.ensures.opened told) stood)
-
-pub returns-in-Ok-clause-refuses_source : goal.returns-in-Ok-clause-refuses_source
-returns-in-Ok-clause-refuses_source g c = λ place told stood. absurd (no_both (c.in-Ok.ensures.opened told) stood)
+-- there is no catalogue
 
 pub returns-in-Err-NotACatalogue-clause-serve : goal.returns-in-Err-NotACatalogue-clause-serve
-returns-in-Err-NotACatalogue-clause-serve g c = λ found told source_told stood. absurd (no_both stood (subst (HasNoGrid _) c.in-Err-NotACatalogue.field-0-is (c.in-Err-NotACatalogue.ensures.refused told)))
+returns-in-Err-NotACatalogue-clause-serve g c = λ found told source_told stood.
+    let spare = (g.D.Disk.disk c.args.outside.now.spare).holds in
+    absurd (no_both (g.D.Disk.disk c.args.outside.now.main).holds spare found c.in-Err-NotACatalogue.side c.in-Err-NotACatalogue.at stood (c.in-Err-NotACatalogue.ensures.not_a_catalogue c.in-Err-NotACatalogue.side c.in-Err-NotACatalogue.at (ap Err c.in-Err-NotACatalogue.field-0-is) told spare))
+
+pub returns-in-Err-NotACatalogue-clause-stores : goal.returns-in-Err-NotACatalogue-clause-stores
+returns-in-Err-NotACatalogue-clause-stores g c = λ found told stood.
+    let spare = (g.D.Disk.disk c.args.outside.now.spare).holds in
+    absurd (no_both (g.D.Disk.disk c.args.outside.now.main).holds spare found c.in-Err-NotACatalogue.side c.in-Err-NotACatalogue.at stood (c.in-Err-NotACatalogue.ensures.not_a_catalogue c.in-Err-NotACatalogue.side c.in-Err-NotACatalogue.at (ap Err c.in-Err-NotACatalogue.field-0-is) told spare))
 
 pub returns-in-Err-NotACatalogue-clause-refuses : goal.returns-in-Err-NotACatalogue-clause-refuses
-returns-in-Err-NotACatalogue-clause-refuses g c = λ place told stood.
-    refuses_there (g.D.Disk.disk c.args.main.now).holds c.in-Err-NotACatalogue.at place (g.K.Sink.sink c.args.sink.now) (g.K.Sink.sink c.refuse.new.sink) c.refuse.result (subst (HasNoGrid _) c.in-Err-NotACatalogue.field-0-is (c.in-Err-NotACatalogue.ensures.refused told)) stood c.refuse.ensures.refuses
-
-pub returns-in-Err-Disk-clause-serve : goal.returns-in-Err-Disk-clause-serve
-returns-in-Err-Disk-clause-serve g c = λ found told source_told stood. torn_at_once found _ (g.D.Disk.disk c.open.new.main) (g.S.Source.source c.args.source.now) (g.K.Sink.sink c.args.sink.now) (c.open.ensures.looks.holds told) stood
-
-pub returns-in-Err-Memory-clause-serve : goal.returns-in-Err-Memory-clause-serve
-returns-in-Err-Memory-clause-serve g c = λ found told source_told stood. early_at_once found _ (g.D.Disk.disk c.open.new.main) (g.S.Source.source c.args.source.now) (g.K.Sink.sink c.args.sink.now) (c.open.ensures.looks.holds told) stood
-
-pub returns-in-Ok-clause-not_a_catalogue : goal.returns-in-Ok-clause-not_a_catalogue
-returns-in-Ok-clause-not_a_catalogue g c = λ side place is told. absurd (not_served side place c.serve_all.result c.serve_all.ensures.ends is)
+returns-in-Err-NotACatalogue-clause-refuses g c = λ side place told stood.
+    let main_old = g.D.Disk.disk c.args.outside.now.main in
+    let spare = (g.D.Disk.disk c.args.outside.now.spare).holds in (
+      refuses_there main_old.holds spare side c.in-Err-NotACatalogue.side place c.in-Err-NotACatalogue.at (g.K.Sink.sink c.args.sink.now) (g.K.Sink.sink c.refuse.new.sink) c.refuse.result
+          (c.in-Err-NotACatalogue.ensures.not_a_catalogue c.in-Err-NotACatalogue.side c.in-Err-NotACatalogue.at (ap Err c.in-Err-NotACatalogue.field-0-is) told spare) stood c.refuse.ensures.refuses,
+      looked_rests main_old (g.D.Disk.disk c.open.new.main) c.open.ensures.looks c.open.ensures.later,
+      refl,
+    )
 
 pub returns-in-Err-NotACatalogue-clause-not_a_catalogue : goal.returns-in-Err-NotACatalogue-clause-not_a_catalogue
 returns-in-Err-NotACatalogue-clause-not_a_catalogue g c = λ side place is told.
-    refused_at (g.D.Disk.disk c.args.main.now).holds c.in-Err-NotACatalogue.at place side c.refuse.result (subst (HasNoGrid _) c.in-Err-NotACatalogue.field-0-is (c.in-Err-NotACatalogue.ensures.refused told)) c.refuse.ensures.ends is
+    refused_at (g.D.Disk.disk c.args.outside.now.main).holds (g.D.Disk.disk c.args.outside.now.spare).holds side c.in-Err-NotACatalogue.side place c.in-Err-NotACatalogue.at c.refuse.result
+    (c.in-Err-NotACatalogue.ensures.not_a_catalogue c.in-Err-NotACatalogue.side c.in-Err-NotACatalogue.at (ap Err c.in-Err-NotACatalogue.field-0-is) told (g.D.Disk.disk c.args.outside.now.spare).holds) c.refuse.ensures.ends is
+
+-- it was not read
+
+pub returns-in-Err-DiskFault-clause-serve : goal.returns-in-Err-DiskFault-clause-serve
+returns-in-Err-DiskFault-clause-serve g c = λ found told source_told stood stores.
+    unread_fault found c.args.outside.now.moments (g.D.Disk.disk c.args.outside.now.main) (g.D.Disk.disk c.open.new.main) (g.S.Source.source c.args.source.now) (g.K.Sink.sink c.args.sink.now) told c.requires.main_last c.requires.sink_last
+    c.open.ensures.looks (stands_for (g.D.Disk.disk c.args.outside.now.main).holds (g.D.Disk.disk c.args.outside.now.spare).holds found stood)
+
+pub returns-in-Err-Memory-clause-serve : goal.returns-in-Err-Memory-clause-serve
+returns-in-Err-Memory-clause-serve g c = λ found told source_told stood stores.
+    unread_memory found c.args.outside.now.moments (g.D.Disk.disk c.args.outside.now.main) (g.D.Disk.disk c.open.new.main) (g.S.Source.source c.args.source.now) (g.K.Sink.sink c.args.sink.now) told c.requires.main_last c.requires.sink_last
+    c.open.ensures.looks (stands_for (g.D.Disk.disk c.args.outside.now.main).holds (g.D.Disk.disk c.args.outside.now.spare).holds found stood)

@@ -1,79 +1,116 @@
 use Rattle.std.proofs.Common.{◌≡◌, length, IsTrue, arith, refl, sym, subst, ap, ◌∙◌}
-use Rattle.grid_server.specs.Held.{grid_of}
-use Rattle.grid_server.specs.Answering.{state_of}
-use Rattle.grid_server.specs.Serving.{begins}
+use Rattle.grid_server.specs.Held.{IsHeld}
 use Rattle.grid_server.specs.declared.server.Server.{Server}
+use Rattle.grid_server.proofs.CarryingLemmas.{goes_nowhere}
 use Rattle.grid_server.proofs.ServedLemmas.{served_none, next_served, ends_so, ends_at_once}
-use Rattle.grid_server.proofs.TurnLemmas.{counted, serving_so}
-use Rattle.grid_model.specs.Commands.{State}
+use Rattle.grid_server.proofs.TurnLemmas.{counted, serving_so, turn_goes, turn_holds, goes_more}
 use Rattle.grid_server.proofs.serving.serve_all.Goals as goal
 
 pub returns-in_default-clause-serves : goal.returns-in_default-clause-serves
-returns-in_default-clause-serves g c main_told source_told = ends_at_once (grid_of c.args.server.grid) _ _ _ (c.requires.stands main_told)
+returns-in_default-clause-serves g c found cat grid main_told source_told =
+    ends_at_once found c.args.outside.now.moments (g.D.Disk.disk c.args.outside.now.main) (g.S.Source.source c.args.source.now) (g.K.Sink.sink c.args.sink.now) c.args.server main_told c.requires.main_last c.requires.sink_last cat grid c.requires.held
+
+pub returns-in_default-clause-main_goes : goal.returns-in_default-clause-main_goes
+returns-in_default-clause-main_goes g c = goes_nowhere c.args.outside.now.moments (g.D.Disk.disk c.args.outside.now.main)
+
+pub returns-in_default-clause-sink_goes : goal.returns-in_default-clause-sink_goes
+returns-in_default-clause-sink_goes g c = goes_nowhere c.args.outside.now.moments (g.K.Sink.sink c.args.sink.now)
 
 pub lines-init : goal.lines-init
 lines-init g c =
-    let main = g.D.Disk.disk c.args.main.now in
+    let main = g.D.Disk.disk c.args.outside.now.main in
     let source = g.S.Source.source c.args.source.now in
     let sink = g.K.Sink.sink c.args.sink.now in
-    let begun = c.in-Ok.ensures in
-    let none : length c.in-Ok.service.reader.unread ≡ 0 = ap length begun.unread in
+    let new = c.in-Ok.ensures in
+    let none : length c.in-Ok.service.reader.unread ≡ 0 = ap length new.unread in
+    let P : Server → Type 0 = λ s. IsHeld main s in
+    let held : IsHeld main c.in-Ok.service.server = subst P (sym new.server) c.requires.held in
     record {
-      served = λ main_told source_told.
-          let on : State = record { grid = grid_of c.args.server.grid; logged_in = c.args.server.logged_in } in
-          let state : begins (grid_of c.args.server.grid) ≡ state_of c.in-Ok.service.server =
-          ap (λ b. (let s : State = record { grid = grid_of c.args.server.grid; logged_in = b } in s)) (sym c.requires.nobody) ∙ ap state_of (sym begun.server) in
-          served_none (grid_of c.args.server.grid) main source sink c.in-Ok.service (c.requires.stands main_told) begun.unread begun.taken begun.number state
-          (ap (λ (s : Server). s.size) begun.server ∙ sym (c.requires.size main_told));
-      main_tells = refl;
+      served = λ found cat grid main_told source_told.
+          served_none found c.args.outside.now.moments main source sink c.in-Ok.service main_told c.requires.main_last c.requires.sink_last new.unread new.taken new.number (ap (λ (s : Server). s.store.cat) new.server ∙ cat) grid
+          (ap (λ (s : Server). s.logged_in) new.server ∙ c.requires.nobody) held;
+      held = held;
+      main_goes = goes_nowhere c.args.outside.now.moments main;
+      sink_goes = goes_nowhere c.args.outside.now.moments sink;
       source_tells = refl;
-      sink_tells = refl;
-      main_later = omega arith;
       source_later = omega arith;
-      sink_later = omega arith;
       main_last = c.requires.main_last;
       sink_last = c.requires.sink_last;
-      size = λ told. c.requires.size told ∙ ap (λ (s : Server). s.size) (sym begun.server);
+      drawn_from = omega arith;
       within = omega (arith, none);
-      most = omega (arith, begun.taken);
-      few = omega (arith, none, begun.number);
+      most = omega (arith, new.taken);
+      few = omega (arith, none, new.number);
       room = omega (arith, none);
+      spare = refl;
+      stores = refl;
+      ambient = refl;
     }
 
 pub lines-smaller : goal.lines-smaller
 lines-smaller g c =
     let so_far = c.lines.invariant in
-    let count = counted c.lines.service c.turn.new.self _ _ _ _ _ _ _ c.turn.ensures.turns c.in-None.is in
+    let count = counted c.lines.service c.turn.new.self c.lines.outside.moments _ _ _ _ _ _ _ c.turn.ensures.turns c.in-None.is in
     omega (arith, count.ahead, count.most, so_far.within, so_far.most)
 
 pub lines-preserved : goal.lines-preserved
 lines-preserved g c =
     let so_far = c.lines.invariant in
-    let count = counted c.lines.service c.turn.new.self _ _ _ _ _ _ _ c.turn.ensures.turns c.in-None.is in
+    let since = c.args.outside.now.moments in
+    let now = c.lines.outside.moments in
+    let main_old = g.D.Disk.disk c.args.outside.now.main in
+    let main_mid = g.D.Disk.disk c.lines.outside.main in
+    let main_new = g.D.Disk.disk c.turn.new.outside.main in
+    let sink_old = g.K.Sink.sink c.args.sink.now in
+    let sink_mid = g.K.Sink.sink c.lines.sink in
+    let sink_new = g.K.Sink.sink c.turn.new.sink in
+    let from = g.S.Source.source c.args.source.now in
+    let mid = g.S.Source.source c.lines.source in
+    let to = g.S.Source.source c.turn.new.source in
+    let count = counted c.lines.service c.turn.new.self now main_mid main_new mid to sink_mid sink_new _ c.turn.ensures.turns c.in-None.is in
+    let goes = turn_goes c.lines.service c.turn.new.self now main_mid main_new mid to sink_mid sink_new _ c.turn.ensures.turns in
     record {
-      served = λ main_told source_told.
-          next_served _ _ _ _ _ _ _ _ (so_far.served main_told source_told) (subst IsTrue (sym so_far.main_tells) main_told) (subst IsTrue (sym so_far.source_tells) source_told)
-          (λ sink_told. subst IsTrue (sym so_far.sink_tells) sink_told) c.turn.new.self _ _ _ _ c.turn.ensures.turns c.in-None.is;
-      main_tells = c.turn.ensures.main_tells ∙ so_far.main_tells;
+      served = λ found cat grid main_told source_told.
+          next_served found since now so_far.drawn_from main_old main_mid from mid sink_old sink_mid c.lines.service (so_far.served found cat grid main_told source_told) (subst IsTrue (sym so_far.main_goes.tells) main_told)
+          (subst IsTrue (sym so_far.source_tells) source_told) (λ sink_told. subst IsTrue (sym so_far.sink_goes.tells) sink_told) c.turn.new.self main_new to sink_new _ c.turn.ensures.turns c.in-None.is;
+      held = turn_holds c.lines.service c.turn.new.self now main_mid main_new mid to sink_mid sink_new _ c.turn.ensures.turns c.in-None.is so_far.held;
+      main_goes = goes_more since now main_old main_mid main_new so_far.drawn_from so_far.main_goes goes.0;
+      sink_goes = goes_more since now sink_old sink_mid sink_new so_far.drawn_from so_far.sink_goes goes.1;
       source_tells = c.turn.ensures.source_tells ∙ so_far.source_tells;
-      sink_tells = c.turn.ensures.sink_tells ∙ so_far.sink_tells;
-      main_later = omega (arith, so_far.main_later, c.turn.ensures.main_later);
       source_later = omega (arith, so_far.source_later, c.turn.ensures.source_later);
-      sink_later = omega (arith, so_far.sink_later, c.turn.ensures.sink_later);
       main_last = c.turn.ensures.main_last;
       sink_last = c.turn.ensures.sink_last;
-      size = λ told. count.size (subst IsTrue (sym so_far.main_tells) told) (so_far.size told);
+      drawn_from = omega (arith, so_far.drawn_from, c.turn.ensures.drawn_from);
       within = omega (arith, count.ahead, so_far.within);
       most = count.most;
       few = omega (arith, count.ahead, count.number, so_far.few);
       room = omega (arith, count.ahead, so_far.room, c.turn.ensures.drawn);
+      spare = c.turn.ensures.spare ∙ so_far.spare;
+      stores = c.turn.ensures.stores ∙ so_far.stores;
+      ambient = c.turn.ensures.ambient ∙ so_far.ambient;
     }
 
 pub returns-in-Some-clause-serves : goal.returns-in-Some-clause-serves
-returns-in-Some-clause-serves g c main_told source_told =
+returns-in-Some-clause-serves g c found cat grid main_told source_told =
     let so_far = c.lines.invariant in
-    ends_so _ _ _ _ _ _ _ _ (so_far.served main_told source_told) (subst IsTrue (sym so_far.main_tells) main_told) (subst IsTrue (sym so_far.source_tells) source_told)
-    (λ sink_told. subst IsTrue (sym so_far.sink_tells) sink_told) c.turn.new.self _ _ _ _ c.in-Some.status c.turn.ensures.turns c.in-Some.is
+    ends_so found c.args.outside.now.moments c.lines.outside.moments so_far.drawn_from (g.D.Disk.disk c.args.outside.now.main) (g.D.Disk.disk c.lines.outside.main) (g.S.Source.source c.args.source.now) (g.S.Source.source c.lines.source)
+    (g.K.Sink.sink c.args.sink.now) (g.K.Sink.sink c.lines.sink) c.lines.service (so_far.served found cat grid main_told source_told) (subst IsTrue (sym so_far.main_goes.tells) main_told) (subst IsTrue (sym so_far.source_tells) source_told)
+    (λ sink_told. subst IsTrue (sym so_far.sink_goes.tells) sink_told) c.turn.new.self (g.D.Disk.disk c.turn.new.outside.main) (g.S.Source.source c.turn.new.source) (g.K.Sink.sink c.turn.new.sink) _ c.in-Some.status c.turn.ensures.turns c.in-Some.is
+
+pub returns-in-Some-clause-main_goes : goal.returns-in-Some-clause-main_goes
+returns-in-Some-clause-main_goes g c =
+    let so_far = c.lines.invariant in
+    let goes =
+    turn_goes c.lines.service c.turn.new.self c.lines.outside.moments (g.D.Disk.disk c.lines.outside.main) (g.D.Disk.disk c.turn.new.outside.main) (g.S.Source.source c.lines.source) (g.S.Source.source c.turn.new.source) (g.K.Sink.sink c.lines.sink)
+    (g.K.Sink.sink c.turn.new.sink) _ c.turn.ensures.turns in
+    goes_more c.args.outside.now.moments c.lines.outside.moments _ _ _ so_far.drawn_from so_far.main_goes goes.0
+
+pub returns-in-Some-clause-sink_goes : goal.returns-in-Some-clause-sink_goes
+returns-in-Some-clause-sink_goes g c =
+    let so_far = c.lines.invariant in
+    let goes =
+    turn_goes c.lines.service c.turn.new.self c.lines.outside.moments (g.D.Disk.disk c.lines.outside.main) (g.D.Disk.disk c.turn.new.outside.main) (g.S.Source.source c.lines.source) (g.S.Source.source c.turn.new.source) (g.K.Sink.sink c.lines.sink)
+    (g.K.Sink.sink c.turn.new.sink) _ c.turn.ensures.turns in
+    goes_more c.args.outside.now.moments c.lines.outside.moments _ _ _ so_far.drawn_from so_far.sink_goes goes.1
 
 pub returns-in-Some-clause-ends : goal.returns-in-Some-clause-ends
-returns-in-Some-clause-ends g c = serving_so c.lines.service c.turn.new.self _ _ _ _ _ _ _ c.turn.ensures.turns c.in-Some.status c.in-Some.is
+returns-in-Some-clause-ends g c = serving_so c.lines.service c.turn.new.self c.lines.outside.moments _ _ _ _ _ _ _ c.turn.ensures.turns c.in-Some.status c.in-Some.is

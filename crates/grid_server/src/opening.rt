@@ -1,0 +1,99 @@
+ghost use Rattle.std.specs.Prelude.{◌≡◌, ◌+◌, ◌^◌, ◌<◌, ◌≤◌, ◌∷◌, [], IsTrue, IfOk, IsErrOf};
+ghost use Rattle.grid_outside.specs.Fault.{Rose};
+ghost use Rattle.grid_model.specs.Gridding.{HasPaths};
+ghost use Rattle.grid_journal.specs.Journal.{Keeps};
+ghost use Rattle.grid_server.specs.Opening.{Begun};
+ghost use Rattle.grid_server.specs.Stopping.{IsOfCommit, begin_error_of};
+
+use crate::server::Server;
+use grid_journal::{JournalError, Store};
+use grid_model::{Delta, Deltas, Numbers};
+use grid_outside::{Ambient, Disk, Outside};
+use std::alloc::{AllocError, Global};
+
+/// Why no run is begun.
+#[derive(Clone, Copy, Debug, PartialEq, Eq)]
+pub(crate) enum BeginError {
+    /// No run has a greater number than the last one.
+    Runs { at: u64 },
+    /// The closing gate of the catalogue's log stands here, too far for one more record.
+    Log { at: u64 },
+    Disk,
+    Memory,
+}
+
+/// Begins a run over a catalogue: its number is one more than that of the last one, and no command of it has changed
+/// anything. `Disk` comes only where the disk failed, and `Runs` exactly where the last run has the greatest number.
+pub(crate) fn begin_run<D: Disk, A: Ambient>(
+    alloc: Global,
+    store: Store,
+    outside: &mut Outside<D, A>,
+) -> Result<Server, BeginError>
+    requires sound { IsTrue store.sound }
+    requires staged { store.staged ≡ [] }
+    requires keeps { IsTrue (D.disk outside.old.main).tells → Keeps store.cat store (D.disk outside.old.main).holds }
+    requires paths { HasPaths store.cat }
+    requires vault { 0 < store.cat.numbers.next_vault }
+    requires main_last { (D.disk outside.old.main).last ≤ outside.old.moments }
+    requires room { outside.old.moments + 4 < 2 ^ 128 }
+    ensures begins { Begun store.cat outside.old.moments (D.disk outside.old.main) (D.disk outside.new.main) result }
+    ensures main_last { (D.disk outside.new.main).last ≤ outside.new.moments }
+    ensures disk { IsErrOf result BeginError.Disk → Rose (D.disk outside.old.main).faults (D.disk outside.new.main).faults }
+    ensures drawn_from { outside.old.moments ≤ outside.new.moments }
+    ensures drawn { outside.new.moments ≤ outside.old.moments + 4 }
+    ensures spare { outside.new.spare ≡ outside.old.spare }
+    ensures stores { outside.new.stores ≡ outside.old.stores }
+    ensures ambient { outside.new.ambient ≡ outside.old.ambient }
+{
+    let mut store = store;
+    let last = store.tables().numbers();
+    if last.run == u64::MAX {
+        return Err(BeginError::Runs { at: last.run });
+    }
+    let numbers = Numbers {
+        next_vault: last.next_vault,
+        run: last.run + 1,
+        last: 0,
+    };
+    let Ok(deltas) = one(alloc, Delta::Numbers(numbers)) else {
+        return Err(BeginError::Memory);
+    };
+    match store.commit(
+        alloc,
+        &mut outside.main,
+        &mut outside.spare,
+        &mut outside.moments,
+        deltas,
+    ) {
+        Ok(()) => {
+            store.tables().in_order();
+            Ok(Server {
+                store,
+                logged_in: false,
+            })
+        }
+        Err(error) => Err(begin_error_of(error)),
+    }
+}
+
+// This change alone. Fails for want of memory alone.
+fn one(alloc: Global, delta: Delta) -> Result<Deltas, AllocError>
+    ensures { IfOk result (λ deltas. deltas ≡ delta ∷ []) }
+{
+    let deltas = vec![in alloc; delta]?;
+    Ok(Deltas::from_vec(deltas))
+}
+
+// Why no run was begun whose commit failed so.
+fn begin_error_of(error: JournalError) -> BeginError
+    requires { IsOfCommit error }
+    ensures { result ≡ begin_error_of error }
+{
+    match error {
+        JournalError::Memory => BeginError::Memory,
+        JournalError::DiskFault => BeginError::Disk,
+        JournalError::Worn { what: _, at } => BeginError::Log { at },
+        JournalError::NotEmpty { side: _, len: _ } => unreachable!(),
+        JournalError::NotACatalogue { side: _, at: _ } => unreachable!(),
+    }
+}
