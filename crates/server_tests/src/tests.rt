@@ -1,0 +1,14 @@
+mod beginning;
+mod bodies;
+mod bytes_of_main;
+mod catalogues;
+mod disk_faults;
+mod lines;
+mod makings;
+mod playing;
+mod refusals;
+mod runs;
+mod sinks;
+mod sources;
+mod stops;
+mod words;
