@@ -1,16 +1,16 @@
 -- What the keeping and answering of a request leaves.
-use Rattle.std.proofs.Common.{◌≡◌, ◌≢◌, ◌⊎◌, inl, inr, ℕ, ◌+◌, ◌^◌, ◌<◌, ◌≤◌, Bool, true, false, List, [], ◌∷◌, ◌++◌, length, take, drop, Option, Some, None, Result, Ok, Err, IsTrue, refl, sym, ap, ◌∙◌, subst, arith, take-append-drop}
-use Rattle.std.specs.Prelude.{⊤, IsErrOf}
+use Rattle.std.proofs.Common.{◌≡◌, ◌≢◌, ◌⊎◌, inl, inr, ℕ, ◌^◌, ◌<◌, ◌≤◌, Bool, true, false, List, [], ◌∷◌, ◌++◌, take, drop, Result, Ok, Err, IsTrue, refl, sym, ap, ◌∙◌, subst, arith, take-append-drop}
+use Rattle.std.specs.Prelude.{⊤}
 use Rattle.std.proofs.lemmas.List.{append-nil}
 use Rattle.std.proofs.lemmas.Bool.{cases_lt}
-use Rattle.grid_outside.specs.Device.{DeviceState, Between, Acts, IsSettled, Leaves}
+use Rattle.grid_outside.specs.Device.{DeviceState, Between, Acts, IsSettled}
 use Rattle.grid_outside.specs.Disk.{DiskState}
 use Rattle.grid_outside.specs.Sink.{SinkState, AddsPart}
 use Rattle.grid_outside.proofs.Spans.{leaves_start}
 use Rattle.grid_model.specs.Names.{Text, Path}
 use Rattle.grid_model.specs.Rows.{Cat, IsCat}
 use Rattle.grid_model.specs.Gridding.{grid_of, HasPaths, IsNewAt}
-use Rattle.grid_model.specs.Commands.{Done, State, with_collection, command, refused, log_in, made}
+use Rattle.grid_model.specs.Commands.{Done, State, with_collection, command, made}
 use Rattle.grid_model.specs.Replies.{reply, AddsFirst}
 use Rattle.grid_model.specs.declared.deltas.CollectionRow.{CollectionRow}
 use Rattle.grid_model.specs.declared.deltas.Numbers.{Numbers}
@@ -29,12 +29,10 @@ use Rattle.grid_journal.specs.declared.error.JournalError.TheVariants as journal
 use Rattle.grid_outside.specs.declared.outside.Wear.{Wear}
 use Rattle.grid_server.specs.Held.{state_of, StandsFor, IsHeld}
 use Rattle.grid_server.specs.Stopping.{IsOfCommit, stop_of}
-use Rattle.grid_server.specs.Answering.{Goes, Stays, Follows, last_of, with_made, MakeEnds, Makes, Does, CarryEnds, Carries, OneOf, not_kept, kept, LeavesOneOf, AnswerEnds, Answers, worked, not_begun, Rests, Decides, Adds}
+use Rattle.grid_server.specs.Answering.{Goes, Follows, last_of, with_made, MakeEnds, Makes, CarryEnds, Carries, OneOf, not_kept, kept, LeavesOneOf, AnswerEnds, Answers, worked, Rests}
 use Rattle.grid_server.specs.declared.server.Server.{Server}
 use Rattle.grid_server.specs.declared.server.Stop.{Stop}
 use Rattle.grid_server.specs.declared.server.Stop.TheVariants as stop
-use Rattle.grid_server.specs.declared.decision.Decision.{Decision}
-use Rattle.grid_server.specs.declared.decision.Decision.TheVariants as decision
 
 -- ---- what main stands for
 

@@ -1,5 +1,5 @@
 -- What a request comes to, by what the look-ups tell.
-use Rattle.std.proofs.Common.{◌≡◌, ◌≢◌, ◌⊎◌, inl, inr, ℕ, zero, suc, ◌+◌, ◌-◌, ◌^◌, ◌<◌, ◌≤◌, Bool, true, false, cond, List, [], ◌∷◌, ◌++◌, length, get_or, Option, Some, None, Result, Ok, Err, IsTrue, refl, sym, ap, ◌∙◌, subst, arith}
+use Rattle.std.proofs.Common.{◌≡◌, ◌≢◌, ◌⊎◌, inl, inr, ℕ, zero, suc, ◌+◌, ◌-◌, ◌^◌, ◌<◌, ◌≤◌, Bool, true, false, List, [], ◌∷◌, ◌++◌, length, get_or, Option, Some, None, Result, Ok, Err, IsTrue, refl, sym, ap, ◌∙◌, subst, arith}
 use Rattle.std.specs.Prelude.{find, option_map, is_some, not, ◌&&◌, ◌||◌, ◌==◌, nat_le, nat_lt, map, IfOk}
 use Rattle.std.specs.List.{list_any, list_all}
 use Rattle.std.specs.List.Sorted.{IsStrictlyIncreasing}
@@ -7,14 +7,13 @@ use Rattle.std.proofs.lemmas.Bool.{and_parts, and_from, lt-ltb, cases_lt}
 use Rattle.std.proofs.lemmas.List.Folds.{list_all-append}
 use Rattle.grid_model.specs.Names.{Text, Path, is_name, is_path, is_name_byte, same_text, parent}
 use Rattle.grid_model.specs.Deltas.{is_shown_byte, is_byte, text}
-use Rattle.grid_model.specs.Maps.{get, has}
+use Rattle.grid_model.specs.Maps.{has}
 use Rattle.grid_model.specs.Grid.{Grid}
-use Rattle.grid_model.specs.Rows.{Cat, IsCat, user_cmp, user, has_collection}
+use Rattle.grid_model.specs.Rows.{Cat, IsCat, user_cmp, user}
 use Rattle.grid_model.specs.RowPaths.{collection_at, object_at}
 use Rattle.grid_model.specs.Applying.{is_group_kind}
-use Rattle.grid_model.specs.Gridding.{grid_of, IsNewAt}
-use Rattle.grid_model.specs.Commands.{State, Done, is_there, has_user_named, make, made, refused, log_in, command}
-use Rattle.grid_model.specs.declared.grid.UserKind.{UserKind}
+use Rattle.grid_model.specs.Gridding.{grid_of}
+use Rattle.grid_model.specs.Commands.{State, Done, is_there, has_user_named, make, made, refused, command}
 use Rattle.grid_model.specs.declared.deltas.UserRow.{UserRow}
 use Rattle.grid_model.specs.declared.deltas.CollectionRow.{CollectionRow}
 use Rattle.grid_model.specs.declared.requests.Verb.{Verb}

@@ -1,10 +1,8 @@
 -- Requests that were done, one more, and what is shown and kept of them.
-use Rattle.std.proofs.Common.{◌≡◌, ◌≢◌, ◌⊎◌, inl, inr, ℕ, zero, suc, ◌+◌, ◌<◌, ◌≤◌, Bool, true, false, List, [], ◌∷◌, ◌++◌, length, take, slice_get, Option, Some, None, Result, Ok, IsTrue, arith, refl, sym, subst, ap, ◌∙◌, append_assoc, length-append}
+use Rattle.std.proofs.Common.{◌≡◌, ◌⊎◌, inl, inr, ℕ, zero, suc, ◌+◌, ◌≤◌, Bool, true, false, List, [], ◌∷◌, ◌++◌, length, take, slice_get, Some, Result, arith, refl, sym, subst, ap, ◌∙◌, append_assoc, length-append}
 use Rattle.std.specs.Prelude.{max}
 use Rattle.std.proofs.lemmas.List.{append-nil, take_all, take-append-le, take_at}
-use Rattle.std.proofs.lemmas.Bool.{cases_lt}
 use Rattle.grid_model.specs.Names.{Text}
-use Rattle.grid_model.specs.Grid.{Grid}
 use Rattle.grid_model.specs.Rows.{Cat}
 use Rattle.grid_model.specs.Gridding.{grid_of}
 use Rattle.grid_model.specs.Inputs.{Asked}
@@ -17,7 +15,7 @@ use Rattle.grid_server.specs.Held.{StandsFor}
 use Rattle.grid_server.specs.Answering.{Did, Follows, last_of, OneOf, not_kept, kept}
 use Rattle.grid_server.specs.Serving.{begins, Shows, IsCut, AllButOne, IsBefore, IsAfter, OneImage, ClosesAt}
 use Rattle.frame_log.specs.Log.{IsLog}
-use Rattle.frame_log.specs.Extent.{Extent, extent_of}
+use Rattle.frame_log.specs.Extent.{Extent}
 use Rattle.grid_journal.specs.Journal.{Journal, Keeps}
 use Rattle.grid_server.proofs.RequestLemmas.{asks_held}
 

@@ -1,5 +1,5 @@
 -- What holds of each catalogue that deltas make of the empty one.
-use Rattle.std.proofs.Common.{◌≡◌, ℕ, ◌<◌, Bool, true, false, List, [], ◌∷◌, Result, Ok, Err, IsTrue, refl, sym, ap, ◌∙◌, subst, arith}
+use Rattle.std.proofs.Common.{◌≡◌, ℕ, ◌<◌, Bool, true, false, List, [], ◌∷◌, Result, Ok, Err, IsTrue, refl, ap, subst, arith}
 use Rattle.std.specs.Prelude.{is_some, nat_lt, nat_le, ◌&&◌}
 use Rattle.std.proofs.lemmas.Bool.{ltb-true}
 use Rattle.grid_model.specs.Names.{Text}

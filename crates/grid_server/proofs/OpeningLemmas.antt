@@ -1,5 +1,5 @@
 -- What the beginning of a run leaves.
-use Rattle.std.proofs.Common.{◌≡◌, ◌≢◌, ◌⊎◌, inl, inr, ℕ, ◌+◌, ◌^◌, ◌<◌, List, [], ◌∷◌, Result, Ok, Err, IsTrue, refl, sym, ap, ◌∙◌, subst, arith, false}
+use Rattle.std.proofs.Common.{◌≡◌, ◌≢◌, ℕ, ◌+◌, ◌^◌, ◌<◌, List, [], ◌∷◌, Ok, Err, IsTrue, refl, sym, ap, ◌∙◌, subst, false}
 use Rattle.grid_outside.specs.Device.{IsSettled}
 use Rattle.grid_outside.specs.Disk.{DiskState}
 use Rattle.grid_outside.specs.declared.outside.Wear.{Wear}
@@ -14,8 +14,6 @@ use Rattle.grid_journal.specs.Journal.{Journal, Keeps}
 use Rattle.grid_journal.specs.Store.{Commits}
 use Rattle.grid_journal.specs.declared.error.JournalError.{JournalError}
 use Rattle.grid_journal.specs.declared.error.JournalError.TheVariants as journal
-use Rattle.grid_server.specs.declared.opening.BeginError.{BeginError}
-use Rattle.grid_server.specs.Held.{IsHeld}
 use Rattle.grid_server.specs.Answering.{Rests}
 use Rattle.grid_server.specs.Opening.{begun, BeginEnds}
 use Rattle.grid_server.specs.Stopping.{IsOfCommit, begin_error_of}

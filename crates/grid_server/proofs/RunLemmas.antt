@@ -1,5 +1,5 @@
 -- From the catalogue that was opened to the run over it.
-use Rattle.std.proofs.Common.{◌≡◌, ◌≢◌, ◌⊎◌, inl, inr, ℕ, ◌^◌, ◌<◌, ◌≤◌, List, [], ◌∷◌, ◌++◌, length, length-append, Result, Ok, Err, IsTrue, arith, refl, sym, subst, ap, ◌∙◌}
+use Rattle.std.proofs.Common.{◌≡◌, ◌⊎◌, inl, inr, ℕ, ◌^◌, ◌<◌, ◌≤◌, List, [], ◌∷◌, ◌++◌, length, length-append, Result, Ok, Err, IsTrue, arith, refl, sym, subst, ap, ◌∙◌}
 use Rattle.std.proofs.lemmas.List.{append-nil}
 use Rattle.std.proofs.lemmas.Bool.{cases_lt}
 use Rattle.grid_outside.specs.Device.{Looks, IsSettled}
@@ -8,12 +8,10 @@ use Rattle.grid_outside.specs.Sink.{SinkState}
 use Rattle.grid_outside.specs.Source.{SourceState}
 use Rattle.grid_outside.specs.declared.outside.Wear.TheVariants as wear
 use Rattle.grid_model.specs.Names.{Text, is_name}
-use Rattle.grid_model.specs.Grid.{Grid}
 use Rattle.grid_model.specs.Rows.{Cat}
 use Rattle.grid_model.specs.Gridding.{grid_of}
 use Rattle.grid_model.specs.Inputs.{none_taken}
 use Rattle.grid_model.specs.Commands.{State, Done, none as nothing_done, state_after}
-use Rattle.grid_model.specs.Replies.{replies}
 use Rattle.grid_model.specs.declared.grid.Side.{Side}
 use Rattle.grid_model.specs.declared.grid.Side.TheVariants.{Main, Spare}
 use Rattle.grid_journal.specs.Stands.{Stands, stands, StandsEither}
@@ -27,7 +25,7 @@ use Rattle.grid_server.specs.declared.status.Status.TheVariants as status
 use Rattle.grid_server.specs.Held.{StandsFor}
 use Rattle.grid_server.specs.Answering.{Goes, Rests}
 use Rattle.grid_server.specs.Opening.{begun, BeginEnds, Begun}
-use Rattle.grid_server.specs.Serving.{begins, Shows, AllButOne, OneImage, IsKept, ClosesAt, Ends, Serves, IsServing}
+use Rattle.grid_server.specs.Serving.{begins, Shows, OneImage, IsKept, ClosesAt, Ends, Serves}
 use Rattle.grid_server.specs.Running.{Refuses, RefusesStores, Inits, Says, IsComplete}
 use Rattle.grid_server.specs.Tasks.{AsksFor, to_serve, to_init, init, serve}
 use Rattle.grid_server.proofs.DoneLemmas.{shows_all, image_of}

@@ -1,6 +1,6 @@
 -- What was served so far, turn by turn, and how it ends.
-use Rattle.std.proofs.Common.{◌≡◌, ◌≢◌, ◌⊎◌, inl, inr, ℕ, zero, suc, ◌+◌, ◌^◌, ◌<◌, ◌≤◌, Bool, true, false, List, [], ◌∷◌, ◌++◌, length, take, slice_get, Option, Some, None, Result, Ok, Err, IsTrue, arith, refl, sym, subst, ap, ◌∙◌, append_assoc, length-append}
-use Rattle.std.specs.Prelude.{max, ⊤}
+use Rattle.std.proofs.Common.{◌≡◌, ◌⊎◌, inl, inr, ℕ, ◌+◌, ◌^◌, ◌<◌, ◌≤◌, Bool, true, false, List, [], ◌∷◌, ◌++◌, length, take, Option, Some, None, Result, Ok, Err, IsTrue, arith, refl, sym, subst, ap, ◌∙◌, append_assoc, length-append}
+use Rattle.std.specs.Prelude.{⊤}
 use Rattle.std.proofs.lemmas.List.{append-nil, take_at}
 use Rattle.std.proofs.lemmas.Bool.{cases_lt}
 use Rattle.grid_outside.specs.Device.{IsSettled}
@@ -15,7 +15,7 @@ use Rattle.grid_model.specs.Lines.{is_request}
 use Rattle.grid_model.specs.Inputs.{Asked, HasBody, Takes, none_taken, AreRequests, ends_blank, ends_in_line, ends_in_body, IsPart, of_line, of_body}
 use Rattle.grid_model.specs.Requests.{Asks}
 use Rattle.grid_model.specs.Commands.{State, Done, command, After, none as nothing_done, state_after}
-use Rattle.grid_model.specs.Replies.{reply, replies, AddsFirst}
+use Rattle.grid_model.specs.Replies.{reply, replies}
 use Rattle.grid_model.specs.declared.requests.Verb.{Verb}
 use Rattle.grid_model.specs.declared.refusal.Refusal.{Refusal}
 use Rattle.grid_server.specs.declared.status.Status.{Status}
@@ -29,12 +29,12 @@ use Rattle.grid_server.specs.declared.line_reader.Ended.TheVariants as ended
 use Rattle.grid_server.specs.declared.line_reader.Passed.TheVariants as passed
 use Rattle.grid_server.specs.Held.{state_of, StandsFor, IsHeld}
 use Rattle.grid_server.specs.Reading.{Reader, ReadsLine, ReadsPart, Passes, PassesPart}
-use Rattle.grid_server.specs.Answering.{Works, Answers, worked, not_begun, Did, Stays, Rests, last_of}
+use Rattle.grid_server.specs.Answering.{Works, Answers, worked, not_begun, Did, Rests, last_of}
 use Rattle.grid_server.specs.Turning.{Gets, with_body, cut_short, at_end, InBody, Turns, answered, stopped, idle, status_of}
 use Rattle.grid_server.specs.Opening.{begun}
-use Rattle.grid_server.specs.Serving.{begins, Begins, Shows, IsCut, AllButOne, IsBefore, IsAfter, OneImage, IsKept, ShowsAll, ClosesAt, ReadAll, ReadPart, ReadMost, NextChanges, Ends, Serves}
+use Rattle.grid_server.specs.Serving.{begins, Begins, OneImage, IsKept, ShowsAll, ClosesAt, Ends, Serves}
 use Rattle.grid_server.proofs.InputLemmas.{push_request, push_blank, takes_of}
-use Rattle.grid_server.proofs.DoneLemmas.{After-push, did_held, replies-push, state_after-more, state_after-all, shows_more, shows_part, shows_whole, shows_all, image_more, image_of, all_but_one, closes_at, cut_or_whole}
+use Rattle.grid_server.proofs.DoneLemmas.{After-push, did_held, replies-push, state_after-all, shows_more, shows_part, shows_whole, shows_all, image_more, image_of, all_but_one, closes_at, cut_or_whole}
 use Rattle.grid_server.proofs.CarryingLemmas.{held_stands}
 use Rattle.grid_server.proofs.RequestLemmas.{held_request, body_held}
 use Rattle.grid_server.proofs.TurnLemmas.{held_rests}

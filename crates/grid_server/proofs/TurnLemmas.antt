@@ -1,5 +1,5 @@
 -- What each turn counts.
-use Rattle.std.proofs.Common.{◌≡◌, true, false, ℕ, ◌+◌, ◌^◌, ◌≤◌, ◌∷◌, length, Option, None, Some, IsTrue, Result, Ok, Err, arith, subst, ap, sym, ◌∙◌, length-append}
+use Rattle.std.proofs.Common.{◌≡◌, true, false, ℕ, ◌+◌, ◌^◌, ◌≤◌, ◌∷◌, length, Option, None, Some, IsTrue, Ok, Err, arith, subst, ap, sym, ◌∙◌, length-append}
 use Rattle.grid_outside.specs.Disk.{DiskState}
 use Rattle.grid_outside.specs.Sink.{SinkState}
 use Rattle.grid_outside.specs.Source.{SourceState}
@@ -10,7 +10,6 @@ use Rattle.grid_server.specs.declared.server.Stop.TheVariants as stop
 use Rattle.grid_server.specs.declared.server.Server.{Server}
 use Rattle.grid_server.specs.declared.serving.Service.{Service}
 use Rattle.grid_model.specs.Names.{Text}
-use Rattle.grid_model.specs.Rows.{Cat}
 use Rattle.grid_server.specs.Held.{IsHeld}
 use Rattle.grid_server.specs.Answering.{Goes, Rests, Answers, worked, not_begun}
 use Rattle.grid_journal.specs.Journal.{Keeps}

@@ -1,5 +1,5 @@
 -- What the parts of a decision are.
-use Rattle.std.specs.Prelude.{◌≡◌, ◌≢◌, ℕ, Bool, true, false, not, [], ◌∷◌, ◌++◌, None, Some, IsTrue, Result, Ok, Err, ⊤}
+use Rattle.std.specs.Prelude.{◌≡◌, ◌≢◌, ℕ, Bool, false, not, [], ◌∷◌, ◌++◌, None, Some, IsTrue, Result, Ok, Err, ⊤}
 use Rattle.grid_model.specs.Names.{Path, is_name}
 use Rattle.grid_model.specs.Rows.{Cat, user, has_collection}
 use Rattle.grid_model.specs.Applying.{is_group_kind}

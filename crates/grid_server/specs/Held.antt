@@ -1,11 +1,11 @@
 -- What the server holds in memory, and what main has beside it.
-use Rattle.std.specs.Prelude.{◌≡◌, ℕ, ◌<◌, List, [], IsTrue, Ok}
+use Rattle.std.specs.Prelude.{◌≡◌, ◌<◌, [], IsTrue, Ok}
 use Rattle.grid_outside.specs.Disk.{DiskState}
 use Rattle.grid_model.specs.Names.{Text}
 use Rattle.grid_model.specs.Rows.{Cat, IsCat}
 use Rattle.grid_model.specs.Gridding.{grid_of, HasPaths}
 use Rattle.grid_model.specs.Commands.{State}
-use Rattle.grid_journal.specs.Journal.{Journal, Keeps}
+use Rattle.grid_journal.specs.Journal.{Keeps}
 use Rattle.grid_journal.specs.Stands.{Stands}
 use Rattle.grid_server.specs.declared.server.Server.{Server}
 

@@ -1,15 +1,14 @@
 -- What the opening of a catalogue for a run comes to.
-use Rattle.std.specs.Prelude.{◌≡◌, ◌≢◌, ◌⊎◌, ℕ, ◌+◌, ◌-◌, ◌^◌, ◌<◌, false, List, length, IsTrue, Result, Ok, Err}
+use Rattle.std.specs.Prelude.{◌≡◌, ℕ, ◌+◌, ◌-◌, ◌^◌, ◌<◌, false, IsTrue, Result, Ok, Err}
 use Rattle.grid_outside.specs.Device.{IsSettled, Leaves}
 use Rattle.grid_outside.specs.Disk.{DiskState}
-use Rattle.grid_model.specs.Names.{Text}
 use Rattle.grid_model.specs.Rows.{Cat}
 use Rattle.grid_model.specs.Gridding.{grid_of}
-use Rattle.grid_journal.specs.Stands.{Stands, StandsEither}
+use Rattle.grid_journal.specs.Stands.{StandsEither}
 use Rattle.grid_server.specs.declared.server.Server.{Server}
 use Rattle.grid_server.specs.declared.opening.BeginError.{BeginError}
 use Rattle.grid_server.specs.declared.opening.BeginError.TheVariants as opening
-use Rattle.grid_server.specs.Held.{StandsFor, IsHeld}
+use Rattle.grid_server.specs.Held.{IsHeld}
 use Rattle.grid_server.specs.Answering.{Goes, Rests}
 use Rattle.grid_server.specs.Serving.{ClosesAt}
 

@@ -1,5 +1,5 @@
 -- What a run of `init` did, and the lines that a run writes beside replies.
-use Rattle.std.specs.Prelude.{◌≡◌, ◌≢◌, ℕ, ◌<◌, [], ◌∷◌, ◌++◌, length, IsTrue, codes, decimal}
+use Rattle.std.specs.Prelude.{◌≡◌, ℕ, [], ◌∷◌, ◌++◌, IsTrue, codes, decimal}
 use Rattle.grid_outside.specs.Device.{IsSettled}
 use Rattle.grid_outside.specs.Disk.{DiskState}
 use Rattle.grid_model.specs.Names.{Text}
@@ -8,7 +8,6 @@ use Rattle.grid_model.specs.Gridding.{grid_of}
 use Rattle.grid_model.specs.declared.grid.Side.{Side}
 use Rattle.grid_model.specs.declared.grid.Side.TheVariants.{Main, Spare}
 use Rattle.grid_journal.specs.Start.{start}
-use Rattle.grid_journal.specs.Store.{IsNotEmpty}
 use Rattle.grid_server.specs.Held.{StandsFor}
 
 -- ---- the lines

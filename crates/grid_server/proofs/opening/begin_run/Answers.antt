@@ -1,4 +1,4 @@
-use Rattle.std.proofs.Common.{◌≡◌, ◌≢◌, inl, ℕ, Ok, Err, IsTrue, false, refl, sym, ap, ◌∙◌, subst, arith, Result}
+use Rattle.std.proofs.Common.{◌≡◌, inl, Err, refl, sym, ap, ◌∙◌, subst, arith}
 use Rattle.grid_outside.proofs.Spans.{leaves_start}
 use Rattle.grid_model.specs.Rows.{Cat, IsCat}
 use Rattle.grid_model.specs.declared.deltas.Numbers.{Numbers}

@@ -1,4 +1,4 @@
-use Rattle.std.proofs.Common.{◌≡◌, ℕ, IsTrue, Err, refl, sym, ap, ◌∙◌, subst}
+use Rattle.std.proofs.Common.{◌≡◌, IsTrue, Err, refl, sym, ap, ◌∙◌, subst}
 use Rattle.std.specs.Prelude.{vec_len}
 use Rattle.grid_model.specs.Rows.{Cat}
 use Rattle.grid_server.specs.Opening.{Begun}

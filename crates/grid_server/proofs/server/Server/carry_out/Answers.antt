@@ -1,8 +1,5 @@
-use Rattle.std.proofs.Common.{◌≡◌, refl, sym, subst, true}
+use Rattle.std.proofs.Common.{refl, subst, true}
 use Rattle.grid_model.specs.Commands.{refused, log_in}
-use Rattle.grid_model.specs.declared.requests.Verb.{Verb}
-use Rattle.grid_model.specs.declared.refusal.Refusal.{Refusal}
-use Rattle.std.specs.Prelude.{Result}
 use Rattle.grid_server.specs.Held.{state_of}
 use Rattle.grid_server.specs.Answering.{Decides}
 use Rattle.grid_server.specs.declared.decision.Decision.{Decision}

@@ -1,13 +1,11 @@
-use Rattle.std.proofs.Common.{◌≡◌, ◌≢◌, inl, ℕ, Ok, Err, IsTrue, refl, sym, ap, ◌∙◌, subst, arith, Result}
-use Rattle.std.specs.Prelude.{⊤}
+use Rattle.std.proofs.Common.{inl, Err, refl, sym, ap, subst, arith}
 use Rattle.std.specs.Result.{is_ok}
 use Rattle.grid_outside.proofs.Spans.{leaves_start}
-use Rattle.grid_outside.specs.declared.outside.Wear.{Wear}
 use Rattle.grid_model.specs.Rows.{Cat, IsCat}
 use Rattle.grid_journal.specs.Stands.{StandsEither}
-use Rattle.grid_server.specs.Answering.{with_made, Makes, MakeEnds}
+use Rattle.grid_server.specs.Answering.{with_made, MakeEnds}
 use Rattle.grid_server.specs.declared.server.Stop.{Stop}
-use Rattle.grid_server.proofs.CarryingLemmas.{held_stands, rests_same, rests_where, goes_nowhere, goes_between, grid_grew, Grew, grew, made_well, made_in_vain, of_commit}
+use Rattle.grid_server.proofs.CarryingLemmas.{held_stands, rests_same, rests_where, goes_nowhere, goes_between, grid_grew, grew, made_well, made_in_vain, of_commit}
 use Rattle.grid_server.proofs.server.Server.make.Goals as goal
 
 pub returns-in_default-clause-makes : goal.returns-in_default-clause-makes

@@ -1,4 +1,4 @@
-use Rattle.std.proofs.Common.{◌≡◌, refl, ◌+◌, ◌≤◌, arith, ap, sym, ◌∙◌, subst}
+use Rattle.std.proofs.Common.{◌≡◌, refl, arith, ap, ◌∙◌}
 use Rattle.grid_model.specs.Replies.{reply}
 use Rattle.grid_model.specs.Commands.{command}
 use Rattle.grid_server.specs.Held.{state_of}
