@@ -3,16 +3,16 @@ ghost use Rattle.frame_log.specs.Log.{frame};
 
 use std::alloc::{AllocError, Global};
 
-// The gate of a record that counts.
+/// The gate of a record that counts.
 pub const OPEN: u8 = 1;
 
-// The gate that ends a log, as it is written. Any gate that is not open ends one.
+/// The gate that ends a log, as it is written. Any gate that is not open ends one.
 pub const CLOSED: u8 = 0;
 
-// The bytes of a length.
+/// The bytes of a length.
 pub const SIZE: usize = 8;
 
-// The bytes of a gate and a length.
+/// The bytes of a gate and a length.
 pub const HEADER: u64 = 9;
 
 /// A record behind its open gate, and a closed gate behind it.

@@ -65,7 +65,7 @@ impl Tables {
         self.is_group(member.group) && self.is_user(member.user)
     }
 
-    // Whether a user is in a group. It takes no memory.
+    /// Whether a user is in a group. It takes no memory.
     pub fn is_member(&self, group: u32, user: u32) -> bool
         ensures { result ≡ is_member self.now group user }
     {

@@ -10,6 +10,7 @@ use grid_model::{
 };
 use std::alloc::AllocError;
 
+/// Adds the fields of a user or group. Fails for want of memory alone.
 pub fn put_user(out: &mut Vec<u8>, row: &UserRow) -> Result<(), AllocError>
     ensures { OnOk result (out.new.items ≡ out.old.items ++ joined (user_row row.now)) }
 {
@@ -18,6 +19,7 @@ pub fn put_user(out: &mut Vec<u8>, row: &UserRow) -> Result<(), AllocError>
     put_text(out, &row.name)
 }
 
+/// Adds the fields of a member of a group. Fails for want of memory alone.
 pub fn put_member(out: &mut Vec<u8>, row: &MemberRow) -> Result<(), AllocError>
     ensures { OnOk result (out.new.items ≡ out.old.items ++ joined (member_row row.now)) }
 {
@@ -25,6 +27,7 @@ pub fn put_member(out: &mut Vec<u8>, row: &MemberRow) -> Result<(), AllocError>
     put_u32(out, row.user)
 }
 
+/// Adds the fields of a collection. Fails for want of memory alone.
 pub fn put_collection(out: &mut Vec<u8>, row: &CollectionRow) -> Result<(), AllocError>
     ensures { OnOk result (out.new.items ≡ out.old.items ++ joined (collection_row row.now)) }
 {
@@ -34,6 +37,7 @@ pub fn put_collection(out: &mut Vec<u8>, row: &CollectionRow) -> Result<(), Allo
     put_code(out, row.inherit)
 }
 
+/// Adds the fields of an object. Fails for want of memory alone.
 pub fn put_object(out: &mut Vec<u8>, row: &ObjectRow) -> Result<(), AllocError>
     ensures { OnOk result (out.new.items ≡ out.old.items ++ joined (object_row row.now)) }
 {
@@ -45,6 +49,7 @@ pub fn put_object(out: &mut Vec<u8>, row: &ObjectRow) -> Result<(), AllocError>
     put_u64(out, row.time)
 }
 
+/// Adds the fields of a replica. Fails for want of memory alone.
 pub fn put_replica(out: &mut Vec<u8>, row: &ReplicaRow) -> Result<(), AllocError>
     ensures { OnOk result (out.new.items ≡ out.old.items ++ joined (replica_row row.now)) }
 {
@@ -57,6 +62,7 @@ pub fn put_replica(out: &mut Vec<u8>, row: &ReplicaRow) -> Result<(), AllocError
     put_u64(out, row.vault)
 }
 
+/// Adds the fields of metadata. Fails for want of memory alone.
 pub fn put_triple(out: &mut Vec<u8>, row: &TripleRow) -> Result<(), AllocError>
     ensures { OnOk result (out.new.items ≡ out.old.items ++ joined (triple_row row.now)) }
 {
@@ -67,6 +73,7 @@ pub fn put_triple(out: &mut Vec<u8>, row: &TripleRow) -> Result<(), AllocError>
     put_text(out, &row.unit)
 }
 
+/// Adds the fields of an entry of access. Fails for want of memory alone.
 pub fn put_entry(out: &mut Vec<u8>, row: &EntryRow) -> Result<(), AllocError>
     ensures { OnOk result (out.new.items ≡ out.old.items ++ joined (entry_row row.now)) }
 {
@@ -76,6 +83,7 @@ pub fn put_entry(out: &mut Vec<u8>, row: &EntryRow) -> Result<(), AllocError>
     put_code(out, row.level)
 }
 
+/// Adds the fields of a resource. Fails for want of memory alone.
 pub fn put_resource(out: &mut Vec<u8>, row: &ResourceRow) -> Result<(), AllocError>
     ensures { OnOk result (out.new.items ≡ out.old.items ++ joined (resource_row row.now)) }
 {
@@ -88,6 +96,7 @@ pub fn put_resource(out: &mut Vec<u8>, row: &ResourceRow) -> Result<(), AllocErr
     put_u32(out, row.place)
 }
 
+/// Adds the fields of a file that no replica has. Fails for want of memory alone.
 pub fn put_orphan(out: &mut Vec<u8>, row: &OrphanRow) -> Result<(), AllocError>
     ensures { OnOk result (out.new.items ≡ out.old.items ++ joined (orphan_row row.now)) }
 {
@@ -95,6 +104,7 @@ pub fn put_orphan(out: &mut Vec<u8>, row: &OrphanRow) -> Result<(), AllocError>
     put_byte(out, row.slot)
 }
 
+/// Adds the fields of the numbers. Fails for want of memory alone.
 pub fn put_numbers(out: &mut Vec<u8>, row: &Numbers) -> Result<(), AllocError>
     ensures { OnOk result (out.new.items ≡ out.old.items ++ joined (numbers row.now)) }
 {

@@ -14,6 +14,7 @@ use grid_model::{
 };
 use std::alloc::Global;
 
+/// Reads the fields of a user or group, and gives the bytes behind them too.
 pub fn user(alloc: Global, bytes: &[u8]) -> Result<(UserRow, &[u8]), Stop>
     ensures { Gives (λ x. (x.0, x.1.now)) result (user_at bytes.now) }
 {
@@ -23,6 +24,7 @@ pub fn user(alloc: Global, bytes: &[u8]) -> Result<(UserRow, &[u8]), Stop>
     Ok((UserRow { id, kind, name }, rest))
 }
 
+/// Reads the fields of a member of a group, and gives the bytes behind them too.
 pub fn member(bytes: &[u8]) -> Result<(MemberRow, &[u8]), Stop>
     ensures { Gives (λ x. (x.0, x.1.now)) result (member_at bytes.now) }
 {
@@ -31,6 +33,7 @@ pub fn member(bytes: &[u8]) -> Result<(MemberRow, &[u8]), Stop>
     Ok((MemberRow { group, user }, rest))
 }
 
+/// Reads the fields of a collection, and gives the bytes behind them too.
 pub fn collection(alloc: Global, bytes: &[u8]) -> Result<(CollectionRow, &[u8]), Stop>
     ensures { Gives (λ x. (x.0, x.1.now)) result (collection_at bytes.now) }
 {
@@ -47,6 +50,7 @@ pub fn collection(alloc: Global, bytes: &[u8]) -> Result<(CollectionRow, &[u8]),
     Ok((row, rest))
 }
 
+/// Reads the fields of an object, and gives the bytes behind them too.
 pub fn object(alloc: Global, bytes: &[u8]) -> Result<(ObjectRow, &[u8]), Stop>
     ensures { Gives (λ x. (x.0, x.1.now)) result (object_at bytes.now) }
 {
@@ -67,6 +71,7 @@ pub fn object(alloc: Global, bytes: &[u8]) -> Result<(ObjectRow, &[u8]), Stop>
     Ok((row, rest))
 }
 
+/// Reads the fields of a replica, and gives the bytes behind them too.
 pub fn replica(bytes: &[u8]) -> Result<(ReplicaRow, &[u8]), Stop>
     ensures { Gives (λ x. (x.0, x.1.now)) result (replica_at bytes.now) }
 {
@@ -89,6 +94,7 @@ pub fn replica(bytes: &[u8]) -> Result<(ReplicaRow, &[u8]), Stop>
     Ok((row, rest))
 }
 
+/// Reads the fields of metadata, and gives the bytes behind them too.
 pub fn triple(alloc: Global, bytes: &[u8]) -> Result<(TripleRow, &[u8]), Stop>
     ensures { Gives (λ x. (x.0, x.1.now)) result (triple_at bytes.now) }
 {
@@ -107,6 +113,7 @@ pub fn triple(alloc: Global, bytes: &[u8]) -> Result<(TripleRow, &[u8]), Stop>
     Ok((row, rest))
 }
 
+/// Reads the fields of an entry of access, and gives the bytes behind them too.
 pub fn entry(bytes: &[u8]) -> Result<(EntryRow, &[u8]), Stop>
     ensures { Gives (λ x. (x.0, x.1.now)) result (entry_at bytes.now) }
 {
@@ -123,6 +130,7 @@ pub fn entry(bytes: &[u8]) -> Result<(EntryRow, &[u8]), Stop>
     Ok((row, rest))
 }
 
+/// Reads the fields of a resource, and gives the bytes behind them too.
 pub fn resource(alloc: Global, bytes: &[u8]) -> Result<(ResourceRow, &[u8]), Stop>
     ensures { Gives (λ x. (x.0, x.1.now)) result (resource_at bytes.now) }
 {
@@ -145,6 +153,7 @@ pub fn resource(alloc: Global, bytes: &[u8]) -> Result<(ResourceRow, &[u8]), Sto
     Ok((row, rest))
 }
 
+/// Reads the fields of a file that no replica has, and gives the bytes behind them too.
 pub fn orphan(bytes: &[u8]) -> Result<(OrphanRow, &[u8]), Stop>
     ensures { Gives (λ x. (x.0, x.1.now)) result (orphan_at bytes.now) }
 {
@@ -153,6 +162,7 @@ pub fn orphan(bytes: &[u8]) -> Result<(OrphanRow, &[u8]), Stop>
     Ok((OrphanRow { vault, slot }, rest))
 }
 
+/// Reads the fields of the numbers, and gives the bytes behind them too.
 pub fn numbers(bytes: &[u8]) -> Result<(Numbers, &[u8]), Stop>
     ensures { Gives (λ x. (x.0, x.1.now)) result (numbers_at bytes.now) }
 {
