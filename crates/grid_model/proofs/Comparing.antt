@@ -32,9 +32,6 @@ same_text-Decides = eq_by_cmp-Decides text_cmp_total text_cmp-IsAntisymmetric
 pub same_path-Decides : (p q : Path) → Decides (same_path p q) (p ≡ q)
 same_path-Decides = eq_by_cmp-Decides path_cmp_total path_cmp-IsAntisymmetric
 
-pub same_text-self : (a : Text) → same_text a a ≡ true
-same_text-self a = (same_text-Decides a a).1 refl
-
 pub same_path-self : (p : Path) → same_path p p ≡ true
 same_path-self p = (same_path-Decides p p).1 refl
 

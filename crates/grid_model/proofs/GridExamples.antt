@@ -1,5 +1,5 @@
 -- The definitions of requests, replies and the catalogue on worked examples.
-use Rattle.std.proofs.Common.{◌≡◌, true, false, [], ◌∷◌, ◌++◌, Some, None, Ok, Err, refl, lit≤}
+use Rattle.std.proofs.Common.{◌≡◌, true, false, [], ◌∷◌, ◌++◌, Ok, Err, refl, lit≤}
 use Rattle.std.specs.Prelude.{codes, decimal, map, replicate}
 use Rattle.grid_model.specs.Names.{Text, Path}
 use Rattle.grid_model.specs.Grid.{start}

@@ -1,21 +1,17 @@
 -- What the grid of a catalogue's rows answers, and what a new collection does to it.
-use Rattle.std.proofs.Common.{◌≡◌, ◌≢◌, ℕ, zero, suc, ◌+◌, ◌≤◌, Bool, true, false, cond, List, [], ◌∷◌, ◌++◌, length, Option, Some, None, IsTrue, refl, sym, ap, ◌∙◌, subst, arith, add-one}
-use Rattle.std.specs.Prelude.{find, map, option_map, is_some, not, ◌&&◌, ◌||◌, ◌==◌, reverse}
-use Rattle.std.specs.List.{filter_map, list_any, cons_option}
+use Rattle.std.proofs.Common.{◌≡◌, Bool, true, false, cond, List, [], ◌∷◌, Option, Some, None, refl, sym, ap, ◌∙◌}
+use Rattle.std.specs.Prelude.{find, map, option_map, is_some}
+use Rattle.std.specs.List.{cons_option}
 use Rattle.std.specs.declared.cmp.Ordering.{Ordering}
-use Rattle.std.specs.declared.cmp.Ordering.TheVariants.{Less, Equal, Greater}
 use Rattle.std.specs.Ordering.{eq_by_cmp}
 use Rattle.std.specs.Cmp.{IsTotalOrder, eq_by_cmp_equiv}
-use Rattle.grid_model.specs.Maps.{Map, get, has, put, from_list}
-use Rattle.grid_model.specs.Names.{Text, Path, path_cmp, same_path, text_cmp, same_text}
+use Rattle.grid_model.specs.Maps.{get, has, from_list}
+use Rattle.grid_model.specs.Names.{Text, Path, same_path, same_text}
 use Rattle.grid_model.specs.RowPaths.{is_path_of, collection_path, object_path, collection_at, object_at}
 use Rattle.grid_model.specs.Rows.{Cat}
 use Rattle.grid_model.specs.Gridding.{by_path, grid_of, object_of}
 use Rattle.grid_model.specs.declared.grid.UserKind.{UserKind}
 use Rattle.grid_model.specs.declared.deltas.UserRow.{UserRow}
-use Rattle.grid_model.specs.declared.deltas.CollectionRow.{CollectionRow}
-use Rattle.grid_model.specs.declared.deltas.ObjectRow.{ObjectRow}
-use Rattle.grid_model.specs.Grid.{Object}
 use Rattle.grid_model.proofs.MapLemmas.{get-put}
 use Rattle.grid_model.proofs.Comparing.{path_cmp_total, text_cmp_total}
 

@@ -1,18 +1,15 @@
 -- A new collection fits the catalogue, and the grid has it and all that it had.
-use Rattle.std.proofs.Common.{◌≡◌, ◌≢◌, ℕ, zero, suc, ◌<◌, Bool, true, false, cond, List, [], ◌∷◌, ◌++◌, length, Option, Some, None, IsTrue, refl, sym, ap, ◌∙◌, subst, arith}
+use Rattle.std.proofs.Common.{◌≡◌, ℕ, zero, suc, ◌<◌, Bool, true, false, cond, List, [], ◌∷◌, ◌++◌, length, Option, Some, None, IsTrue, refl, sym, ap, ◌∙◌, subst, arith}
 use Rattle.std.specs.Prelude.{find, option_map, is_some, not, ◌&&◌, ◌||◌, ◌==◌, reverse, Result, Ok, Err, nat_lt, nat_le}
 use Rattle.std.proofs.lemmas.Bool.{lt-ltb, le-leb}
 use Rattle.grid_model.specs.declared.deltas.Numbers.{Numbers}
 use Rattle.std.specs.List.{list_any, AllByRecursion}
-use Rattle.std.specs.List.Sorted.{IsStrictlySortedBy}
-use Rattle.std.specs.declared.cmp.Ordering.TheVariants.{Less}
-use Rattle.grid_model.specs.Names.{Text, Path, path_cmp, same_path, same_text, is_name}
-use Rattle.grid_model.specs.Maps.{Map, get, put}
-use Rattle.grid_model.specs.Grid.{Grid, Object}
+use Rattle.grid_model.specs.Names.{Text, Path, same_path, same_text, is_name}
+use Rattle.grid_model.specs.Maps.{put}
 use Rattle.grid_model.specs.Commands.{with_collection}
-use Rattle.grid_model.specs.Rows.{Cat, IsCat, collection_cmp, with_row, collection, has_collection}
-use Rattle.grid_model.specs.Applying.{apply, apply_all, numbers_fit, collection_fits, lies_within, lies_in, is_child, is_child_named, is_object_named, free_for_collection, where_fits}
-use Rattle.grid_model.specs.RowPaths.{is_path_of, names_within, names_up, collection_path, object_path, collection_at, object_at}
+use Rattle.grid_model.specs.Rows.{Cat, IsCat, collection_cmp, collection, has_collection}
+use Rattle.grid_model.specs.Applying.{apply, apply_all, numbers_fit, collection_fits, lies_within, lies_in, is_child_named, is_object_named, free_for_collection, where_fits}
+use Rattle.grid_model.specs.RowPaths.{is_path_of, names_within, names_up, collection_path, object_path}
 use Rattle.grid_model.specs.Gridding.{grid_of, object_of, HasPaths, with_collection_row, IsNewAt}
 use Rattle.grid_model.specs.declared.deltas.CollectionRow.{CollectionRow}
 use Rattle.grid_model.specs.declared.deltas.ObjectRow.{ObjectRow}
@@ -21,7 +18,7 @@ use Rattle.grid_model.proofs.Comparing.{same_path-Decides, same_path-self, same_
 use Rattle.grid_model.proofs.MapLemmas.{get-put, same_map}
 use Rattle.grid_model.proofs.TableLemmas.{all-map}
 use Rattle.grid_model.proofs.RowOrders.{lower_id}
-use Rattle.grid_model.proofs.FoundRows.{find-other, find-new, find-alike, none_passes, none_is_found, none_any, any-with_row, find-self}
+use Rattle.grid_model.proofs.FoundRows.{find-other, find-new, find-alike, none_passes, none_any, any-with_row, find-self}
 use Rattle.grid_model.proofs.Gridding.{get-collections, get-objects}
 use Rattle.grid_model.proofs.NewCollections.{eqb-eq, eqb-true, eqb-false, others, names-more, Up, up_of, up-kept, up-new, path-kept, At, at_of, at_path, walk, collection-fresh}
 use Rattle.std.proofs.lemmas.List.{reverse-append}

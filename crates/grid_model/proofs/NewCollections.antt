@@ -1,21 +1,16 @@
 -- What a new collection does to the catalogue's paths and to its grid.
-use Rattle.std.proofs.Common.{◌≡◌, ◌≢◌, ℕ, zero, suc, ◌+◌, ◌≤◌, Bool, true, false, cond, List, [], ◌∷◌, ◌++◌, length, Option, Some, None, IsTrue, refl, sym, ap, ◌∙◌, subst, arith}
-use Rattle.std.specs.Prelude.{find, option_map, is_some, not, ◌&&◌, ◌||◌, ◌==◌, reverse}
+use Rattle.std.proofs.Common.{◌≡◌, ◌≢◌, ℕ, zero, suc, Bool, true, false, List, [], ◌∷◌, length, Option, Some, None, IsTrue, refl, sym, ap, ◌∙◌, subst, arith}
+use Rattle.std.specs.Prelude.{find, option_map, is_some, ◌||◌, ◌==◌, reverse}
 use Rattle.std.specs.List.{list_any, AllByRecursion}
-use Rattle.std.specs.declared.cmp.Ordering.{Ordering}
-use Rattle.std.specs.declared.cmp.Ordering.TheVariants.{Less, Equal, Greater}
-use Rattle.std.specs.Ordering.{nat_cmp}
+use Rattle.std.specs.declared.cmp.Ordering.TheVariants.{Equal}
 use Rattle.std.specs.FinMap.{nat_cmp-IsAntisymmetric}
-use Rattle.grid_model.specs.Names.{Text, Path, same_path}
-use Rattle.grid_model.specs.Maps.{get, put}
-use Rattle.grid_model.specs.Grid.{Grid}
-use Rattle.grid_model.specs.Commands.{with_collection}
-use Rattle.grid_model.specs.Rows.{Cat, collection_cmp, with_row, collection, has_collection}
-use Rattle.grid_model.specs.RowPaths.{is_path_of, names_within, names_up, collection_path, object_path, collection_at, object_at}
-use Rattle.grid_model.specs.Gridding.{grid_of, HasPaths, with_collection_row, IsNewAt}
+use Rattle.grid_model.specs.Names.{Path}
+use Rattle.grid_model.specs.Rows.{Cat, collection_cmp, collection, has_collection}
+use Rattle.grid_model.specs.RowPaths.{is_path_of, names_within, names_up, collection_path, collection_at}
+use Rattle.grid_model.specs.Gridding.{with_collection_row}
 use Rattle.grid_model.specs.declared.deltas.CollectionRow.{CollectionRow}
-use Rattle.grid_model.proofs.FoundRows.{is_some-find, find-other, find-new, find-alike, none_passes, length-new, any-with_row, found_passes, none_any}
-use Rattle.grid_model.proofs.TableLemmas.{find-passes, all-map}
+use Rattle.grid_model.proofs.FoundRows.{is_some-find, find-other, find-new, none_passes, length-new, found_passes}
+use Rattle.grid_model.proofs.TableLemmas.{find-passes}
 use Rattle.grid_model.proofs.Comparing.{same_path-Decides}
 
 -- ---- rows that are there

@@ -1,6 +1,6 @@
 -- What requests do, one after another. Each refused request leaves the grid as it was. The verbs, and the order in
 -- which their refusals are tested, are this project's own.
-use Rattle.std.specs.Prelude.{◌≡◌, ℕ, zero, suc, Bool, true, false, not, ◌&&◌, ◌||◌, List, [], ◌∷◌, Option, Some, None, Result, Ok, Err, ⊤}
+use Rattle.std.specs.Prelude.{◌≡◌, ℕ, zero, suc, Bool, true, false, not, ◌||◌, List, [], ◌∷◌, Some, None, Result, Ok, Err, ⊤}
 use Rattle.grid_model.specs.Maps.{get, has, put}
 use Rattle.grid_model.specs.Names.{Text, Path, parent}
 use Rattle.grid_model.specs.Grid.{Grid}

@@ -1,6 +1,6 @@
 -- The whole grid: what its users see, by full paths and names, without ids, vault files or what is not done. Its rules
 -- are not in it yet.
-use Rattle.std.specs.Prelude.{ℕ, Bool, true, false, List, [], ◌∷◌, Option}
+use Rattle.std.specs.Prelude.{ℕ, Bool, false, List, [], ◌∷◌, Option}
 use Rattle.std.specs.declared.cmp.Ordering.{Ordering}
 use Rattle.std.specs.Ordering.{nat_cmp, ordering_then}
 use Rattle.grid_model.specs.Maps.{Map, Set, empty, put}

@@ -1,6 +1,6 @@
 -- The grid that a catalogue's rows stand for: full paths for ids. Vault numbers, orphans, the numbers of runs and
 -- commands and what is pending are not in it.
-use Rattle.std.specs.Prelude.{◌≡◌, ◌≢◌, ℕ, Bool, false, List, Option, Some, None, option_map, unwrap_or, [], ◌∷◌, ◌++◌, map, is_some, IsTrue}
+use Rattle.std.specs.Prelude.{◌≡◌, ◌≢◌, ℕ, false, List, Option, Some, None, option_map, unwrap_or, [], ◌∷◌, ◌++◌, map, is_some, IsTrue}
 use Rattle.std.specs.List.{filter_map, AllByRecursion}
 use Rattle.grid_model.specs.Maps.{from_list}
 use Rattle.grid_model.specs.Names.{Path, is_name}

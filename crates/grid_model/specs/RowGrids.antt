@@ -1,7 +1,6 @@
 -- The grid that a catalogue stands for: full paths and names in the place of ids.
-use Rattle.std.specs.Prelude.{ℕ, List, [], ◌∷◌, ◌++◌, ◌==◌, ◌&&◌, Bool, true, false, Option, None, Some, option_map, unwrap_or, map, filter, length, nat_lt}
-use Rattle.std.specs.declared.cmp.Ordering.{Ordering}
-use Rattle.grid_model.specs.Maps.{Map, Set, empty, put}
+use Rattle.std.specs.Prelude.{ℕ, [], ◌∷◌, ◌++◌, ◌==◌, ◌&&◌, Bool, true, false, Option, None, Some, option_map, unwrap_or, map, filter, length, nat_lt}
+use Rattle.grid_model.specs.Maps.{from_list}
 use Rattle.grid_model.specs.Names.{Text, Path}
 use Rattle.grid_model.specs.Rows.{Cat, user, object, resource, replicas_of}
 use Rattle.grid_model.specs.RowPaths.{collection_path}
@@ -14,12 +13,6 @@ use Rattle.grid_model.specs.declared.deltas.ObjectRow.{ObjectRow}
 use Rattle.grid_model.specs.declared.deltas.ReplicaRow.{ReplicaRow}
 use Rattle.grid_model.specs.declared.deltas.ResourceRow.{ResourceRow}
 use Rattle.grid_model.specs.declared.deltas.TripleRow.{TripleRow}
-use Rattle.grid_model.specs.declared.deltas.EntryRow.{EntryRow}
-
--- the map with these entries, the first one of a key
-abbrev pub map_of : {K X : Type 0} {R : K → K → Ordering} → List (K × X) → Map R X
-map_of [] = empty
-map_of (e ∷ es) = put (map_of es) e.0 e.1
 
 -- the name of a user or a group, and of a resource; no bytes where there is none
 abbrev pub user_name : Cat → ℕ → Text
@@ -49,7 +42,7 @@ object_of c r = record {
   size = r.size;
   digest = r.digest;
   time = r.time;
-  replicas = map_of (map (λ x. (x.number, replica_of c x)) (replicas_of c r.id));
+  replicas = from_list (map (λ x. (x.number, replica_of c x)) (replicas_of c r.id));
 }
 
 -- ---- paths, where the paths of collections are given
@@ -81,13 +74,13 @@ abbrev pub grid_at : Cat → Places → FullGrid
 grid_at c paths = record {
   zone = unwrap_or c.zone [];
   stores = c.stores;
-  users = map_of (map (λ r. (r.name, r.kind)) c.users);
-  members = map_of (map (λ m. ((user_name c m.group, user_name c m.user), tt)) c.members);
-  collections = map_of (map (λ r. (collection_place paths r.id, r.inherit)) c.collections);
-  objects = map_of (map (λ r. (object_place paths r, object_of c r)) c.objects);
-  triples = map_of (map (λ t. (triple_of c paths t, tt)) c.triples);
-  access = map_of (map (λ e. ((item_place c paths e.kind e.id, user_name c e.user), e.level)) c.entries);
-  resources = map_of (map (λ r. (r.name, resource_of c r)) c.resources);
+  users = from_list (map (λ r. (r.name, r.kind)) c.users);
+  members = from_list (map (λ m. ((user_name c m.group, user_name c m.user), tt)) c.members);
+  collections = from_list (map (λ r. (collection_place paths r.id, r.inherit)) c.collections);
+  objects = from_list (map (λ r. (object_place paths r, object_of c r)) c.objects);
+  triples = from_list (map (λ t. (triple_of c paths t, tt)) c.triples);
+  access = from_list (map (λ e. ((item_place c paths e.kind e.id, user_name c e.user), e.level)) c.entries);
+  resources = from_list (map (λ r. (r.name, resource_of c r)) c.resources);
 }
 
 -- the grid that a catalogue stands for

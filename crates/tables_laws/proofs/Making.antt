@@ -6,9 +6,8 @@ use Rattle.std.specs.declared.cmp.Ordering.TheVariants.{Less, Equal, Greater}
 use Rattle.std.specs.Ordering.{eq_by_cmp}
 use Rattle.std.specs.Cmp.{IsTotalOrder, eq_by_cmp_equiv}
 use Rattle.std.specs.FinMap.{IsAntisymmetric}
-use Rattle.grid_model.specs.Maps.{get, put}
+use Rattle.grid_model.specs.Maps.{get, put, from_list}
 use Rattle.grid_model.specs.Rows.{with_row}
-use Rattle.grid_model.specs.RowGrids.{map_of}
 use Rattle.grid_model.proofs.MapLemmas.{get-put, same_map}
 use Rattle.tables_laws.proofs.Rows.{IsIn}
 
@@ -30,18 +29,18 @@ module _ {K V X : Type 0} {R : K → K → Ordering} (o : IsTotalOrder R) (cmp :
   swapped false false x y m apart = refl
 
   get-with_row : (rows : List X) (row : X) → ((x : X) → IsIn rows x → cmp row x ≡ Equal → ⊥) → ((x : X) → IsIn rows x → eq_by_cmp R (key x) (key row) ≡ false) → (q : K)
-      → get (map_of {R = R} (entries_of (with_row cmp rows row))) q ≡ cond (eq_by_cmp R q (key row)) (Some (value row)) (get (map_of {R = R} (entries_of rows)) q)
-  get-with_row [] row new apart q = get-put o (map_of (entries_of [])) (key row) (value row) q
+      → get (from_list {R = R} (entries_of (with_row cmp rows row))) q ≡ cond (eq_by_cmp R q (key row)) (Some (value row)) (get (from_list {R = R} (entries_of rows)) q)
+  get-with_row [] row new apart q = get-put o (from_list (entries_of [])) (key row) (value row) q
   get-with_row (r ∷ rows) row new apart q =
-      elim (cmp row r) as (λ s. cmp row r ≡ s → get (map_of {R = R} (entries_of (elim s [ Less ↦ row ∷ r ∷ rows | Equal ↦ row ∷ rows | Greater ↦ r ∷ with_row cmp rows row ]))) q
-      ≡ cond (eq_by_cmp R q (key row)) (Some (value row)) (get (map_of {R = R} (entries_of (r ∷ rows))) q)) [
-        | Less ↦ λ e. get-put o (map_of (entries_of (r ∷ rows))) (key row) (value row) q
+      elim (cmp row r) as (λ s. cmp row r ≡ s → get (from_list {R = R} (entries_of (elim s [ Less ↦ row ∷ r ∷ rows | Equal ↦ row ∷ rows | Greater ↦ r ∷ with_row cmp rows row ]))) q
+      ≡ cond (eq_by_cmp R q (key row)) (Some (value row)) (get (from_list {R = R} (entries_of (r ∷ rows))) q)) [
+        | Less ↦ λ e. get-put o (from_list (entries_of (r ∷ rows))) (key row) (value row) q
         | Equal ↦ λ e. absurd (new r (inl refl) e)
         | Greater ↦ λ e.
-            get-put o (map_of (entries_of (with_row cmp rows row))) (key r) (value r) q
+            get-put o (from_list (entries_of (with_row cmp rows row))) (key r) (value r) q
             ∙ ap (λ (m : Option V). cond (eq_by_cmp R q (key r)) (Some (value r)) m) (get-with_row rows row (λ x later. new x (inr later)) (λ x later. apart x (inr later)) q)
-            ∙ swapped (eq_by_cmp R q (key r)) (eq_by_cmp R q (key row)) (value r) (value row) (get (map_of (entries_of rows)) q) tied
-            ∙ ap (λ (m : Option V). cond (eq_by_cmp R q (key row)) (Some (value row)) m) (sym (get-put o (map_of (entries_of rows)) (key r) (value r) q))
+            ∙ swapped (eq_by_cmp R q (key r)) (eq_by_cmp R q (key row)) (value r) (value row) (get (from_list (entries_of rows)) q) tied
+            ∙ ap (λ (m : Option V). cond (eq_by_cmp R q (key row)) (Some (value row)) m) (sym (get-put o (from_list (entries_of rows)) (key r) (value r) q))
       ] refl
     where
       tied : eq_by_cmp R q (key r) ≡ true → eq_by_cmp R q (key row) ≡ true → ⊥
@@ -53,8 +52,8 @@ module _ {K V X : Type 0} {R : K → K → Ordering} (o : IsTotalOrder R) (cmp :
           cc
 
   -- a new row whose key no other one has
-  pub map_of-with_row : IsAntisymmetric R → (rows : List X) (row : X) → ((x : X) → IsIn rows x → cmp row x ≡ Equal → ⊥) → ((x : X) → IsIn rows x → eq_by_cmp R (key x) (key row) ≡ false)
-      → map_of {R = R} (entries_of (with_row cmp rows row)) ≡ put (map_of (entries_of rows)) (key row) (value row)
-  map_of-with_row same rows row new apart =
-      same_map o same (map_of (entries_of (with_row cmp rows row))) (put (map_of (entries_of rows)) (key row) (value row))
-      (λ q. get-with_row rows row new apart q ∙ sym (get-put o (map_of (entries_of rows)) (key row) (value row) q))
+  pub from_list-with_row : IsAntisymmetric R → (rows : List X) (row : X) → ((x : X) → IsIn rows x → cmp row x ≡ Equal → ⊥) → ((x : X) → IsIn rows x → eq_by_cmp R (key x) (key row) ≡ false)
+      → from_list {R = R} (entries_of (with_row cmp rows row)) ≡ put (from_list (entries_of rows)) (key row) (value row)
+  from_list-with_row same rows row new apart =
+      same_map o same (from_list (entries_of (with_row cmp rows row))) (put (from_list (entries_of rows)) (key row) (value row))
+      (λ q. get-with_row rows row new apart q ∙ sym (get-put o (from_list (entries_of rows)) (key row) (value row) q))

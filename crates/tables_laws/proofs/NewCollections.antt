@@ -4,14 +4,14 @@ use Rattle.std.specs.Prelude.{map, option_map, reverse, unwrap_or}
 use Rattle.std.specs.Ordering.{eq_by_cmp}
 use Rattle.std.proofs.lemmas.Bool.{and_parts}
 use Rattle.std.proofs.lemmas.List.{reverse-append}
-use Rattle.grid_model.specs.Maps.{Map, put}
+use Rattle.grid_model.specs.Maps.{Map, put, from_list}
 use Rattle.grid_model.specs.Names.{Text, Path, path_cmp}
 use Rattle.grid_model.specs.Rows.{Cat, object, has_collection, item_there, collection_cmp, id_of, empty_cat}
 use Rattle.grid_model.specs.RowPaths.{names_within, names_up, collection_path}
 use Rattle.grid_model.specs.Applying.{apply, apply_all, collection_fits, gives_access, is_given}
 use Rattle.grid_model.specs.RowTrees.{IsTree}
 use Rattle.grid_model.specs.FullGrid.{FullGrid, Object, Thing, Triple, object_at, collection_at}
-use Rattle.grid_model.specs.RowGrids.{map_of, grid_of, collection_place, object_place, item_place, thing_of, triple_of, object_of, user_name}
+use Rattle.grid_model.specs.RowGrids.{grid_of, collection_place, object_place, item_place, thing_of, triple_of, object_of, user_name}
 use Rattle.grid_model.specs.declared.deltas.Delta.{Delta}
 use Rattle.grid_model.specs.declared.deltas.Delta.TheVariants as delta
 use Rattle.grid_model.specs.declared.deltas.Item.{Item}
@@ -32,7 +32,7 @@ use Rattle.tables_laws.proofs.Forest.{way_of, asks_collection, with_collection}
 use Rattle.tables_laws.proofs.Trees.{tree_from_forest}
 use Rattle.tables_laws.proofs.Standing.{TripleStands, EntryStands}
 use Rattle.tables_laws.proofs.Sound.{IsSound, sound-with_collection, sound-made, fits_so}
-use Rattle.tables_laws.proofs.Making.{map-congr, map_of-with_row}
+use Rattle.tables_laws.proofs.Making.{map-congr, from_list-with_row}
 
 pub place_is : (c : Cat) (id : ℕ) (path : Path) → collection_path c id ≡ Some path → collection_place (collection_path c) id ≡ path
 place_is c id path e = ap (λ (o : Option Path). unwrap_or o []) e
@@ -96,17 +96,17 @@ module _ (c : Cat) (s : IsSound c) (r : CollectionRow) (new : has_collection c r
   -- ---- the parts of the grid
 
   abbrev grown : Map path_cmp Bool
-  grown = put (map_of (map (λ x. (collection_place (collection_path c) x.id, x.inherit)) c.collections)) (collection_place (collection_path c) r.parent ++ r.name ∷ []) r.inherit
+  grown = put (from_list (map (λ x. (collection_place (collection_path c) x.id, x.inherit)) c.collections)) (collection_place (collection_path c) r.parent ++ r.name ∷ []) r.inherit
 
-  collections_grown : map_of {R = path_cmp} (map (λ x. (collection_place (collection_path after) x.id, x.inherit)) after.collections) ≡ grown
+  collections_grown : from_list {R = path_cmp} (map (λ x. (collection_place (collection_path after) x.id, x.inherit)) after.collections) ≡ grown
   collections_grown =
-      map_of-with_row path_cmp_total collection_cmp (λ (x : CollectionRow). collection_place (collection_path after) x.id) (λ (x : CollectionRow). x.inherit) path_cmp-IsAntisymmetric c.collections r
+      from_list-with_row path_cmp_total collection_cmp (λ (x : CollectionRow). collection_place (collection_path after) x.id) (λ (x : CollectionRow). x.inherit) path_cmp-IsAntisymmetric c.collections r
       (λ x here e. let is : r.id ≡ x.id = same_number r.id x.id e in not_new x.id (any_from_in (λ y. y.id == x.id) c.collections x here (eq-eqb x.id x.id refl)) (sym is))
       apart_from_new
-      ∙ ap (λ (es : List (Path × Bool)). put (map_of es) (collection_place (collection_path after) r.id) r.inherit)
+      ∙ ap (λ (es : List (Path × Bool)). put (from_list es) (collection_place (collection_path after) r.id) r.inherit)
       (map-congr (λ (x : CollectionRow). (collection_place (collection_path after) x.id, x.inherit)) (λ (x : CollectionRow). (collection_place (collection_path c) x.id, x.inherit)) c.collections
       (λ x here. ap (λ (p : Path). (p, x.inherit)) (place_kept x.id (any_from_in (λ y. y.id == x.id) c.collections x here (eq-eqb x.id x.id refl)))))
-      ∙ ap (λ (p : Path). put (map_of (map (λ x. (collection_place (collection_path c) x.id, x.inherit)) c.collections)) p r.inherit)
+      ∙ ap (λ (p : Path). put (from_list (map (λ x. (collection_place (collection_path c) x.id, x.inherit)) c.collections)) p r.inherit)
       (place_is after r.id (collection_place (collection_path c) r.parent ++ r.name ∷ []) new_path)
 
   object_kept : (o : ObjectRow) → IsIn c.objects o → object_place (collection_path after) o ≡ object_place (collection_path c) o
@@ -129,7 +129,7 @@ module _ (c : Cat) (s : IsSound c) (r : CollectionRow) (new : has_collection c r
   item_kept kind.User id gives has = absurd cc
 
   abbrev whole : Map path_cmp Bool → List (Path × Object) → List (Triple × Unit {0}) → List ((Path × Text) × Level) → FullGrid
-  whole collections objects triples access = record (grid_of c) { collections = collections; objects = map_of objects; triples = map_of triples; access = map_of access }
+  whole collections objects triples access = record (grid_of c) { collections = collections; objects = from_list objects; triples = from_list triples; access = from_list access }
 
   pub grid-with_collection : grid_of after ≡ record (grid_of c) { collections = grown }
   grid-with_collection =

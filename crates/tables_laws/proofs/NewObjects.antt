@@ -4,14 +4,14 @@ use Rattle.std.specs.Prelude.{map, filter, option_map, reverse, unwrap_or}
 use Rattle.std.specs.Ordering.{eq_by_cmp}
 use Rattle.std.proofs.lemmas.Bool.{ne_eqb}
 use Rattle.std.proofs.lemmas.List.{reverse-append}
-use Rattle.grid_model.specs.Maps.{Map, empty, put}
+use Rattle.grid_model.specs.Maps.{Map, empty, put, from_list}
 use Rattle.grid_model.specs.Names.{Text, Path, path_cmp, parent}
 use Rattle.grid_model.specs.Rows.{Cat, object, has_collection, has_object, item_there, object_cmp, id_of, empty_cat, replicas_of}
 use Rattle.grid_model.specs.RowPaths.{collection_path}
 use Rattle.grid_model.specs.Applying.{apply, apply_all, object_fits}
 use Rattle.grid_model.specs.RowTrees.{IsTree}
 use Rattle.grid_model.specs.FullGrid.{FullGrid, Object, Thing, Triple, object_at}
-use Rattle.grid_model.specs.RowGrids.{map_of, grid_at, grid_of, collection_place, object_place, item_place, thing_of, triple_of, object_of, replica_of, user_name}
+use Rattle.grid_model.specs.RowGrids.{grid_at, grid_of, collection_place, object_place, item_place, thing_of, triple_of, object_of, replica_of, user_name}
 use Rattle.grid_model.specs.declared.deltas.Delta.{Delta}
 use Rattle.grid_model.specs.declared.deltas.Delta.TheVariants as delta
 use Rattle.grid_model.specs.declared.deltas.Item.{Item}
@@ -32,7 +32,7 @@ use Rattle.tables_laws.proofs.Trees.{tree_from_forest}
 use Rattle.tables_laws.proofs.Standing.{ReplicaStands, TripleStands, EntryStands}
 use Rattle.tables_laws.proofs.Sound.{IsSound, sound-made, fits_so}
 use Rattle.tables_laws.proofs.Grids.{grid-same}
-use Rattle.tables_laws.proofs.Making.{map-congr, map_of-with_row}
+use Rattle.tables_laws.proofs.Making.{map-congr, from_list-with_row}
 use Rattle.tables_laws.proofs.NewCollections.{place_is}
 
 none_kept : {X : Type 0} (p : X → Bool) (rows : List X) → ((x : X) → IsIn rows x → p x ≡ false) → filter p rows ≡ []
@@ -90,16 +90,16 @@ module _ (c : Cat) (s : IsSound c) (r : ObjectRow) (new : has_object c r.id ≡ 
   no_replicas = none_kept (λ x. x.object == r.id) c.replicas (λ x here. ne_eqb x.object r.id (not_new x.object (in_from_all (ReplicaStands c) c.replicas s.tied.replicas x here).0))
 
   made_is : object_of c r ≡ made
-  made_is = ap (λ (rows : List ReplicaRow). record { size = r.size; digest = r.digest; time = r.time; replicas = map_of (map (λ x. (x.number, replica_of c x)) rows) }) no_replicas
+  made_is = ap (λ (rows : List ReplicaRow). record { size = r.size; digest = r.digest; time = r.time; replicas = from_list (map (λ x. (x.number, replica_of c x)) rows) }) no_replicas
 
   abbrev grown : Map path_cmp Object
-  grown = put (map_of (map (λ o. (object_place (collection_path c) o, object_of c o)) c.objects)) (collection_place (collection_path c) r.collection ++ r.name ∷ []) made
+  grown = put (from_list (map (λ o. (object_place (collection_path c) o, object_of c o)) c.objects)) (collection_place (collection_path c) r.collection ++ r.name ∷ []) made
 
-  objects_grown : map_of {R = path_cmp} (map (λ o. (object_place (collection_path c) o, object_of c o)) after.objects) ≡ grown
+  objects_grown : from_list {R = path_cmp} (map (λ o. (object_place (collection_path c) o, object_of c o)) after.objects) ≡ grown
   objects_grown =
-      map_of-with_row path_cmp_total object_cmp (λ (x : ObjectRow). object_place (collection_path c) x) (λ (x : ObjectRow). object_of c x) path_cmp-IsAntisymmetric c.objects r
+      from_list-with_row path_cmp_total object_cmp (λ (x : ObjectRow). object_place (collection_path c) x) (λ (x : ObjectRow). object_of c x) path_cmp-IsAntisymmetric c.objects r
       (λ x here e. not_new x.id (there x here) (sym (same_number r.id x.id e))) apart_from_new
-      ∙ ap (λ (o : Object). put (map_of (map (λ x. (object_place (collection_path c) x, object_of c x)) c.objects)) (object_place (collection_path c) r) o) made_is
+      ∙ ap (λ (o : Object). put (from_list (map (λ x. (object_place (collection_path c) x, object_of c x)) c.objects)) (object_place (collection_path c) r) o) made_is
 
   found_kept : (id : ℕ) → has_object c id ≡ true → unwrap_or (option_map (object_place (collection_path c)) (object after id)) [] ≡ unwrap_or (option_map (object_place (collection_path c)) (object c id)) []
   found_kept id has = ap (λ (o : Option ObjectRow). unwrap_or (option_map (object_place (collection_path c)) o) []) (put_other (λ (x : ObjectRow). x.id) c.objects r id (not_new id has))
@@ -117,7 +117,7 @@ module _ (c : Cat) (s : IsSound c) (r : ObjectRow) (new : has_object c r.id ≡ 
   item_kept kind.User id has = refl
 
   abbrev whole : Map path_cmp Object → List (Triple × Unit {0}) → List ((Path × Text) × Level) → FullGrid
-  whole objects triples access = record (grid_of c) { objects = objects; triples = map_of triples; access = map_of access }
+  whole objects triples access = record (grid_of c) { objects = objects; triples = from_list triples; access = from_list access }
 
   rows_made : grid_at after (collection_path c) ≡ record (grid_of c) { objects = grown }
   rows_made =
