@@ -3,10 +3,9 @@ pub mod Below
 pub mod Comparing
 pub mod DeltaExamples
 pub mod FoundRows
+pub mod FreePlaces
 pub mod Fronts
 pub mod GridExamples
-pub mod Gridding
-pub mod GrownGrids
 pub mod MapLemmas
 pub mod NameSpelling
 pub mod NewCollections

@@ -7,7 +7,7 @@ use Rattle.std.specs.FinMap.{nat_cmp-IsAntisymmetric}
 use Rattle.grid_model.specs.Names.{Path}
 use Rattle.grid_model.specs.Rows.{Cat, collection_cmp, collection, has_collection}
 use Rattle.grid_model.specs.RowPaths.{is_path_of, names_within, names_up, collection_path, collection_at}
-use Rattle.grid_model.specs.Gridding.{with_collection_row}
+use Rattle.grid_model.specs.NewRows.{with_collection_row}
 use Rattle.grid_model.specs.declared.deltas.CollectionRow.{CollectionRow}
 use Rattle.grid_model.proofs.FoundRows.{is_some-find, find-other, find-new, none_passes, length-new, found_passes}
 use Rattle.grid_model.proofs.TableLemmas.{find-passes}

@@ -117,7 +117,7 @@ split_elsewhere = refl
 -- ---- the grid from the start
 
 abbrev first : Grid
-first = start (codes "z") (codes "rods")
+first = start (codes "z") (codes "rods") 1
 
 root_from_the_start : has first.collections [] ≡ true
 root_from_the_start = refl

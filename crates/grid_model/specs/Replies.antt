@@ -1,10 +1,10 @@
 -- The lines of replies. The format is this project's own.
-use Rattle.std.specs.Prelude.{◌≡◌, ℕ, ◌+◌, List, [], ◌∷◌, ◌++◌, Result, Ok, Err, ⊤, codes, decimal, map, flat_map}
+use Rattle.std.specs.Prelude.{◌≡◌, ℕ, ◌+◌, List, [], ◌∷◌, ◌++◌, codes, decimal, map, flat_map}
 use Rattle.grid_model.specs.Names.{Text}
 use Rattle.grid_model.specs.Words.{quoted_word}
 use Rattle.grid_model.specs.Digests.{checksum}
 use Rattle.grid_model.specs.Printing.{line, print_refusal, print_failure}
-use Rattle.grid_model.specs.Commands.{Done}
+use Rattle.grid_model.specs.Commands.{Done, Answer}
 use Rattle.grid_model.specs.DataLines.{data_lines}
 use Rattle.grid_model.specs.declared.marks.BadReplica.{BadReplica}
 use Rattle.grid_model.specs.declared.marks.Mark.{Mark}
@@ -55,14 +55,9 @@ end_line n e = line n (end_words e)
 abbrev pub rest_lines : ℕ → Reply → Text
 rest_lines n r = data_lines n r.shown ++ flat_map (passed_line n) r.passed ++ flat_map (row_line n) r.rows ++ end_line n r.end
 
--- the end of a command that has nothing more to say
-abbrev pub end_of : Result ⊤ Refusal → End
-end_of (Ok done) = end.Done []
-end_of (Err refusal) = end.Refused refusal
-
--- the reply to the request of this number, where it is one line
-abbrev pub reply : ℕ → Result ⊤ Refusal → Text
-reply n answer = end_line n (end_of answer)
+-- the reply to the request of this number: what is sent, then the marks, and the last line
+abbrev pub reply : ℕ → Answer → Text
+reply n a = data_lines n a.sent ++ flat_map (mark_line n) a.marks ++ end_line n a.end
 
 -- the replies to requests, the first of them of this number
 abbrev pub replies : ℕ → List Done → Text

@@ -4,7 +4,7 @@ use Rattle.grid_model.specs.Maps.{from_list}
 use Rattle.grid_model.specs.Names.{Text, Path}
 use Rattle.grid_model.specs.Rows.{Cat, user, object, resource, replicas_of}
 use Rattle.grid_model.specs.RowPaths.{collection_path}
-use Rattle.grid_model.specs.FullGrid.{FullGrid, Object, Replica, Resource, Thing, Triple, object_at, collection_at, resource_named, user_named}
+use Rattle.grid_model.specs.Grid.{Grid, Object, Replica, Resource, Thing, Triple, object_at, collection_at, resource_named, user_named}
 use Rattle.grid_model.specs.declared.grid.ItemKind.{ItemKind}
 use Rattle.grid_model.specs.declared.grid.ItemKind.TheVariants as kind
 use Rattle.grid_model.specs.declared.deltas.Delta.{Delta}
@@ -70,7 +70,7 @@ abbrev pub triple_of : Cat → Places → TripleRow → Triple
 triple_of c paths t = record { of = thing_of c paths t.kind t.id; attribute = t.attribute; value = t.value; unit = t.unit }
 
 -- the grid of these rows, whose collections are at these paths
-abbrev pub grid_at : Cat → Places → FullGrid
+abbrev pub grid_at : Cat → Places → Grid
 grid_at c paths = record {
   zone = unwrap_or c.zone [];
   stores = c.stores;
@@ -84,7 +84,7 @@ grid_at c paths = record {
 }
 
 -- the grid that a catalogue stands for
-abbrev pub grid_of : Cat → FullGrid
+abbrev pub grid_of : Cat → Grid
 grid_of c = grid_at c (collection_path c)
 
 -- whether a delta is of what the grid shows: orphans, numbers and the command that is not done are not in it

@@ -3,11 +3,12 @@
 use Rattle.std.specs.Prelude.{◌≡◌, ℕ, ◌<◌, ◌==◌, ◌||◌, false, IsTrue, Some, is_some}
 use Rattle.std.specs.List.{list_any, AllByRecursion}
 use Rattle.grid_model.specs.Names.{Path, parent}
-use Rattle.grid_model.specs.Rows.{Cat, item_there, kind_of, id_of}
+use Rattle.grid_model.specs.Rows.{Cat, user, resource, item_there, kind_of, id_of}
 use Rattle.grid_model.specs.RowPaths.{collection_path, item_path, collection_at, object_at}
 use Rattle.grid_model.specs.Applying.{gives_access, can_join, replica_fits, entry_fits, is_user, is_node, slot_fits}
 use Rattle.grid_model.specs.declared.deltas.Item.{Item}
 use Rattle.grid_model.specs.declared.deltas.Item.TheVariants as item
+use Rattle.grid_model.specs.declared.deltas.UserRow.{UserRow}
 use Rattle.grid_model.specs.declared.deltas.ResourceRow.{ResourceRow}
 use Rattle.grid_model.specs.declared.deltas.OrphanRow.{OrphanRow}
 use Rattle.grid_model.specs.declared.deltas.Pending.{Pending}
@@ -35,7 +36,7 @@ OrphanStands c o = (0 < o.vault) × (o.vault < c.numbers.next_vault) × (list_an
 abbrev pub ResourceStands : Cat → ResourceRow → Type 0
 ResourceStands c r = IsTrue (slot_fits c r.kind r.slot) × IsTrue ((r.parent == 0) || is_node c r.parent)
 
--- what rows speak of is there, and no two rows have one vault number
+-- what rows speak of is there, no two rows have one vault number, and no two users or resources one name
 pub record IsTied (c : Cat) : Type 0 where
   -- of a group and a user
   pub members : AllByRecursion (λ m. IsTrue (can_join c m)) c.members
@@ -48,5 +49,7 @@ pub record IsTied (c : Cat) : Type 0 where
   pub entries : AllByRecursion (λ e. IsTrue (entry_fits c e)) c.entries
   pub resources : AllByRecursion (ResourceStands c) c.resources
   pub orphans : AllByRecursion (OrphanStands c) c.orphans
+  pub user_names : (a b : ℕ) (u v : UserRow) → user c a ≡ Some u → user c b ≡ Some v → u.name ≡ v.name → a ≡ b
+  pub resource_names : (a b : ℕ) (r s : ResourceRow) → resource c a ≡ Some r → resource c b ≡ Some s → r.name ≡ s.name → a ≡ b
   -- who gave the command that is not done is a user
   pub pending : (p : Pending) → c.pending ≡ Some p → IsTrue (is_user c p.user)

@@ -15,6 +15,7 @@ mod queries;
 mod refusal;
 mod replies;
 mod requests;
+mod rules;
 #[cfg(test)]
 mod tests;
 mod text;
@@ -37,5 +38,6 @@ pub use queries::{Column, Columns, Cond, Conds, Op, Query};
 pub use refusal::{Failure, Refusal, RuleCause, TreeCause, What};
 pub use replies::{End, Passed, Passeds, Reply, Rows};
 pub use requests::Verb;
+pub use rules::{Call0, Expr, Exprs, Form, Operator, Rule, Rules, Step, Steps};
 pub use text::{Bytes, Text};
 pub use texts::Texts;

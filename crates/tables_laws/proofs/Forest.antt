@@ -173,12 +173,12 @@ module _ (c : Cat) (f : IsForest c) (sorted : IsStrictlySortedBy collection_cmp 
     empty : is_empty_collection c id ≡ true
     empty = (and_parts (has_collection c id) (is_empty_collection c id) (and_parts (has_collection c id && is_empty_collection c id) (not (is_told_of c kind.Collection id)) fits).0).1
 
-    no_child : (s : CollectionRow) → IsIn c.collections s → (s.id ≡ 0 → ⊥) → s.parent ≡ id → ⊥
+    pub no_child : (s : CollectionRow) → IsIn c.collections s → (s.id ≡ 0 → ⊥) → s.parent ≡ id → ⊥
     no_child s here below is =
         none_in (λ x. is_child id x) c.collections (not_so _ (and_parts (not (list_any (λ x. is_child id x) c.collections)) (not (list_any (λ x. x.collection == id) c.objects)) empty).0) s here
         (rw (eq-eqb s.parent id is, ne_eqb s.id 0 below) refl)
 
-    no_object : (o : ObjectRow) → IsIn c.objects o → o.collection ≡ id → ⊥
+    pub no_object : (o : ObjectRow) → IsIn c.objects o → o.collection ≡ id → ⊥
     no_object o here is =
         none_in (λ x. x.collection == id) c.objects (not_so _ (and_parts (not (list_any (λ x. is_child id x) c.collections)) (not (list_any (λ x. x.collection == id) c.objects)) empty).1) o here
         (eq-eqb o.collection id is)

@@ -1,10 +1,13 @@
 -- The grid of a worked catalogue, by computation.
 use Rattle.std.proofs.Common.{◌≡◌, ℕ, refl}
-use Rattle.std.specs.Prelude.{true, false, List, [], ◌∷◌, Some, None, Result, Ok, Err, codes, replicate, option_map}
+use Rattle.std.specs.Prelude.{true, false, List, [], ◌∷◌, ◌++◌, map, Option, Some, None, Result, Ok, Err, codes, replicate, option_map}
 use Rattle.grid_model.specs.Maps.{get, has}
+use Rattle.grid_model.specs.Moves.{moved, moved_grid}
+use Rattle.grid_model.specs.Siblings.{with_resource, without_resource}
+use Rattle.grid_model.specs.Renames.{renamed_grid}
 use Rattle.grid_model.specs.Rows.{empty_cat}
 use Rattle.grid_model.specs.Applying.{apply_all}
-use Rattle.grid_model.specs.FullGrid.{FullGrid, Object, Replica, Resource}
+use Rattle.grid_model.specs.Grid.{Grid, Object, Replica, Resource}
 use Rattle.grid_model.specs.RowGrids.{grid_of}
 use Rattle.grid_model.specs.declared.deltas.Delta.{Delta}
 use Rattle.grid_model.specs.declared.deltas.Delta.TheVariants as delta
@@ -33,9 +36,12 @@ deltas =
     ∷ delta.Entry (record { kind = kind.Object; id = 7; user = 2; level = Read })
     ∷ []
 
--- what a function tells of the grid of the catalogue that these deltas make
-abbrev told : {A : Type 0} → (FullGrid → A) → Result A ℕ
-told f = elim (apply_all empty_cat deltas) [ Ok c ↦ Ok (f (grid_of c)) | Err cause ↦ Err cause ]
+-- what a function tells of the grid of the catalogue that these deltas make, and then others
+abbrev told_then : {A : Type 0} → List Delta → (Grid → A) → Result A ℕ
+told_then more f = elim (apply_all empty_cat (deltas ++ more)) [ Ok c ↦ Ok (f (grid_of c)) | Err cause ↦ Err cause ]
+
+abbrev told : {A : Type 0} → (Grid → A) → Result A ℕ
+told f = told_then [] f
 
 the_zone : told (λ g. g.zone) ≡ Ok (codes "z")
 the_zone = refl
@@ -71,3 +77,63 @@ its_node = refl
 leaf_of_the_replica : told (λ g. option_map (λ (o : Object). option_map (λ (r : Replica). r.leaf) (get o.replicas 3)) (get g.objects (codes "z" ∷ codes "home" ∷ codes "o" ∷ [])))
     ≡ Ok (Some (Some (codes "d0")))
 leaf_of_the_replica = refl
+
+-- ---- `/z/home` is moved to `/h`
+
+abbrev home_moves : List Delta
+home_moves = delta.Collection (record { id = 1; parent = 0; name = codes "h"; inherit = true }) ∷ []
+
+below_it_moves : told_then home_moves (λ g. has g.objects (codes "h" ∷ codes "o" ∷ [])) ≡ Ok true
+below_it_moves = refl
+
+nothing_is_left : told_then home_moves (λ g. has g.objects (codes "z" ∷ codes "home" ∷ codes "o" ∷ [])) ≡ Ok false
+nothing_is_left = refl
+
+access_moves : told_then home_moves (λ g. get g.access (codes "h" ∷ codes "o" ∷ [], codes "public")) ≡ Ok (Some Read)
+access_moves = refl
+
+-- and so it is of the grid itself
+moved_in_the_grid : told (λ g. has (moved_grid (codes "z" ∷ codes "home" ∷ []) (codes "h" ∷ []) g).objects (codes "h" ∷ codes "o" ∷ [])) ≡ Ok true
+moved_in_the_grid = refl
+
+-- what only begins alike stays
+others_stay : moved (codes "a" ∷ []) (codes "b" ∷ []) (codes "ab" ∷ []) ≡ codes "ab" ∷ []
+others_stay = refl
+
+-- ---- a third leaf, between the two
+
+abbrev between : List Delta
+between = delta.Resource (record { id = 4; name = codes "d2"; kind = Storage; slot = 0; up = true; parent = 1; place = 5 }) ∷ []
+
+abbrev places : Grid → List (Option ℕ)
+places g = map (λ name. option_map (λ (r : Resource). r.place) (get g.resources name)) (codes "d1" ∷ codes "d2" ∷ codes "d0" ∷ [])
+
+it_stands_between : told_then between places ≡ Ok (Some 0 ∷ Some 1 ∷ Some 2 ∷ [])
+it_stands_between = refl
+
+and_in_the_grid : told (λ g. places (record g { resources = with_resource g.resources (codes "d2") (record { kind = Storage; slot = 0; up = true; parent = Some (codes "top"); place = 1 }) }))
+    ≡ Ok (Some 0 ∷ Some 1 ∷ Some 2 ∷ [])
+and_in_the_grid = refl
+
+-- ---- the leaf `d1` has no parent any more, and is called `e`
+
+abbrev leaves : List Delta
+leaves = delta.Resource (record { id = 3; name = codes "e"; kind = Storage; slot = 0; up = false; parent = 0; place = 0 }) ∷ []
+
+-- the one behind it is the first child
+first_now : told_then leaves (λ g. option_map (λ (r : Resource). r.place) (get g.resources (codes "d0"))) ≡ Ok (Some 0)
+first_now = refl
+
+first_in_the_grid : told (λ g. option_map (λ (r : Resource). r.place) (get (without_resource g.resources (codes "d1")) (codes "d0"))) ≡ Ok (Some 0)
+first_in_the_grid = refl
+
+gone_by_name : told_then leaves (λ g. has g.resources (codes "d1")) ≡ Ok false
+gone_by_name = refl
+
+-- the replica says another name of its leaf, and a child one of its parent
+another_leaf : told (λ g. option_map (λ (o : Object). option_map (λ (r : Replica). r.leaf) (get o.replicas 3)) (get (renamed_grid (codes "d0") (codes "f") g).objects (codes "z" ∷ codes "home" ∷ codes "o" ∷ [])))
+    ≡ Ok (Some (Some (codes "f")))
+another_leaf = refl
+
+another_parent : told (λ g. option_map (λ (r : Resource). r.parent) (get (renamed_grid (codes "top") (codes "tree") g).resources (codes "d1"))) ≡ Ok (Some (Some (codes "tree")))
+another_parent = refl

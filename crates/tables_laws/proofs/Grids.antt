@@ -5,12 +5,12 @@ use Rattle.grid_model.specs.Names.{Text, Path}
 use Rattle.grid_model.specs.Rows.{Cat, collection}
 use Rattle.grid_model.specs.RowPaths.{names_within, collection_path}
 use Rattle.grid_model.specs.Applying.{apply, zone_fits, where_fits}
-use Rattle.grid_model.specs.FullGrid.{FullGrid}
+use Rattle.grid_model.specs.Grid.{Grid}
 use Rattle.grid_model.specs.RowGrids.{grid_at, grid_of, is_seen}
 use Rattle.grid_model.specs.declared.deltas.Delta.{Delta}
 use Rattle.grid_model.specs.declared.deltas.Delta.TheVariants as delta
 use Rattle.grid_model.specs.declared.deltas.CollectionRow.{CollectionRow}
-use Rattle.tables_laws.proofs.Sound.{fits_so}
+use Rattle.tables_laws.proofs.Sound.{fits_so, ok-same}
 
 module _ (c d : Cat) (found_same : (id : ℕ) → collection d id ≡ collection c id) where
   -- one step, on both sides
@@ -28,12 +28,12 @@ module _ (c d : Cat) (found_same : (id : ℕ) → collection d id ≡ collection
 
 module _ (c d : Cat) (same : d.collections ≡ c.collections) where
   -- the same collections are at the same paths
-  paths_same : ◌≡◌ {A = ℕ → Option Path} (collection_path d) (collection_path c)
+  pub paths_same : ◌≡◌ {A = ℕ → Option Path} (collection_path d) (collection_path c)
   paths_same i id = (ap (λ (rows : List CollectionRow). option_map reverse (names_within (length rows) d id)) same
       ∙ ap (λ (o : Option Path). option_map reverse o) (within_same c d (λ j. ap (λ (rows : List CollectionRow). collection (record c { collections = rows }) j) same) (length c.collections) id)) i
 
   -- and a catalogue whose rows look the same from there stands for the same grid
-  pub grid-same : (g : FullGrid) → grid_at d (collection_path c) ≡ g → grid_of d ≡ g
+  pub grid-same : (g : Grid) → grid_at d (collection_path c) ≡ g → grid_of d ≡ g
   grid-same g e = ap (λ (p : ℕ → Option Path). grid_at d p) paths_same ∙ e
 
 -- ---- one delta at a time
@@ -69,3 +69,8 @@ grid-unseen c d (delta.NoOrphan vault) unseen e = then_same _ 18 c _ d refl refl
 grid-unseen c d (delta.Numbers n) unseen e = then_same _ 19 c _ d refl refl e
 grid-unseen c d (delta.Pending p) unseen e = then_same _ 20 c _ d refl refl e
 grid-unseen c d delta.NoPending unseen e = then_same _ 21 c _ d refl refl e
+
+-- the text of the rules is not in the grid
+pub grid-rules : (c d : Cat) (text : Text) → apply c (delta.Rules text) ≡ Ok d → grid_of d ≡ grid_of c
+grid-rules c d text e =
+    ap (λ (x : Cat). grid_of x) (sym (ok-same (record c { rules = text }) d (apply c (delta.Rules text)) refl e)) ∙ grid-same c (record c { rules = text }) refl (grid_of c) refl

@@ -1,50 +1,39 @@
 -- An object with a new id is put into the grid without replicas, and changes nothing else of it.
-use Rattle.std.proofs.Common.{◌≡◌, ◌==◌, ◌++◌, ℕ, Bool, true, false, List, [], ◌∷◌, Option, Some, Ok, inl, inr, refl, sym, ap, ◌∙◌, subst, eq-eqb}
-use Rattle.std.specs.Prelude.{map, filter, option_map, reverse, unwrap_or}
+use Rattle.std.proofs.Common.{◌≡◌, ◌==◌, ◌++◌, ℕ, true, false, List, [], ◌∷◌, Option, Ok, refl, sym, ap, ◌∙◌, subst}
+use Rattle.std.specs.Prelude.{map, option_map, reverse, unwrap_or}
 use Rattle.std.specs.Ordering.{eq_by_cmp}
 use Rattle.std.proofs.lemmas.Bool.{ne_eqb}
 use Rattle.std.proofs.lemmas.List.{reverse-append}
+use Rattle.std.proofs.lemmas.Option.{same_Some}
 use Rattle.grid_model.specs.Maps.{Map, empty, put, from_list}
 use Rattle.grid_model.specs.Names.{Text, Path, path_cmp, parent}
-use Rattle.grid_model.specs.Rows.{Cat, object, has_collection, has_object, item_there, object_cmp, id_of, empty_cat, replicas_of}
+use Rattle.grid_model.specs.Rows.{Cat, object, has_object, item_there, object_cmp, empty_cat, replicas_of}
 use Rattle.grid_model.specs.RowPaths.{collection_path}
 use Rattle.grid_model.specs.Applying.{apply, apply_all, object_fits}
-use Rattle.grid_model.specs.RowTrees.{IsTree}
-use Rattle.grid_model.specs.FullGrid.{FullGrid, Object, Thing, Triple, object_at}
-use Rattle.grid_model.specs.RowGrids.{grid_at, grid_of, collection_place, object_place, item_place, thing_of, triple_of, object_of, replica_of, user_name}
+use Rattle.grid_model.specs.Grid.{Object, object_at}
+use Rattle.grid_model.specs.RowGrids.{grid_at, grid_of, collection_place, object_place, thing_of, object_of, replica_of}
 use Rattle.grid_model.specs.declared.deltas.Delta.{Delta}
 use Rattle.grid_model.specs.declared.deltas.Delta.TheVariants as delta
-use Rattle.grid_model.specs.declared.deltas.Item.{Item}
-use Rattle.grid_model.specs.declared.deltas.Item.TheVariants as item
 use Rattle.grid_model.specs.declared.deltas.ObjectRow.{ObjectRow}
 use Rattle.grid_model.specs.declared.deltas.ReplicaRow.{ReplicaRow}
-use Rattle.grid_model.specs.declared.deltas.TripleRow.{TripleRow}
-use Rattle.grid_model.specs.declared.deltas.EntryRow.{EntryRow}
 use Rattle.grid_model.specs.declared.grid.ItemKind.{ItemKind}
 use Rattle.grid_model.specs.declared.grid.ItemKind.TheVariants as kind
-use Rattle.grid_model.specs.declared.grid.Level.{Level}
 use Rattle.grid_model.proofs.Below.{parent-push}
 use Rattle.grid_model.proofs.Comparing.{path_cmp_total, path_cmp-IsAntisymmetric, other_path}
-use Rattle.tables_laws.proofs.Rows.{IsIn, any_from_in, in_from_all}
+use Rattle.tables_laws.proofs.Rows.{IsIn, in_from_all}
 use Rattle.tables_laws.proofs.Numbered.{same_number, put_other}
-use Rattle.tables_laws.proofs.Forest.{way_of, asks_object, with_object}
-use Rattle.tables_laws.proofs.Trees.{tree_from_forest}
-use Rattle.tables_laws.proofs.Standing.{ReplicaStands, TripleStands, EntryStands}
+use Rattle.tables_laws.proofs.Forest.{asks_object, with_object}
+use Rattle.tables_laws.proofs.Standing.{ReplicaStands}
 use Rattle.tables_laws.proofs.Sound.{IsSound, sound-made, fits_so}
+use Rattle.tables_laws.proofs.Frame.{same_grid, triples_kept, access_kept}
 use Rattle.tables_laws.proofs.Grids.{grid-same}
-use Rattle.tables_laws.proofs.Making.{map-congr, from_list-with_row}
-use Rattle.tables_laws.proofs.NewCollections.{place_is}
-
-none_kept : {X : Type 0} (p : X → Bool) (rows : List X) → ((x : X) → IsIn rows x → p x ≡ false) → filter p rows ≡ []
-none_kept p [] none = refl
-none_kept p (r ∷ rows) none = let first : p r ≡ false = none r (inl refl) in rw first (none_kept p rows (λ x later. none x (inr later)))
-
-some-path : (a b : Path) → Some a ≡ Some b → a ≡ b
-some-path a b e = cc
+use Rattle.tables_laws.proofs.RowLists.{none_kept}
+use Rattle.tables_laws.proofs.TableMaps.{from_list-new}
+use Rattle.tables_laws.proofs.Places.{object_there, collections_apart}
 
 -- what is in front of the last name, and that name
 front_same : (a b : Path) (x y : Text) → a ++ x ∷ [] ≡ b ++ y ∷ [] → a ≡ b
-front_same a b x y e = some-path a b (sym (parent-push a x) ∙ ap (λ (p : Path). parent p) e ∙ parent-push b y)
+front_same a b x y e = same_Some a b (sym (parent-push a x) ∙ ap (λ (p : Path). parent p) e ∙ parent-push b y)
 
 last_same : (a b : Path) (x y : Text) → a ++ x ∷ [] ≡ b ++ y ∷ [] → x ≡ y
 last_same a b x y e =
@@ -55,41 +44,24 @@ module _ (c : Cat) (s : IsSound c) (r : ObjectRow) (new : has_object c r.id ≡ 
   abbrev after : Cat
   after = with_object c r
 
-  tree : IsTree c
-  tree = tree_from_forest c s.forest s.cat.collections.ordered s.cat.objects.ordered
-
   not_new : (j : ℕ) → has_object c j ≡ true → j ≡ r.id → ⊥
   not_new j has is = let wrong : has_object c r.id ≡ true = subst (λ i. has_object c i ≡ true) is has in cc
-
-  there : (x : ObjectRow) → IsIn c.objects x → has_object c x.id ≡ true
-  there x here = any_from_in (λ y. y.id == x.id) c.objects x here (eq-eqb x.id x.id refl)
-
-  -- collections at one place are one
-  one_place : (a b : ℕ) → has_collection c a ≡ true → has_collection c b ≡ true → collection_place (collection_path c) a ≡ collection_place (collection_path c) b → a ≡ b
-  one_place a b a_has b_has same =
-      let a_way = way_of c s.forest a a_has in
-      let b_way = way_of c s.forest b b_has in
-      let a_at : collection_path c a ≡ Some (reverse a_way.0) = ap (λ (o : Option Path). option_map reverse o) a_way.1 in
-      let b_at : collection_path c b ≡ Some (reverse b_way.0) = ap (λ (o : Option Path). option_map reverse o) b_way.1 in
-      let paths : reverse b_way.0 ≡ reverse a_way.0 = sym (place_is c b (reverse b_way.0) b_at) ∙ sym same ∙ place_is c a (reverse a_way.0) a_at in
-      let items : item.Collection a ≡ item.Collection b = tree.apart (item.Collection a) (item.Collection b) (reverse a_way.0) a_at (b_at ∙ ap Some paths) in
-      ap (λ (i : Item). id_of i) items
 
   apart_from_new : (x : ObjectRow) → IsIn c.objects x → eq_by_cmp path_cmp (object_place (collection_path c) x) (object_place (collection_path c) r) ≡ false
   apart_from_new x here = other_path (object_place (collection_path c) x) (object_place (collection_path c) r) (λ same.
       let asks = asks_object c r fits in
       let fronts : collection_place (collection_path c) x.collection ≡ collection_place (collection_path c) r.collection =
       front_same (collection_place (collection_path c) x.collection) (collection_place (collection_path c) r.collection) x.name r.name same in
-      asks.objects x here (not_new x.id (there x here)) (one_place x.collection r.collection (s.forest.housed x here) asks.house_there fronts)
+      asks.objects x here (not_new x.id (object_there c s x here)) (collections_apart c s x.collection r.collection (s.forest.housed x here) asks.house_there fronts)
       (last_same (collection_place (collection_path c) x.collection) (collection_place (collection_path c) r.collection) x.name r.name same))
 
-  abbrev made : Object
+  abbrev pub made : Object
   made = record { size = r.size; digest = r.digest; time = r.time; replicas = empty }
 
   no_replicas : replicas_of c r.id ≡ []
   no_replicas = none_kept (λ x. x.object == r.id) c.replicas (λ x here. ne_eqb x.object r.id (not_new x.object (in_from_all (ReplicaStands c) c.replicas s.tied.replicas x here).0))
 
-  made_is : object_of c r ≡ made
+  pub made_is : object_of c r ≡ made
   made_is = ap (λ (rows : List ReplicaRow). record { size = r.size; digest = r.digest; time = r.time; replicas = from_list (map (λ x. (x.number, replica_of c x)) rows) }) no_replicas
 
   abbrev grown : Map path_cmp Object
@@ -97,8 +69,8 @@ module _ (c : Cat) (s : IsSound c) (r : ObjectRow) (new : has_object c r.id ≡ 
 
   objects_grown : from_list {R = path_cmp} (map (λ o. (object_place (collection_path c) o, object_of c o)) after.objects) ≡ grown
   objects_grown =
-      from_list-with_row path_cmp_total object_cmp (λ (x : ObjectRow). object_place (collection_path c) x) (λ (x : ObjectRow). object_of c x) path_cmp-IsAntisymmetric c.objects r
-      (λ x here e. not_new x.id (there x here) (sym (same_number r.id x.id e))) apart_from_new
+      from_list-new path_cmp_total object_cmp (λ (x : ObjectRow). object_place (collection_path c) x) (λ (x : ObjectRow). object_of c x) path_cmp-IsAntisymmetric c.objects r
+      (λ x here e. not_new x.id (object_there c s x here) (sym (same_number r.id x.id e))) apart_from_new
       ∙ ap (λ (o : Object). put (from_list (map (λ x. (object_place (collection_path c) x, object_of c x)) c.objects)) (object_place (collection_path c) r) o) made_is
 
   found_kept : (id : ℕ) → has_object c id ≡ true → unwrap_or (option_map (object_place (collection_path c)) (object after id)) [] ≡ unwrap_or (option_map (object_place (collection_path c)) (object c id)) []
@@ -110,28 +82,11 @@ module _ (c : Cat) (s : IsSound c) (r : ObjectRow) (new : has_object c r.id ≡ 
   thing_kept kind.Resource id has = refl
   thing_kept kind.User id has = refl
 
-  item_kept : (k : ItemKind) (id : ℕ) → item_there c k id ≡ true → item_place after (collection_path c) k id ≡ item_place c (collection_path c) k id
-  item_kept kind.Object id has = found_kept id has
-  item_kept kind.Collection id has = refl
-  item_kept kind.Resource id has = refl
-  item_kept kind.User id has = refl
-
-  abbrev whole : Map path_cmp Object → List (Triple × Unit {0}) → List ((Path × Text) × Level) → FullGrid
-  whole objects triples access = record (grid_of c) { objects = objects; triples = from_list triples; access = from_list access }
-
-  rows_made : grid_at after (collection_path c) ≡ record (grid_of c) { objects = grown }
-  rows_made =
-      ap (λ (m : Map path_cmp Object). whole m (map (λ t. (triple_of after (collection_path c) t, tt)) c.triples)
-      (map (λ e. ((item_place after (collection_path c) e.kind e.id, user_name c e.user), e.level)) c.entries)) objects_grown
-      ∙ ap (λ (ts : List (Triple × Unit {0})). whole grown ts (map (λ e. ((item_place after (collection_path c) e.kind e.id, user_name c e.user), e.level)) c.entries))
-      (map-congr {Y = Triple × Unit {0}} (λ (t : TripleRow). (triple_of after (collection_path c) t, tt)) (λ (t : TripleRow). (triple_of c (collection_path c) t, tt)) c.triples
-      (λ t here. ap (λ (x : Thing). (record { of = x; attribute = t.attribute; value = t.value; unit = t.unit }, tt)) (thing_kept t.kind t.id (in_from_all (TripleStands c) c.triples s.tied.triples t here))))
-      ∙ ap (λ (es : List ((Path × Text) × Level)). whole grown (map (λ t. (triple_of c (collection_path c) t, tt)) c.triples) es)
-      (map-congr (λ (e : EntryRow). ((item_place after (collection_path c) e.kind e.id, user_name c e.user), e.level)) (λ (e : EntryRow). ((item_place c (collection_path c) e.kind e.id, user_name c e.user), e.level)) c.entries
-      (λ e here. ap (λ (p : Path). ((p, user_name c e.user), e.level)) (item_kept e.kind e.id (in_from_all (EntryStands c) c.entries s.tied.entries e here).1)))
-
   pub grid-with_object : grid_of after ≡ record (grid_of c) { objects = grown }
-  grid-with_object = grid-same c after refl (record (grid_of c) { objects = grown }) rows_made
+  grid-with_object =
+      grid-same c after refl (record (grid_of c) { objects = grown }) (
+      same_grid (grid_at after (collection_path c)) (record (grid_of c) { objects = grown }) refl refl refl refl refl objects_grown (triples_kept c after s.tied (collection_path c) thing_kept)
+      (access_kept c after s.tied (collection_path c) thing_kept) refl)
 
 pub grid-new_object : (deltas : List Delta) (c d : Cat) (row : ObjectRow) → apply_all empty_cat deltas ≡ Ok c → has_object c row.id ≡ false → apply c (delta.Object row) ≡ Ok d
     → grid_of d ≡ record (grid_of c) {

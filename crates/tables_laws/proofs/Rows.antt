@@ -1,5 +1,5 @@
 -- Which rows stand in a table, and what a row that is put or dropped makes of that.
-use Rattle.std.proofs.Common.{◌≡◌, Bool, true, false, List, [], ◌∷◌, Some, None, ◌⊎◌, inl, inr, refl, sym, ap, ◌∙◌, subst}
+use Rattle.std.proofs.Common.{◌≡◌, Bool, true, false, List, [], ◌∷◌, Some, ◌⊎◌, inl, inr, refl, sym, ap, ◌∙◌, subst}
 use Rattle.std.specs.Prelude.{find, filter, cond, ◌||◌}
 use Rattle.std.specs.List.{list_any, AllByRecursion}
 use Rattle.std.specs.List.Sorted.{IsStrictlySortedBy}
@@ -62,11 +62,6 @@ module _ {X : Type 0} where
       behind fails (inl same) = let wrong : p r ≡ true = ap p same ∙ passes in absurd cc
       behind fails (inr later) = later
 
-  pub find_none : (p : X → Bool) (rows : List X) → list_any p rows ≡ false → find p rows ≡ None
-  find_none p [] e = refl
-  find_none p (r ∷ rows) e =
-      elim (p r) as (λ b. (b || list_any p rows) ≡ false → cond b (Some r) (find p rows) ≡ None) [ true ↦ λ h. absurd cc | false ↦ λ h. find_none p rows h ] e
-
   -- ---- what a test keeps
 
   pub in_from_filter : (q : X → Bool) (rows : List X) (x : X) → IsIn (filter q rows) x → IsIn rows x × (q x ≡ true)
@@ -91,11 +86,6 @@ module _ {X : Type 0} where
 
   pub all_kept : (P : X → Type 0) (q : X → Bool) (rows : List X) → AllByRecursion P rows → AllByRecursion P (filter q rows)
   all_kept P q rows all = all_from_in P (filter q rows) (λ x here. in_from_all P rows all x (in_from_filter q rows x here).0)
-
-  pub any_kept : (p q : X → Bool) (rows : List X) → list_any p rows ≡ true → ((x : X) → IsIn rows x → p x ≡ true → q x ≡ true) → list_any p (filter q rows) ≡ true
-  any_kept p q rows e stays =
-      let found = in_from_any p rows e in
-      any_from_in p (filter q rows) found.0 (filter_from_in q rows found.0 found.1 (stays found.0 found.1 found.2)) found.2
 
 -- ---- a row that is put
 

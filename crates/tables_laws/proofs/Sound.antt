@@ -1,6 +1,6 @@
 -- What holds of the empty catalogue and is kept by each delta.
-use Rattle.std.proofs.Common.{◌≡◌, ◌==◌, ℕ, ◌<◌, ◌≤◌, Bool, true, false, List, [], ◌∷◌, Option, Some, None, Result, Ok, Err, refl, subst, arith}
-use Rattle.std.specs.Prelude.{filter, not, ◌&&◌, ◌||◌, is_none, nat_lt, nat_le}
+use Rattle.std.proofs.Common.{◌≡◌, ◌==◌, ℕ, ◌<◌, ◌≤◌, Bool, true, false, List, [], ◌∷◌, Option, Some, None, Result, Ok, Err, refl, sym, ◌∙◌, subst, eqb-true, arith}
+use Rattle.std.specs.Prelude.{find, filter, not, ◌&&◌, ◌||◌, is_none, nat_lt, nat_le}
 use Rattle.std.specs.List.{list_any, AllByRecursion}
 use Rattle.std.specs.Ordering.{eq_by_cmp}
 use Rattle.std.proofs.lemmas.Bool.{and_parts, and_from, ltb-true, leb-true, eqb-false}
@@ -25,8 +25,9 @@ use Rattle.grid_model.specs.declared.deltas.Numbers.{Numbers}
 use Rattle.grid_model.specs.declared.deltas.Pending.{Pending}
 use Rattle.grid_model.proofs.RowOrders.{user_cmp_total, member_cmp_total, collection_cmp_total, object_cmp_total, replica_cmp_total, triple_cmp_total, entry_cmp_total, resource_cmp_total, orphan_cmp_total}
 use Rattle.grid_model.proofs.TableLemmas.{IsTable-with_row, IsTable-none, all-with_row}
-use Rattle.tables_laws.proofs.Rows.{IsTable-filter, all_kept, all_from_in}
+use Rattle.tables_laws.proofs.Rows.{IsIn, in_from_find, IsTable-filter, all_kept, all_from_in}
 use Rattle.tables_laws.proofs.Cats.{cat-users, cat-members, cat-collections, cat-objects, cat-replicas, cat-triples, cat-entries, cat-resources, cat-orphans}
+use Rattle.tables_laws.proofs.OwnNames.{HasOwnNames, names-empty, names-user, names-resource}
 use Rattle.tables_laws.proofs.Forest.{IsForest, forest-same, forest-with_collection, forest-without_collection, forest-with_object, forest-without_object, with_collection, without_collection, with_object, without_object, asks_object, asks_collection}
 use Rattle.tables_laws.proofs.Trees.{tree_from_forest}
 use Rattle.tables_laws.proofs.Ties.{all-mapped, tied-user, tied-resource, tied-with_collection, tied-without_collection, tied-with_object, tied-without_object}
@@ -38,6 +39,7 @@ pub record IsSound (c : Cat) : Type 0 where
   pub vaults : IsVaulted c
   -- without a zone there are no stores
   pub unzoned : is_none c.zone ≡ true → c.stores ≡ 0
+  pub names : HasOwnNames c.users c.resources
 
 pub sound-empty : IsSound empty_cat
 sound-empty = record {
@@ -63,6 +65,7 @@ sound-empty = record {
   tied = record { members = tt; replicas = tt; triples = tt; entries = tt; resources = tt; pending = λ p e. absurd cc };
   vaults = vaults-empty 1 0;
   unzoned = λ e. refl;
+  names = names-empty;
 }
 
 -- ---- what the tests ask of a new row
@@ -89,7 +92,7 @@ replica_stands c r fits =
     let h = and_parts (nat_lt 0 r.vault) (nat_lt r.vault c.numbers.next_vault) g.0 in
     (f.0, f.1, ltb-true 0 r.vault h.0, ltb-true r.vault c.numbers.next_vault h.1)
 
-entry_stands : (c : Cat) (x : EntryRow) → entry_fits c x ≡ true → EntryStands c x
+pub entry_stands : (c : Cat) (x : EntryRow) → entry_fits c x ≡ true → EntryStands c x
 entry_stands c x fits =
     let a = and_parts (gives_access x.kind && is_given x.level && item_there c x.kind x.id) (has_user c x.user) fits in
     let b = and_parts (gives_access x.kind && is_given x.level) (item_there c x.kind x.id) a.0 in
@@ -124,6 +127,7 @@ module _ (c : Cat) (s : IsSound c) where
     };
     vaults = vaults-stores c stores none s.vaults;
     unzoned = λ e. absurd cc;
+    names = s.names;
   }
     where
       none : c.stores ≡ 0
@@ -141,6 +145,7 @@ module _ (c : Cat) (s : IsSound c) where
     tied = tied-user c r fits s.tied;
     vaults = s.vaults;
     unzoned = s.unzoned;
+    names = names-user c r fits s.names;
   }
 
   sound-members : (rows : List MemberRow) → IsTable member_cmp (λ _. true) rows → AllByRecursion (MemberStands c) rows → IsSound (record c { members = rows })
@@ -150,6 +155,7 @@ module _ (c : Cat) (s : IsSound c) where
     tied = record { members = all; replicas = s.tied.replicas; triples = s.tied.triples; entries = s.tied.entries; resources = s.tied.resources; pending = s.tied.pending };
     vaults = s.vaults;
     unzoned = s.unzoned;
+    names = s.names;
   }
 
   pub sound-with_collection : (r : CollectionRow) → collection_fits c r ≡ true → IsSound (with_collection c r)
@@ -160,28 +166,31 @@ module _ (c : Cat) (s : IsSound c) where
     tied = tied-with_collection c r s.tied;
     vaults = s.vaults;
     unzoned = s.unzoned;
+    names = s.names;
   }
     where
       named : (b : Bool) → (r.id == 0) ≡ b → (b || is_name r.name) ≡ true
       named true e = refl
       named false e = collection_named c r e fits
 
-  sound-without_collection : (id : ℕ) → may_drop_collection c id ≡ true → IsSound (without_collection c id)
+  pub sound-without_collection : (id : ℕ) → may_drop_collection c id ≡ true → IsSound (without_collection c id)
   sound-without_collection id fits = record {
     cat = cat-collections c s.cat (filter (λ r. not (r.id == id)) c.collections) (IsTable-filter collection_cmp is_named_collection (λ r. not (r.id == id)) c.collections s.cat.collections);
     forest = forest-without_collection c s.forest s.cat.collections.ordered id fits;
     tied = tied-without_collection c id fits s.tied;
     vaults = s.vaults;
     unzoned = s.unzoned;
+    names = s.names;
   }
 
-  sound-with_object : (r : ObjectRow) → object_fits c r ≡ true → IsSound (with_object c r)
+  pub sound-with_object : (r : ObjectRow) → object_fits c r ≡ true → IsSound (with_object c r)
   sound-with_object r fits = record {
     cat = cat-objects c s.cat (with_row object_cmp c.objects r) (IsTable-with_row object_cmp object_cmp_total is_named_object c.objects r (asks_object c r fits).named s.cat.objects);
     forest = forest-with_object c s.forest s.cat.objects.ordered r fits;
     tied = tied-with_object c r s.tied;
     vaults = s.vaults;
     unzoned = s.unzoned;
+    names = s.names;
   }
 
   sound-without_object : (id : ℕ) → may_drop_object c id ≡ true → IsSound (without_object c id)
@@ -191,6 +200,7 @@ module _ (c : Cat) (s : IsSound c) where
     tied = tied-without_object c id fits s.tied;
     vaults = s.vaults;
     unzoned = s.unzoned;
+    names = s.names;
   }
 
   sound-replicas : (rows : List ReplicaRow) → IsTable replica_cmp (λ _. true) rows → AllByRecursion (ReplicaStands c) rows → HasOwnVaults rows c.orphans c.numbers.next_vault c.stores → IsSound (record c { replicas = rows })
@@ -200,6 +210,7 @@ module _ (c : Cat) (s : IsSound c) where
     tied = record { members = s.tied.members; replicas = all; triples = s.tied.triples; entries = s.tied.entries; resources = s.tied.resources; pending = s.tied.pending };
     vaults = own;
     unzoned = s.unzoned;
+    names = s.names;
   }
 
   sound-triples : (rows : List TripleRow) → IsTable triple_cmp (λ _. true) rows → AllByRecursion (TripleStands c) rows → IsSound (record c { triples = rows })
@@ -209,6 +220,7 @@ module _ (c : Cat) (s : IsSound c) where
     tied = record { members = s.tied.members; replicas = s.tied.replicas; triples = all; entries = s.tied.entries; resources = s.tied.resources; pending = s.tied.pending };
     vaults = s.vaults;
     unzoned = s.unzoned;
+    names = s.names;
   }
 
   sound-entries : (rows : List EntryRow) → IsTable entry_cmp (λ _. true) rows → AllByRecursion (EntryStands c) rows → IsSound (record c { entries = rows })
@@ -218,9 +230,10 @@ module _ (c : Cat) (s : IsSound c) where
     tied = record { members = s.tied.members; replicas = s.tied.replicas; triples = s.tied.triples; entries = all; resources = s.tied.resources; pending = s.tied.pending };
     vaults = s.vaults;
     unzoned = s.unzoned;
+    names = s.names;
   }
 
-  sound-resource : (r : ResourceRow) → resource_fits c r ≡ true → IsSound (record c { resources = with_row resource_cmp c.resources r })
+  pub sound-resource : (r : ResourceRow) → resource_fits c r ≡ true → IsSound (record c { resources = with_row resource_cmp c.resources r })
   sound-resource r fits = record {
     cat = cat-resources c s.cat (with_row resource_cmp c.resources r)
         (IsTable-with_row resource_cmp resource_cmp_total is_named_resource c.resources r (resource_named c r fits) s.cat.resources);
@@ -228,6 +241,7 @@ module _ (c : Cat) (s : IsSound c) where
     tied = tied-resource c r fits s.tied;
     vaults = s.vaults;
     unzoned = s.unzoned;
+    names = names-resource c r fits s.names;
   }
 
   sound-orphans : (rows : List OrphanRow) → IsTable orphan_cmp (λ _. true) rows → HasOwnVaults c.replicas rows c.numbers.next_vault c.stores → IsSound (record c { orphans = rows })
@@ -237,6 +251,7 @@ module _ (c : Cat) (s : IsSound c) where
     tied = record { members = s.tied.members; replicas = s.tied.replicas; triples = s.tied.triples; entries = s.tied.entries; resources = s.tied.resources; pending = s.tied.pending };
     vaults = own;
     unzoned = s.unzoned;
+    names = s.names;
   }
 
   sound-rules : (text : Text) → IsSound (record c { rules = text })
@@ -256,6 +271,7 @@ module _ (c : Cat) (s : IsSound c) where
     tied = record { members = s.tied.members; replicas = s.tied.replicas; triples = s.tied.triples; entries = s.tied.entries; resources = s.tied.resources; pending = s.tied.pending };
     vaults = s.vaults;
     unzoned = s.unzoned;
+    names = s.names;
   }
 
   sound-numbers : (n : Numbers) → numbers_fit c n ≡ true → IsSound (record c { numbers = n })
@@ -282,6 +298,7 @@ module _ (c : Cat) (s : IsSound c) where
     };
     vaults = vaults-drawn c n.next_vault rises s.vaults;
     unzoned = s.unzoned;
+    names = s.names;
   }
     where
       rises : c.numbers.next_vault ≤ n.next_vault
@@ -304,6 +321,7 @@ module _ (c : Cat) (s : IsSound c) where
     tied = record { members = s.tied.members; replicas = s.tied.replicas; triples = s.tied.triples; entries = s.tied.entries; resources = s.tied.resources; pending = user };
     vaults = s.vaults;
     unzoned = s.unzoned;
+    names = s.names;
   }
 
 -- ---- all deltas
@@ -363,7 +381,7 @@ sound-apply c d (delta.Pending p) s e = then_sound _ 20 _ d (λ fits. sound-pend
 sound-apply c d delta.NoPending s e = then_sound _ 21 _ d (λ fits. sound-pending c s None (λ q is. absurd cc)) e
 
 -- the catalogue between the first delta and the others
-after_first : (r : Result Cat ℕ) (changes : List Delta) (d : Cat) → elim r as (λ _. Result Cat ℕ) [ Ok n ↦ apply_all n changes | Err cause ↦ Err cause ] ≡ Ok d
+pub after_first : (r : Result Cat ℕ) (changes : List Delta) (d : Cat) → elim r as (λ _. Result Cat ℕ) [ Ok n ↦ apply_all n changes | Err cause ↦ Err cause ] ≡ Ok d
     → (n : Cat) × (r ≡ Ok n) × (apply_all n changes ≡ Ok d)
 after_first (Ok n) changes d e = (n, refl, e)
 after_first (Err cause) changes d e = absurd cc
@@ -389,8 +407,15 @@ tied_from_sound c s = record {
   entries = all-mapped (EntryStands c) (λ e. entry_fits c e ≡ true) c.entries (λ e here stands. and_from _ _ (and_from _ _ stands.0 stands.1) stands.2) s.tied.entries;
   resources = s.tied.resources;
   orphans = all_from_in (OrphanStands c) c.orphans (λ o here. let its = s.vaults.orphans o here in (its.0, its.1, orphan_free c o here s.vaults, its.2));
+  user_names = λ a b u v a_is b_is same. let x = of_number (λ (z : UserRow). z.id) c.users a u a_is in let y = of_number (λ (z : UserRow). z.id) c.users b v b_is in
+      sym x.1 ∙ s.names.users_apart u v x.0 y.0 same ∙ y.1;
+  resource_names = λ a b q r a_is b_is same. let x = of_number (λ (z : ResourceRow). z.id) c.resources a q a_is in let y = of_number (λ (z : ResourceRow). z.id) c.resources b r b_is in
+      sym x.1 ∙ s.names.resources_apart q r x.0 y.0 same ∙ y.1;
   pending = s.tied.pending;
 }
+  where
+    of_number : {X : Type 0} (number : X → ℕ) (rows : List X) (id : ℕ) (x : X) → find (λ r. number r == id) rows ≡ Some x → IsIn rows x × (number x ≡ id)
+    of_number number rows id x e = let found = in_from_find (λ r. number r == id) rows x e in (found.0, eqb-true (number x) id found.1)
 
 pub ties-made : (changes : List Delta) (c : Cat) → apply_all empty_cat changes ≡ Ok c → IsTied c
 ties-made changes c e = tied_from_sound c (sound-made changes c e)

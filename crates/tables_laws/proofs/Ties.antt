@@ -17,7 +17,7 @@ use Rattle.grid_model.specs.declared.deltas.ReplicaRow.{ReplicaRow}
 use Rattle.grid_model.specs.declared.deltas.TripleRow.{TripleRow}
 use Rattle.grid_model.specs.declared.deltas.EntryRow.{EntryRow}
 use Rattle.grid_model.specs.declared.deltas.ResourceRow.{ResourceRow}
-use Rattle.tables_laws.proofs.Rows.{IsIn, in_from_all, all_from_in, any_with_row}
+use Rattle.tables_laws.proofs.Rows.{IsIn, in_from_any, any_from_in, in_from_all, all_from_in, any_with_row}
 use Rattle.tables_laws.proofs.Numbered.{same_number, put_has, dropped_has}
 use Rattle.grid_model.specs.declared.deltas.CollectionRow.{CollectionRow}
 use Rattle.grid_model.specs.declared.deltas.ObjectRow.{ObjectRow}
@@ -42,7 +42,7 @@ module _ (c : Cat) (r : UserRow) (fits : user_fits c r ≡ true) where
   abbrev with_user : Cat
   with_user = record c { users = with_row user_cmp c.users r }
 
-  not_taken : (u : UserRow) → IsIn c.users u → u.id ≡ r.id → ⊥
+  pub not_taken : (u : UserRow) → IsIn c.users u → u.id ≡ r.id → ⊥
   not_taken u here is =
       none_in (λ x. (x.id == r.id) || same_text x.name r.name) c.users
       (not-true _ (and_parts (is_name r.name) (not (list_any (λ x. (x.id == r.id) || same_text x.name r.name) c.users)) fits).1) u here
@@ -100,7 +100,7 @@ module _ (c : Cat) (r : ResourceRow) (fits : resource_fits c r ≡ true) where
   abbrev kinds_same : Bool
   kinds_same = not (list_any (λ o. (o.id == r.id) && not (same_kind o.kind r.kind)) c.resources)
 
-  its_parent : parent_fits c r ≡ true
+  pub its_parent : parent_fits c r ≡ true
   its_parent = (and_parts (nat_lt 0 r.id && is_name r.name && named_apart && kinds_same && slot_fits c r.kind r.slot) (parent_fits c r) fits).1
 
   front : (nat_lt 0 r.id && is_name r.name && named_apart && kinds_same && slot_fits c r.kind r.slot) ≡ true
@@ -113,7 +113,7 @@ module _ (c : Cat) (r : ResourceRow) (fits : resource_fits c r ≡ true) where
   its_kind = (and_parts (nat_lt 0 r.id && is_name r.name && named_apart) kinds_same (and_parts (nat_lt 0 r.id && is_name r.name && named_apart && kinds_same) (slot_fits c r.kind r.slot) front).0).1
 
   -- the row that it replaces has its kind
-  replaced : (o : ResourceRow) → IsIn c.resources o → o.id ≡ r.id → o.kind ≡ r.kind
+  pub replaced : (o : ResourceRow) → IsIn c.resources o → o.id ≡ r.id → o.kind ≡ r.kind
   replaced o here is = told (same_kind o.kind r.kind) refl
     where
       told : (b : Bool) → same_kind o.kind r.kind ≡ b → o.kind ≡ r.kind
@@ -131,14 +131,14 @@ module _ (c : Cat) (r : ResourceRow) (fits : resource_fits c r ≡ true) where
   node_stays : (id : ℕ) → is_node c id ≡ true → is_node with_resource id ≡ true
   node_stays id e = kind_stays (λ i k. (i == id) && not (is_storage k)) e
 
-  stands_again : (x : ResourceRow) → ResourceStands c x → ResourceStands with_resource x
+  pub stands_again : (x : ResourceRow) → ResourceStands c x → ResourceStands with_resource x
   stands_again x stands = (stands.0, above (x.parent == 0) stands.1)
     where
       above : (b : Bool) → (b || is_node c x.parent) ≡ true → (b || is_node with_resource x.parent) ≡ true
       above true e = refl
       above false e = node_stays x.parent e
 
-  new_stands : ResourceStands c r
+  pub new_stands : ResourceStands c r
   new_stands = (its_slot, above (r.parent == 0) refl)
     where
       above : (b : Bool) → (r.parent == 0) ≡ b → (b || is_node c r.parent) ≡ true
@@ -202,12 +202,12 @@ same_item_so : (k : ItemKind) (id : ℕ) (l : ItemKind) (j : ℕ) → k ≡ l �
 same_item_so k id l j kinds ids = and_from (item_number k == item_number l) (id == j) (eq-eqb (item_number k) (item_number l) (ap item_number kinds)) (eq-eqb id j ids)
 
 module _ (c : Cat) (gone : ItemKind) (id : ℕ) (untold : is_told_of c gone id ≡ false) where
-  triple_apart : (x : TripleRow) → IsIn c.triples x → x.kind ≡ gone → x.id ≡ id → ⊥
+  pub triple_apart : (x : TripleRow) → IsIn c.triples x → x.kind ≡ gone → x.id ≡ id → ⊥
   triple_apart x here kinds ids =
       none_in (λ t. same_item t.kind t.id gone id) c.triples
       (or_none (list_any (λ t. same_item t.kind t.id gone id) c.triples) (list_any (λ e. same_item e.kind e.id gone id) c.entries) untold).0 x here (same_item_so x.kind x.id gone id kinds ids)
 
-  entry_apart : (x : EntryRow) → IsIn c.entries x → x.kind ≡ gone → x.id ≡ id → ⊥
+  pub entry_apart : (x : EntryRow) → IsIn c.entries x → x.kind ≡ gone → x.id ≡ id → ⊥
   entry_apart x here kinds ids =
       none_in (λ e. same_item e.kind e.id gone id) c.entries
       (or_none (list_any (λ t. same_item t.kind t.id gone id) c.triples) (list_any (λ e. same_item e.kind e.id gone id) c.entries) untold).1 x here (same_item_so x.kind x.id gone id kinds ids)
@@ -258,3 +258,15 @@ tied-without_object c id fits t = record {
         none_in (λ r. r.object == id) c.replicas
         (not-true _ (and_parts (has_object c id) (not (list_any (λ r. r.object == id) c.replicas)) (and_parts (has_object c id && not (list_any (λ r. r.object == id) c.replicas)) (not (is_told_of c kind.Object id)) fits).0).1)
         x here (eq-eqb x.object id is)
+
+-- ---- a group and a user are there
+
+pub any_weaker : {X : Type 0} (p q : X → Bool) (rows : List X) → ((x : X) → p x ≡ true → q x ≡ true) → list_any p rows ≡ true → list_any q rows ≡ true
+any_weaker p q rows so e = let found = in_from_any p rows e in any_from_in q rows found.0 found.1 (so found.0 found.2)
+
+pub members_there : (c : Cat) (m : MemberRow) → can_join c m ≡ true → (has_user c m.group ≡ true) × (has_user c m.user ≡ true)
+members_there c m e =
+    let parts = and_parts (is_group c m.group) (is_user c m.user) e in (
+      any_weaker (λ u. (u.id == m.group) && is_group_kind u.kind) (λ u. u.id == m.group) c.users (λ u passes. (and_parts (u.id == m.group) (is_group_kind u.kind) passes).0) parts.0,
+      any_weaker (λ u. (u.id == m.user) && not (is_group_kind u.kind)) (λ u. u.id == m.user) c.users (λ u passes. (and_parts (u.id == m.user) (not (is_group_kind u.kind)) passes).0) parts.1,
+    )

@@ -5,6 +5,7 @@ use Rattle.std.specs.List.{list_any}
 use Rattle.std.specs.List.Sorted.{IsStrictlySortedBy}
 use Rattle.std.specs.Cmp.{both_ways}
 use Rattle.std.proofs.lemmas.List.{reverse-append, reverse-reverse}
+use Rattle.std.proofs.lemmas.Option.{same_Some}
 use Rattle.grid_model.specs.Names.{Text, Path, parent}
 use Rattle.grid_model.specs.Rows.{Cat, object, has_collection, has_object, item_there, kind_of, id_of, collection_cmp, object_cmp}
 use Rattle.grid_model.specs.RowPaths.{names_within, names_up, collection_path, object_path, item_path, is_path_of, collection_at, object_at}
@@ -20,9 +21,6 @@ use Rattle.tables_laws.proofs.Rows.{IsIn, in_from_any, any_from_in, in_from_find
 use Rattle.tables_laws.proofs.Numbered.{found_in, one_number}
 use Rattle.tables_laws.proofs.Ways.{at_root, further, leads_up, within_more, its_row, root_there}
 use Rattle.tables_laws.proofs.Forest.{IsForest, way_of}
-
-some-is : {X : Type 0} (x y : X) → Some x ≡ Some y → x ≡ y
-some-is x y e = cc
 
 reverse-same : (a b : Path) → reverse a ≡ reverse b → a ≡ b
 reverse-same a b e = sym (reverse-reverse a) ∙ ap (λ (p : Path). reverse p) e ∙ reverse-reverse b
@@ -52,7 +50,7 @@ module _ (c : Cat) where
     where
       taken : (up : Option Path) → names_up c id ≡ up → option_map reverse up ≡ Some path → names_up c id ≡ Some (reverse path)
       taken None is h = absurd cc
-      taken (Some names) is h = is ∙ ap Some (sym (reverse-reverse names) ∙ ap (λ (p : Path). reverse p) (some-is (reverse names) path h))
+      taken (Some names) is h = is ∙ ap Some (sym (reverse-reverse names) ∙ ap (λ (p : Path). reverse p) (same_Some (reverse names) path h))
 
   -- an object: its name behind those of its collection
   record IsNamed (r : ObjectRow) (path : Path) : Type 0 where
@@ -65,7 +63,7 @@ module _ (c : Cat) where
     where
       taken : (up : Option Path) → names_up c r.collection ≡ up → option_map (λ names. reverse (r.name ∷ names)) up ≡ Some path → IsNamed r path
       taken None is h = absurd cc
-      taken (Some names) is h = record { above = names; up = is; is = sym (some-is (reverse (r.name ∷ names)) path h) }
+      taken (Some names) is h = record { above = names; up = is; is = sym (same_Some (reverse (r.name ∷ names)) path h) }
 
   record IsObjectAt (id : ℕ) (path : Path) : Type 0 where
     row : ObjectRow
@@ -216,7 +214,7 @@ module _ (c : Cat) (f : IsForest c) (sorted : IsStrictlySortedBy collection_cmp 
         absurd (let wrong : parent [] ≡ Some above = ap (λ (p : Path). parent p) (sym empty) ∙ over in cc)
     | further below r rest some up is ↦
         let turned : path ≡ reverse (r.name ∷ rest) = sym (reverse-reverse path) ∙ ap (λ (p : Path). reverse p) is in
-        let over_is : above ≡ reverse rest = some-is above (reverse rest) (sym over ∙ ap (λ (p : Path). parent p) turned ∙ parent-reverse r.name rest) in
+        let over_is : above ≡ reverse rest = same_Some above (reverse rest) (sym over ∙ ap (λ (p : Path). parent p) turned ∙ parent-reverse r.name rest) in
         let all : names_up c r.parent ≡ Some rest = ap (λ n. names_within n c r.parent) count ∙ within_more c k r.parent rest up in
         (r.parent, ap (λ (o : Option Path). option_map reverse o) all ∙ ap Some (sym over_is))
   ]
@@ -226,7 +224,7 @@ module _ (c : Cat) (f : IsForest c) (sorted : IsStrictlySortedBy collection_cmp 
   above_item (item.Object id) path above e over =
       let at = object_of c id path e in
       let named = named_of c at.row path at.path_is in
-      let over_is : above ≡ reverse named.above = some-is above (reverse named.above) (sym over ∙ ap (λ (p : Path). parent p) named.is ∙ parent-reverse at.row.name named.above) in
+      let over_is : above ≡ reverse named.above = same_Some above (reverse named.above) (sym over ∙ ap (λ (p : Path). parent p) named.is ∙ parent-reverse at.row.name named.above) in
       (at.row.collection, ap (λ (o : Option Path). option_map reverse o) named.up ∙ ap Some (sym over_is))
   above_item (item.Resource id) path above e over = absurd cc
   above_item (item.User id) path above e over = absurd cc
@@ -253,7 +251,7 @@ module _ (c : Cat) (f : IsForest c) (sorted : IsStrictlySortedBy collection_cmp 
       taken None is h = absurd cc
       taken (Some r) is h =
           let passes = in_from_find (λ s. is_path_of (collection_path c s.id) path) c.collections r is in
-          let its : r.id ≡ id = some-is r.id id h in
+          let its : r.id ≡ id = same_Some r.id id h in
           ap (λ i. collection_path c i) (sym its) ∙ at_path (collection_path c r.id) path passes.1
 
   object_found : (id : ℕ) (path : Path) → item_path c (item.Object id) ≡ Some path → object_at c path ≡ Some id
@@ -273,7 +271,7 @@ module _ (c : Cat) (f : IsForest c) (sorted : IsStrictlySortedBy collection_cmp 
       taken None is h = absurd cc
       taken (Some r) is h =
           let passes = in_from_find (λ s. is_path_of (object_path c s) path) c.objects r is in
-          let its : r.id ≡ id = some-is r.id id h in
+          let its : r.id ≡ id = same_Some r.id id h in
           let row : object c id ≡ Some r = ap (λ i. object c i) (sym its) ∙ found_in (λ (x : ObjectRow). x.id) c.objects r objects_sorted passes.0 in
           ap (λ (o : Option ObjectRow). elim o as (λ _. Option Path) [ None ↦ None | Some s ↦ object_path c s ]) row ∙ at_path (object_path c r) path passes.1
 

@@ -8,14 +8,12 @@ use Rattle.std.proofs.lemmas.Bool.Decides.{eqb_tells}
 use Rattle.std.proofs.lemmas.Map.Made.{length-le_from_is_member}
 use Rattle.std.proofs.lemmas.Map.Keys.{IsDistinct-cons}
 use Rattle.std.proofs.lemmas.List.{length-map}
+use Rattle.std.proofs.lemmas.Option.{same_Some}
 use Rattle.grid_model.specs.Names.{Path}
 use Rattle.grid_model.specs.Rows.{Cat, collection, has_collection}
 use Rattle.grid_model.specs.RowPaths.{names_within}
 use Rattle.grid_model.specs.declared.deltas.CollectionRow.{CollectionRow}
 use Rattle.tables_laws.proofs.Rows.{IsIn, in_from_find}
-
-some-same : {X : Type 0} (x y : X) → Some x ≡ Some y → x ≡ y
-some-same x y e = cc
 
 -- ---- one step
 
@@ -41,7 +39,7 @@ module _ (c : Cat) where
   row_leads : (k id : ℕ) (names : Path) (r : CollectionRow) → (id ≡ 0 → ⊥) → collection c id ≡ Some r → (up : Option Path) → names_within k c r.parent ≡ up
       → option_map (λ rest. r.name ∷ rest) up ≡ Some names → Leads c k id names
   row_leads k id names r not_root some None up e = absurd cc
-  row_leads k id names r not_root some (Some rest) up e = further not_root r rest some up (sym (some-same (r.name ∷ rest) names e))
+  row_leads k id names r not_root some (Some rest) up e = further not_root r rest some up (sym (same_Some (r.name ∷ rest) names e))
 
   below_leads : (k id : ℕ) (names : Path) → (id ≡ 0 → ⊥) → names_within (suc k) c id ≡ Some names → (o : Option CollectionRow) → collection c id ≡ o → Leads c k id names
   below_leads k id names not_root e None is = let none : names_within (suc k) c id ≡ None = within_lost k id not_root is in absurd cc
@@ -50,7 +48,7 @@ module _ (c : Cat) where
 
   pub leads_up : (k id : ℕ) (names : Path) → names_within (suc k) c id ≡ Some names → Leads c k id names
   leads_up k id names e = elim (eqb_tells id 0) [
-    | inl is ↦ at_root is.1 (let root : names_within (suc k) c id ≡ Some [] = within_root k id is.1 in some-same names [] (sym e ∙ root))
+    | inl is ↦ at_root is.1 (let root : names_within (suc k) c id ≡ Some [] = within_root k id is.1 in same_Some names [] (sym e ∙ root))
     | inr not ↦ below_leads k id names not.1 e (collection c id) refl
   ]
 
@@ -85,7 +83,7 @@ module _ (c : Cat) where
       let first : names_within (j + k) c id ≡ Some names = within_many j k id names e in
       let second : names_within (k + j) c id ≡ Some others = within_many k j id others f in
       let turned : j + k ≡ k + j = omega arith in
-      some-same names others (sym first ∙ ap (λ n. names_within n c id) turned ∙ second)
+      same_Some names others (sym first ∙ ap (λ n. names_within n c id) turned ∙ second)
 
   -- ---- the collections on the way
 
