@@ -1,0 +1,14 @@
+pub mod Calls
+pub mod Decimals
+pub mod Machines
+pub mod Parsing
+pub mod PrintedAgain
+pub mod PrintedTerms
+pub mod PrintedTexts
+pub mod ReadRules
+pub mod Readings
+pub mod SpelledRules
+pub mod SpelledTerms
+pub mod Terms
+pub mod TokenLexing
+pub mod TextLemmas

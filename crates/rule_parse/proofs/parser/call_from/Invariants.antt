@@ -1,0 +1,13 @@
+use Rattle.std.proofs.Common.{◌≡◌, Some}
+use Rattle.std.specs.Vec.Iter.{into_iter_items, into_iter_len}
+use Rattle.rule_parse.specs.Readers.{read_call, new_call}
+use Rattle.rule_parse.specs.Seen.{calling_of}
+use Rattle.rule_parse.proofs.Machines.{run}
+use Rattle.rule_parse.proofs.Parsing.{tokens_of, IsSplit}
+use Rattle.rule_parse.proofs.parser.call_from.Given as goal
+
+abbrev pub invariant-loop-token : goal.invariant-loop-token
+invariant-loop-token l = record {
+  runs : run read_call new_call (tokens_of l.yielded) ≡ Some (calling_of l.calling);
+  split : IsSplit l.fn.tokens.items l.yielded (into_iter_items l.token-iterator) (into_iter_len l.token-iterator);
+}

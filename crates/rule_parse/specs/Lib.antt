@@ -1,0 +1,5 @@
+pub mod Grammar
+pub mod Printed
+pub mod Readers
+pub mod RuleTexts
+pub mod Seen

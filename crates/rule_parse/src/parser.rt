@@ -1,0 +1,62 @@
+ghost use Rattle.grid_model.specs.Parsed.{call_of, rule_of};
+ghost use Rattle.grid_model.specs.declared.refusal.RuleCause.{RuleCause};
+ghost use Rattle.rule_lex.specs.Seen.{placed};
+ghost use Rattle.rule_parse.specs.Grammar.{SpellsCall, SpellsRules};
+ghost use Rattle.rule_parse.specs.RuleTexts.{located, StopsAt};
+ghost use Rattle.rule_parse.specs.Seen.{IsStop};
+ghost use Rattle.std.specs.Prelude.{ℕ, map, IfOk, IsErrOf};
+
+use crate::calling::Calling;
+use crate::error::RuleError;
+use crate::reading::Reading;
+use grid_model::{Call0, RuleCause, Rules};
+use rule_lex::Tokens;
+use std::alloc::Global;
+
+/// The rules that these tokens of a text of this length spell.
+pub fn rules_from(alloc: Global, tokens: Tokens<'_>, end: usize) -> Result<Rules, RuleError>
+    ensures rules { IfOk result (λ rules. SpellsRules (map located (map placed tokens.entry.items)) (map rule_of rules)) }
+    ensures stops { (at : ℕ) (cause : RuleCause) → IsErrOf result (RuleError.BadRule at cause) → IsStop SpellsRules (map placed tokens.entry.items) end at cause }
+{
+    let mut reading = Reading::new(alloc);
+    for token in tokens {
+        let at = token.at as u64;
+        if !reading.take(alloc, at, token.value)? {
+            return Err(RuleError::BadRule {
+                at,
+                cause: RuleCause::Grammar,
+            });
+        }
+    }
+    match reading.finish() {
+        Some(rules) => Ok(rules),
+        None => Err(RuleError::BadRule {
+            at: end as u64,
+            cause: RuleCause::Grammar,
+        }),
+    }
+}
+
+/// The call that these tokens of a text of this length spell.
+pub fn call_from(alloc: Global, tokens: Tokens<'_>, end: usize) -> Result<Call0, RuleError>
+    ensures call { IfOk result (λ call. SpellsCall (map located (map placed tokens.entry.items)) (call_of call)) }
+    ensures stops { (at : ℕ) (cause : RuleCause) → IsErrOf result (RuleError.BadRule at cause) → IsStop SpellsCall (map placed tokens.entry.items) end at cause }
+{
+    let mut calling = Calling::new(alloc);
+    for token in tokens {
+        let at = token.at as u64;
+        if !calling.take(alloc, at, token.value)? {
+            return Err(RuleError::BadRule {
+                at,
+                cause: RuleCause::Grammar,
+            });
+        }
+    }
+    match calling.whole() {
+        Some(call) => Ok(call),
+        None => Err(RuleError::BadRule {
+            at: end as u64,
+            cause: RuleCause::Grammar,
+        }),
+    }
+}
