@@ -1,28 +1,27 @@
 -- Requests that were done, one more, and what is shown and kept of them.
-use Rattle.std.proofs.Common.{◌≡◌, ◌⊎◌, inl, inr, ℕ, zero, suc, ◌+◌, ◌≤◌, Bool, true, false, List, [], ◌∷◌, ◌++◌, length, take, slice_get, Some, Result, arith, refl, sym, subst, ap, ◌∙◌, append_assoc, length-append}
+use Rattle.std.proofs.Common.{◌≡◌, ◌⊎◌, inl, inr, ℕ, zero, suc, ◌+◌, ◌-◌, ◌≤◌, Bool, true, false, List, [], ◌∷◌, ◌++◌, length, take, slice_get, Some, Result, arith, refl, sym, subst, ap, ◌∙◌, append_assoc, length-append}
 use Rattle.std.specs.Prelude.{max}
+use Rattle.std.specs.List.{AllByRecursion}
 use Rattle.std.proofs.lemmas.List.{append-nil, take_all, take-append-le, take_at}
 use Rattle.grid_model.specs.Names.{Text}
 use Rattle.grid_model.specs.Rows.{Cat}
-use Rattle.grid_model.specs.Gridding.{grid_of}
+use Rattle.grid_model.specs.RowGrids.{grid_of}
 use Rattle.grid_model.specs.Inputs.{Asked}
 use Rattle.grid_model.specs.Requests.{Asks}
-use Rattle.grid_model.specs.Commands.{State, Done, command, After, none, next, state_after}
+use Rattle.grid_model.specs.Commands.{State, Done, Comes, act, After, none, next, state_after}
 use Rattle.grid_model.specs.Replies.{reply, replies, AddsFirst}
 use Rattle.grid_model.specs.declared.requests.Verb.{Verb}
 use Rattle.grid_model.specs.declared.refusal.Refusal.{Refusal}
-use Rattle.grid_server.specs.Held.{StandsFor}
-use Rattle.grid_server.specs.Answering.{Did, Follows, last_of, OneOf, not_kept, kept}
-use Rattle.grid_server.specs.Serving.{begins, Shows, IsCut, AllButOne, IsBefore, IsAfter, OneImage, ClosesAt}
-use Rattle.frame_log.specs.Log.{IsLog}
-use Rattle.frame_log.specs.Extent.{Extent}
-use Rattle.grid_journal.specs.Journal.{Journal, Keeps}
+use Rattle.grid_server.specs.Held.{StandsFor, IsLike}
+use Rattle.grid_server.specs.Keeping.{Follows, last_of}
+use Rattle.grid_server.specs.Answering.{Caused, AllCaused, Did, OneOf, not_kept, kept}
+use Rattle.grid_server.specs.Serving.{begins, Shows, IsCut, AllButOne, IsBefore, IsAfter, OneImage}
 use Rattle.grid_server.proofs.RequestLemmas.{asks_held}
 
 -- ---- lists that go on
 
-pub After-push : {s mid : State} {asked : List Asked} {done : List Done} (request : Asked) (d : Done) → After s asked done mid → Did mid request.line d → After s (asked ++ request ∷ []) (done ++ d ∷ []) d.state
-After-push request d none did = next did.asked did.asks did.is none
+pub After-push : {s mid : State} {asked : List Asked} {done : List Done} (request : Asked) (d : Done) → After s asked done mid → Did mid request.line request.body d → After s (asked ++ request ∷ []) (done ++ d ∷ []) d.state
+After-push request d none did = next did.asked did.asks did.comes none
 After-push request d (next verb asks is more) did = next verb asks is (After-push request d more did)
 
 pub replies-push : (n : ℕ) (done : List Done) (d : Done) → replies n (done ++ d ∷ []) ≡ replies n done ++ reply (n + length done) d.answer
@@ -32,9 +31,26 @@ replies-push n (e ∷ done) d =
     ap (λ (t : Text). reply n e.answer ++ t) (replies-push (n + 1) done d ∙ ap (λ (k : ℕ). replies (n + 1) done ++ reply k d.answer) same)
     ∙ sym (append_assoc (reply n e.answer) (replies (n + 1) done) (reply (n + length (e ∷ done)) d.answer))
 
--- what is held of a line does the same
-pub did_held : (s : State) (held line : Text) (asked : Result Verb Refusal) → held ≡ take 4097 line → Asks held asked → Did s line (command s asked)
-did_held s held line asked e asks = let P : Text → Type 0 = λ t. Asks t asked in record { asked = asked; asks = asks_held line asked (subst P e asks); is = refl }
+-- what is held of a line does the same with its body
+pub did_held : (s : State) (held line body : Text) (asked : Result Verb Refusal) (d : Done) → held ≡ take 4097 line → Asks held body asked → Comes s (act s asked) d → Did s line body d
+did_held s held line body asked d e asks comes = let P : Text → Type 0 = λ t. Asks t body asked in record { asked = asked; asks = asks_held line body asked (subst P e asks); comes = comes }
+
+-- ---- causes
+
+pub caused_more : (rose : ℕ → Bool) (done : List Done) (d : Done) → AllCaused rose done → AllByRecursion (Caused rose) d.answer.marks → AllCaused rose (done ++ d ∷ [])
+caused_more rose [] d all one = (one, tt)
+caused_more rose (e ∷ done) d all one = (all.0, caused_more rose done d all.1 one)
+
+pub caused_first : (rose : ℕ → Bool) (n : ℕ) (done : List Done) → AllCaused rose done → AllCaused rose (take n done)
+caused_first rose zero done all = tt
+caused_first rose (suc n) [] all = tt
+caused_first rose (suc n) (e ∷ done) all = (all.0, caused_first rose n done all.1)
+
+-- all but the last one
+pub caused_before : (rose : ℕ → Bool) (done : List Done) (d : Done) → AllCaused rose done → AllCaused rose (take (length (done ++ d ∷ []) - 1) (done ++ d ∷ []))
+caused_before rose done d all =
+    let P : List Done → Type 0 = λ ds. AllCaused rose ds in
+    subst P (sym (take_at done (d ∷ []) (length (done ++ d ∷ []) - 1) (omega (arith, length-append done (d ∷ []))))) all
 
 -- ---- states in between
 
@@ -176,15 +192,22 @@ image_more found done d old main sink image = record {
       grid = after.grid ∙ ap (λ (s : State). s.grid) (sym (state_after-more (begins (grid_of found)) done d (max image.whole image.cat.numbers.last) after.within));
     })
 
--- While a request is answered: main has the catalogue before and nothing of its reply is shown, or main has the one after.
+-- main has a catalogue that differs in nothing that is seen, and nothing more is shown
+pub like_image : (found : Cat) (done : List Done) (old main sink : Text) (c d : Cat) → c.numbers.run ≡ found.numbers.run + 1 → c.numbers.last ≤ length done → c.pending ≡ found.pending
+    → grid_of c ≡ (state_after (begins (grid_of found)) done (length done)).grid → IsLike c d → StandsFor main d → sink ≡ old ++ replies 1 done → OneImage found done old main sink
+like_image found done old main sink c d run last pending grid like stood sink_is =
+    image_of found done old main d (length done) main sink refl stood sink_is (inr (record {
+      run = like.run ∙ run;
+      within = omega (arith, last, like.last);
+      grid = like.grid ∙ grid ∙ ap (λ (k : ℕ). (state_after (begins (grid_of found)) done k).grid) (let most : length done ≡ max (length done) d.numbers.last = omega (arith, last, like.last) in most);
+    })) (like.pending ∙ pending)
+
+-- While a request is answered: nothing is seen to be changed and nothing of its reply is shown, or main has the catalogue
+-- after it.
 pub cut_or_whole : (found : Cat) (done : List Done) (d : Done) (old before main sink : Text) (c after : Cat) (n : ℕ) → n ≡ length done + 1 → before ≡ old ++ replies 1 done → c.numbers.run ≡ found.numbers.run + 1 → c.numbers.last ≤ length done
     → c.pending ≡ found.pending → grid_of c ≡ (state_after (begins (grid_of found)) done (length done)).grid → Follows c d n after → OneOf c after (reply n d.answer) before main sink → OneImage found (done ++ d ∷ []) old main sink
-cut_or_whole found done d old before main sink c after n n_is before_is run last pending grid follows (not_kept stood sink_is) =
-    image_more found done d old main sink (image_of found done old main c (length done) main sink refl stood (sink_is ∙ before_is) (inr (record {
-      run = run;
-      within = omega (arith, last);
-      grid = grid ∙ ap (λ (k : ℕ). (state_after (begins (grid_of found)) done k).grid) (let most : length done ≡ max (length done) c.numbers.last = omega (arith, last) in most);
-    })) pending)
+cut_or_whole found done d old before main sink c after n n_is before_is run last pending grid follows (not_kept other like stood sink_is) =
+    image_more found done d old main sink (like_image found done old main sink c other run last pending grid like stood (sink_is ∙ before_is))
 cut_or_whole found done d old before main sink c after n n_is before_is run last pending grid follows (kept stood adds) =
     let shown = shows_part old before done d n sink n_is before_is adds in
     record {
@@ -228,13 +251,3 @@ cut_or_whole found done d old before main sink c after n n_is before_is run last
         let l : after.numbers.last ≡ c.numbers.last = follows.last ∙ ap (λ b. last_of b n c.numbers.last) changed in
         let m : max whole after.numbers.last ≡ length done + 1 = omega (arith, w, l, last) in
         (omega (arith, m), at (max whole after.numbers.last) m)
-
--- the log that a journal stands on closes at its gate
-pub closes_at : (c : Cat) (j : Journal) (main : Text) (place : ℕ) → place ≡ j.log.gate → Keeps c j main → ClosesAt main place
-closes_at c j main place is keeps =
-    let P : ℕ → Type 0 = λ b. IsLog b keeps.records main in
-    record {
-      records = keeps.records;
-      log = subst P keeps.base keeps.log.is_log;
-      place_is = omega (arith, is, ap (λ (e : Extent). e.gate) keeps.log.extent, keeps.base);
-    }

@@ -223,12 +223,12 @@ pub record PartPassed (old now : Reader) (from to : SourceState) (count left : �
   pub taken : now.taken ≡ old.taken + length got
   pub most : now.taken ≤ 2 ^ 48
 
-pub none_passed : (old : Reader) (from : SourceState) (count : ℕ) → old.taken ≤ 2 ^ 48 → PartPassed old old from from count count
+abbrev pub none_passed : (old : Reader) (from : SourceState) (count : ℕ) → old.taken ≤ 2 ^ 48 → PartPassed old old from from count count
 none_passed old from count most = record { got = []; body = []; split = append-nil old.unread; size = omega arith; took = λ tells. refl; taken = omega arith; most = most }
 
 module _ (old now : Reader) (from to : SourceState) (count left : ℕ) (so_far : PartPassed old now from to count left) where
   -- some of what is held
-  pub held_passed : (new : Reader) (rest : ℕ) → new.unread ≡ drop (min left (length now.unread)) now.unread → new.taken ≡ now.taken → rest ≡ left - min left (length now.unread) → PartPassed old new from to count rest
+  abbrev pub held_passed : (new : Reader) (rest : ℕ) → new.unread ≡ drop (min left (length now.unread)) now.unread → new.taken ≡ now.taken → rest ≡ left - min left (length now.unread) → PartPassed old new from to count rest
   held_passed new rest unread taken is =
       let p = min left (length now.unread) in
       let front = take p now.unread in
@@ -243,7 +243,7 @@ module _ (old now : Reader) (from to : SourceState) (count left : ℕ) (so_far :
       }
 
   -- a block more, where nothing was held
-  pub block_passed : (new : Reader) (last : SourceState) → now.unread ≡ [] → to.tells ≡ from.tells → Took new.unread to last → new.taken ≡ now.taken + length new.unread → new.taken ≤ 2 ^ 48 → PartPassed old new from last count left
+  abbrev pub block_passed : (new : Reader) (last : SourceState) → now.unread ≡ [] → to.tells ≡ from.tells → Took new.unread to last → new.taken ≡ now.taken + length new.unread → new.taken ≤ 2 ^ 48 → PartPassed old new from last count left
   block_passed new last empty tells took taken most = record {
     got = so_far.got ++ new.unread;
     body = so_far.body;
@@ -257,13 +257,12 @@ module _ (old now : Reader) (from to : SourceState) (count left : ℕ) (so_far :
   all_of : now.unread ≡ [] → old.unread ++ so_far.got ≡ so_far.body
   all_of empty = so_far.split ∙ ap (λ (xs : List ℕ). so_far.body ++ xs) empty ∙ append-nil so_far.body
 
-  pub whole_passed : left ≡ 0 → Passes old count passed.Whole now from to
-  whole_passed none = record { got = so_far.got; body = so_far.body; ends = (so_far.split, omega (arith, so_far.size, none), so_far.took, so_far.taken, so_far.most) }
+  pub whole_passed : left ≡ 0 → Passes old count passed.Whole now from to so_far.body
+  whole_passed none = record { got = so_far.got; ends = (so_far.split, omega (arith, so_far.size, none), so_far.took, so_far.taken, so_far.most) }
 
-  pub short_passed : (new : Reader) (last : SourceState) → left ≢ 0 → now.unread ≡ [] → to.tells ≡ from.tells → new ≡ now → TookAll [] to last → Passes old count passed.Short new from last
-  short_passed new last some empty tells stays took = record {
+  pub short_passed : (new : Reader) (last : SourceState) → left ≢ 0 → now.unread ≡ [] → to.tells ≡ from.tells → new ≡ now → TookAll [] to last → (have : ℕ) → have + left ≡ count → Passes old count (passed.Short have) new from last so_far.body
+  short_passed new last some empty tells stays took have came = record {
     got = so_far.got;
-    body = so_far.body;
     ends = (
       all_of empty,
       omega (arith, so_far.size, some),
@@ -271,13 +270,13 @@ module _ (old now : Reader) (from to : SourceState) (count left : ℕ) (so_far :
       (λ told. let all = took (subst IsTrue (sym tells) told) in (so_far.took told ∙ ap (λ (xs : List ℕ). so_far.got ++ xs) all.0 ∙ append-nil so_far.got, all.1)),
       omega (arith, so_far.taken, ap (λ r. r.taken) stays),
       omega (arith, so_far.most, ap (λ r. r.taken) stays),
+      omega (arith, so_far.size, came),
     );
   }
 
-  pub long_passed : (new : Reader) (last : SourceState) (byte : ℕ) → left ≢ 0 → now.unread ≡ [] → to.tells ≡ from.tells → new.unread ≡ [] → Took (byte ∷ []) to last → now.taken ≡ 2 ^ 48 → Passes old count passed.Long new from last
+  pub long_passed : (new : Reader) (last : SourceState) (byte : ℕ) → left ≢ 0 → now.unread ≡ [] → to.tells ≡ from.tells → new.unread ≡ [] → Took (byte ∷ []) to last → now.taken ≡ 2 ^ 48 → Passes old count passed.Long new from last so_far.body
   long_passed new last byte some empty tells new_empty took full = record {
     got = so_far.got;
-    body = so_far.body;
     ends = (
       all_of empty,
       omega (arith, so_far.size, some),

@@ -5,7 +5,8 @@ use Rattle.std.proofs.lemmas.Bool.{ltb-true}
 use Rattle.grid_model.specs.Names.{Text}
 use Rattle.grid_model.specs.Grid as model
 use Rattle.grid_model.specs.Rows.{Cat, empty_cat, has_collection}
-use Rattle.grid_model.specs.Gridding.{grid_of, HasPaths}
+use Rattle.grid_model.specs.RowGrids.{grid_of}
+use Rattle.grid_model.specs.NewRows.{HasPaths}
 use Rattle.grid_model.specs.Applying.{apply, apply_all, where_fits, numbers_fit}
 use Rattle.grid_model.specs.declared.deltas.Delta.{Delta}
 use Rattle.grid_model.specs.declared.deltas.Delta.TheVariants as delta
@@ -69,5 +70,5 @@ vault_made deltas c made = vault_after-all deltas empty_cat c (omega arith) made
 
 -- ---- a new grid
 
-pub grid_start : (zone admin : Text) (stores : ℕ) → grid_of (start zone admin stores) ≡ model.start zone admin
+pub grid_start : (zone admin : Text) (stores : ℕ) → grid_of (start zone admin stores) ≡ model.start zone admin stores
 grid_start zone admin stores = refl

@@ -1,62 +1,63 @@
 -- What the beginning of a run leaves.
-use Rattle.std.proofs.Common.{◌≡◌, ◌≢◌, ℕ, ◌+◌, ◌^◌, ◌<◌, List, [], ◌∷◌, Ok, Err, IsTrue, refl, sym, ap, ◌∙◌, subst, false}
+use Rattle.std.proofs.Common.{◌≡◌, ◌≢◌, ℕ, ◌+◌, ◌^◌, ◌<◌, List, [], ◌∷◌, Ok, Err, IsTrue, refl, ap, ◌∙◌, subst, false, arith}
+use Rattle.std.specs.Prelude.{nat_lt, nat_le}
+use Rattle.std.proofs.lemmas.Bool.{and_from, lt-ltb, le-leb}
 use Rattle.grid_outside.specs.Device.{IsSettled}
 use Rattle.grid_outside.specs.Disk.{DiskState}
 use Rattle.grid_outside.specs.declared.outside.Wear.{Wear}
-use Rattle.grid_model.specs.Rows.{Cat, IsCat}
-use Rattle.grid_model.specs.Gridding.{grid_of, HasPaths}
-use Rattle.grid_model.specs.Applying.{apply_all}
+use Rattle.grid_model.specs.Rows.{Cat}
+use Rattle.grid_model.specs.RowGrids.{grid_of}
+use Rattle.grid_model.specs.Applying.{apply, apply_all, where_fits}
 use Rattle.grid_model.specs.declared.deltas.Numbers.{Numbers}
 use Rattle.grid_model.specs.declared.deltas.Delta.{Delta}
 use Rattle.grid_model.specs.declared.deltas.Delta.TheVariants as delta
-use Rattle.grid_model.proofs.GrownGrids.{renumbers}
 use Rattle.grid_journal.specs.Journal.{Journal, Keeps}
 use Rattle.grid_journal.specs.Store.{Commits}
 use Rattle.grid_journal.specs.declared.error.JournalError.{JournalError}
 use Rattle.grid_journal.specs.declared.error.JournalError.TheVariants as journal
-use Rattle.grid_server.specs.Answering.{Rests}
+use Rattle.grid_journal.proofs.DeltaLemmas.{then_all}
+use Rattle.tables_laws.proofs.Grids.{grid-unseen}
+use Rattle.grid_server.specs.Held.{IsMade}
+use Rattle.grid_server.specs.Keeping.{Rests}
 use Rattle.grid_server.specs.Opening.{begun, BeginEnds}
 use Rattle.grid_server.specs.Stopping.{IsOfCommit, begin_error_of}
-use Rattle.grid_server.proofs.DoneLemmas.{closes_at}
+use Rattle.grid_server.proofs.OpenedLemmas.{vault_made}
+use Rattle.grid_server.proofs.KeepingLemmas.{closes_at, made_more}
+
+abbrev next_run : Cat → Numbers
+next_run c = record { next_vault = c.numbers.next_vault; run = c.numbers.run + 1; last = 0 }
+
+applied_run : (c : Cat) → IsMade c → apply c (delta.Numbers (next_run c)) ≡ Ok (begun c)
+applied_run c m =
+    ap (λ b. where_fits b 19 (begun c))
+    (and_from (nat_lt 0 c.numbers.next_vault) (nat_le c.numbers.next_vault c.numbers.next_vault) (lt-ltb 0 c.numbers.next_vault (vault_made m.0 c m.1)) (le-leb c.numbers.next_vault c.numbers.next_vault (omega arith)))
+
+pub grid_begun : (c : Cat) → IsMade c → grid_of (begun c) ≡ grid_of c
+grid_begun c m = grid-unseen c (begun c) (delta.Numbers (next_run c)) refl (applied_run c m)
 
 -- the deltas lead to the catalogue of the next run
-pub record IsBegun (c : Cat) (deltas : List Delta) : Type 0 where
-  pub applied : apply_all c deltas ≡ Ok (begun c)
-  pub paths : HasPaths (begun c)
-
-pub grid_begun : (c : Cat) → HasPaths c → 0 < c.numbers.next_vault → grid_of (begun c) ≡ grid_of c
-grid_begun c paths some = (renumbers c (record { next_vault = c.numbers.next_vault; run = c.numbers.run + 1; last = 0 }) paths some refl).grid
-
-pub is_begun : (c : Cat) → HasPaths c → 0 < c.numbers.next_vault → (tables : Cat) → tables ≡ c → (n : Numbers) → n ≡ tables.numbers → (deltas : List Delta)
-    → deltas ≡ delta.Numbers (record { next_vault = n.next_vault; run = n.run + 1; last = 0 }) ∷ [] → IsBegun c deltas
-is_begun c paths some tables tables_are n n_is deltas deltas_are =
-    let r = renumbers c (record { next_vault = c.numbers.next_vault; run = c.numbers.run + 1; last = 0 }) paths some refl in
+pub is_begun : (c : Cat) → IsMade c → (tables : Cat) → tables ≡ c → (n : Numbers) → n ≡ tables.numbers → (deltas : List Delta)
+    → deltas ≡ delta.Numbers (record { next_vault = n.next_vault; run = n.run + 1; last = 0 }) ∷ [] → apply_all c deltas ≡ Ok (begun c)
+is_begun c m tables tables_are n n_is deltas deltas_are =
     let same : n ≡ c.numbers = n_is ∙ ap (λ (c : Cat). c.numbers) tables_are in
-    record {
-      applied = ap (apply_all c) (deltas_are ∙ ap (λ (m : Numbers). delta.Numbers (record { next_vault = m.next_vault; run = m.run + 1; last = 0 }) ∷ []) same) ∙ r.applied;
-      paths = r.paths;
-    }
+    ap (apply_all c) (deltas_are ∙ ap (λ (k : Numbers). delta.Numbers (record { next_vault = k.next_vault; run = k.run + 1; last = 0 }) ∷ []) same) ∙ ap (then_all []) (applied_run c m)
 
-pub begun_well : (old new : Journal) (deltas : List Delta) (main_old main_new : DiskState) → HasPaths old.cat → 0 < old.cat.numbers.next_vault → IsBegun old.cat deltas → Commits deltas old new
-    → (IsTrue main_old.tells → Keeps new.cat new main_new.holds) → main_new.tells ≡ main_old.tells → (IsTrue main_old.tells → IsSettled main_new) → IsCat new.cat
+pub begun_well : (old new : Journal) (deltas : List Delta) (main_old main_new : DiskState) → IsMade old.cat → apply_all old.cat deltas ≡ Ok (begun old.cat) → Commits deltas old new
+    → (IsTrue main_old.tells → Keeps new.cat new main_new.holds) → main_new.tells ≡ main_old.tells → (IsTrue main_old.tells → IsSettled main_new)
     → BeginEnds old.cat main_old main_new (Ok (record { store = new; logged_in = false }))
-begun_well old new deltas main_old main_new paths some is commits keeps tells settled in_order =
-    let both : apply_all old.cat deltas ≡ Ok (begun old.cat) = is.applied in
+begun_well old new deltas main_old main_new m is commits keeps tells settled =
+    let both : apply_all old.cat deltas ≡ Ok (begun old.cat) = is in
     let ours : apply_all old.cat deltas ≡ Ok new.cat = commits.applied in
-    let same : new.cat ≡ begun old.cat = cc in
-    let P : Cat → Type 0 = λ c. HasPaths c in
-    let N : Cat → Type 0 = λ c. 0 < c.numbers.next_vault in (
+    let same : new.cat ≡ begun old.cat = cc in (
       record {
         sound = commits.sound;
         staged = commits.staged;
         keeps = λ told. keeps (subst IsTrue tells told);
-        in_order = in_order;
-        paths = subst P (sym same) is.paths;
-        some_vault = subst N (sym same) some;
+        made = made_more old.cat new.cat deltas m commits.applied;
       },
       same,
       refl,
-      grid_begun old.cat paths some,
+      grid_begun old.cat m,
       settled,
     )
 

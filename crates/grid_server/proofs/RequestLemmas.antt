@@ -5,15 +5,19 @@ use Rattle.std.proofs.lemmas.Bool.Decides.{nat_tests}
 use Rattle.std.proofs.lemmas.List.{take_all, length-take-le}
 use Rattle.std.specs.List.{list_any}
 use Rattle.grid_model.proofs.Comparing.{other_text}
-use Rattle.std.specs.Prelude.{codes, decimal, ◌↔◌, IsTrue, Bool, zero, suc, ◌^◌, IfOk, IfSome, IfNone, Ok, Err, Result, Option, Some, None, unwrap_or}
+use Rattle.std.specs.Prelude.{◌⊎◌, nat_le, codes, decimal, ◌↔◌, IsTrue, Bool, zero, suc, ◌^◌, IfOk, IfSome, IfNone, Ok, Err, Result, Option, Some, None, unwrap_or}
 use Rattle.grid_model.specs.Names.{Text, Path, SpellsPath, same_text}
 use Rattle.grid_model.specs.Lines.{is_request}
 use Rattle.grid_model.specs.Inputs.{HasBody, a_body, no_body, PromisesBody, verbs_with_body}
-use Rattle.grid_server.specs.Requests.{Promise}
+use Rattle.grid_server.specs.Requests.{Promise, holding, asked_with, is_held, held_body}
 use Rattle.grid_model.specs.Words.{SpellsInner, nothing, plain, escaped, SpellsWord, bare, quoted, SpellsLine, line_end, space, word}
-use Rattle.grid_model.specs.Requests.{Asks, asks_for, not_built, too_long, no_words, SpellsVerb, a_login, a_mkdir}
+use Rattle.grid_model.specs.Limits.{object_size}
+use Rattle.grid_model.specs.Grid.{first_leaf}
+use Rattle.grid_model.specs.Requests.{Asks, asks_for, cut_short, not_built, too_long, no_words, SpellsVerb, a_login, a_mkdir, a_put, a_get, any_resource, kept_body, promised as promised_by}
 use Rattle.grid_model.specs.declared.requests.Verb.{Verb}
+use Rattle.grid_model.specs.declared.requests.Verb.TheVariants.{Login, MkDir, Put, Get}
 use Rattle.grid_model.specs.declared.refusal.Refusal.{Refusal}
+use Rattle.grid_model.specs.declared.refusal.Refusal.TheVariants.{Truncated}
 
 -- ---- words are no longer than their line
 
@@ -41,21 +45,77 @@ words_short (word {s = s} {t = t} e is ends more) = omega (arith, word_short is,
 pub not_long : (n : ℕ) → ¬ (4096 < n) → n ≤ 4096
 not_long n never = elim (cases_lt 4096 n) [ inl lt ↦ absurd (never lt) | inr le ↦ omega (arith, le) ]
 
-pub are_three : (words : List Text) (a b c x y z : Text) → length words ≡ 3 → x ≡ a → y ≡ b → c ≡ z → x ≡ get_or words 0 x → y ≡ get_or words 1 y → z ≡ get_or words 2 z → words ≡ a ∷ b ∷ c ∷ []
-are_three (p ∷ q ∷ r ∷ []) a b c x y z size is_a is_b is_c one two three = let first : x ≡ p = one in let second : y ≡ q = two in let third : z ≡ r = three in cc
-are_three (p ∷ q ∷ r ∷ s ∷ more) a b c x y z size is_a is_b is_c one two three = absurd (omega (arith, size))
-are_three (p ∷ q ∷ []) a b c x y z size is_a is_b is_c one two three = absurd (omega (arith, size))
-are_three (p ∷ []) a b c x y z size is_a is_b is_c one two three = absurd (omega (arith, size))
-are_three [] a b c x y z size is_a is_b is_c one two three = absurd (omega (arith, size))
+pub spells_login : (a b c user : Text) → a ≡ codes "0" → b ≡ codes "login" → user ≡ c → SpellsVerb (a ∷ b ∷ c ∷ []) [] (Login user)
+spells_login a b c user is_a is_b is_c = a_login (cc)
 
--- three words that begin otherwise than with a login, and then than with the making of a collection
-pub none_spelled : (third : Text) (words : List Text) (second : Text) (verb : Verb) → words ≡ codes "0" ∷ second ∷ third ∷ [] → second ≢ codes "login" → ((p : Path) → second ≡ codes "mkdir" → ¬ SpellsPath third p)
-    → SpellsVerb words verb → ⊥
-none_spelled third words second verb e no_login no_path (a_login f) = no_login (cc)
-none_spelled third words second verb e no_login no_path (a_mkdir {word = other} {path = p} f is) =
-    let P : Text → Type 0 = λ t. SpellsPath t p in
-    let same : other ≡ third = cc in
-    no_path p (cc) (subst P same is)
+pub spells_mkdir : (a b c : Text) (path : Path) → a ≡ codes "0" → b ≡ codes "mkdir" → SpellsPath c path → SpellsVerb (a ∷ b ∷ c ∷ []) [] (MkDir path)
+spells_mkdir a b c path is_a is_b is = a_mkdir {word = c} (cc) is
+
+pub spells_get : (a b c d resource : Text) (path : Path) → a ≡ codes "0" → b ≡ codes "get" → (d ≡ first_leaf) ⊎ (d ≡ any_resource) → resource ≡ d → SpellsPath c path → SpellsVerb (a ∷ b ∷ c ∷ d ∷ []) [] (Get path resource)
+spells_get a b c d resource path is_a is_b one same is =
+    let P : Text → Type 0 = λ t. (t ≡ first_leaf) ⊎ (t ≡ any_resource) in
+    a_get {word = c} (cc) (subst P (sym same) one) is
+
+-- all of a body, or nothing
+abbrev all_or_none : Text → Bool → Text
+all_or_none body b = elim b [ true ↦ body | false ↦ [] ]
+
+kept_nothing : (b : Bool) → all_or_none [] b ≡ []
+kept_nothing true = refl
+kept_nothing false = refl
+
+pub spells_put : (a b c d e f resource body : Text) (path : Path) (n : ℕ) → a ≡ codes "0" → b ≡ codes "put" → d ≡ first_leaf → e ≡ codes "new" → f ≡ decimal n → n < 2 ^ 64 → resource ≡ d → body ≡ [] → SpellsPath c path
+    → SpellsVerb (a ∷ b ∷ c ∷ d ∷ e ∷ f ∷ []) [] (Put path resource n body)
+spells_put a b c d e f resource body path n is_a is_b is_d is_e is_f small same empty is =
+    let leaf : first_leaf ≡ resource = sym (same ∙ is_d) in
+    let nothing : kept_body n [] ≡ body = kept_nothing (nat_le n object_size) ∙ sym empty in
+    let P : Text → Type 0 = λ t. SpellsVerb (a ∷ b ∷ c ∷ d ∷ e ∷ f ∷ []) [] (Put path t n body) in
+    let Q : Text → Type 0 = λ t. SpellsVerb (a ∷ b ∷ c ∷ d ∷ e ∷ f ∷ []) [] (Put path first_leaf n t) in
+    subst P leaf (subst Q nothing (a_put {word = c} (cc) small is))
+
+-- ---- a body behind the words
+
+pub spells_with : (words : List Text) (verb : Verb) (body : Text) → SpellsVerb words [] verb → SpellsVerb words body (holding verb body)
+spells_with words verb body (a_login e) = a_login e
+spells_with words verb body (a_mkdir e is) = a_mkdir e is
+spells_with words verb body (a_put e small is) = a_put e small is
+spells_with words verb body (a_get e one is) = a_get e one is
+
+-- words that are of no verb are of none with a body
+pub none_with : (words : List Text) (body : Text) → ((verb : Verb) → ¬ SpellsVerb words [] verb) → (verb : Verb) → ¬ SpellsVerb words body verb
+none_with words body none verb (a_login {user = user} e) = none (Login user) (a_login e)
+none_with words body none verb (a_mkdir {path = path} e is) = none (MkDir path) (a_mkdir e is)
+none_with words body none verb (a_put {path = path} {count = count} e small is) = none (Put path first_leaf count (kept_body count [])) (a_put e small is)
+none_with words body none verb (a_get {resource = resource} {path = path} e one is) = none (Get path resource) (a_get e one is)
+
+same_promise : (verb : Verb) (body : Text) → promised_by (holding verb body) ≡ promised_by verb
+same_promise (Login user) body = refl
+same_promise (MkDir path) body = refl
+same_promise (Put path resource count none) body = refl
+same_promise (Get path resource) body = refl
+
+abbrev whole_or_cut : Verb → Text → Bool → Result Verb Refusal
+whole_or_cut verb body b = elim b [ true ↦ Ok (holding verb body) | false ↦ Err (Truncated (length body) (promised_by verb)) ]
+
+pub asks_with : (line : Text) (words : List Text) (verb : Verb) → length line ≤ 4096 → SpellsLine line words → SpellsVerb words [] verb → (body : Text) → Asks line body (asked_with (Ok verb) body)
+asks_with line words verb short spells is body = by_size (nat_le (promised_by verb) (length body)) refl
+  where
+    by_size : (b : Bool) → nat_le (promised_by verb) (length body) ≡ b → Asks line body (whole_or_cut verb body b)
+    by_size true e =
+        let le : promised_by verb ≤ length body = grind (arith, nat_tests, e) in
+        asks_for short spells (spells_with words verb body is) (omega (arith, le, same_promise verb body))
+    by_size false e =
+        let lt : length body < promised_by verb = grind (arith, nat_tests, e) in
+        let P : ℕ → Type 0 = λ n. Asks line body (Err (Truncated (length body) n)) in
+        subst P (same_promise verb body) (cut_short short spells (spells_with words verb body is) (omega (arith, lt, same_promise verb body)))
+
+-- ---- what is held of a body
+
+pub held_all : (asked : Result Verb Refusal) (body : Text) → is_held asked ≡ true → held_body asked body ≡ body
+held_all asked body is = ap (all_or_none body) is
+
+pub held_none : (asked : Result Verb Refusal) (body : Text) → is_held asked ≡ false → held_body asked body ≡ []
+held_none asked body is = ap (all_or_none body) is
 
 -- ---- what is held of a line asks for the same
 
@@ -68,14 +128,15 @@ held_request held line e = elim (cases_lt 4096 (length line)) [
   | inr short ↦ ap is_request (e ∙ take_all 4097 line (omega arith))
 ]
 
-pub asks_held : (line : Text) (asked : Result Verb Refusal) → Asks (take 4097 line) asked → Asks line asked
-asks_held line asked asks = elim (cases_lt 4096 (length line)) [
+pub asks_held : (line body : Text) (asked : Result Verb Refusal) → Asks (take 4097 line) body asked → Asks line body asked
+asks_held line body asked asks = elim (cases_lt 4096 (length line)) [
   | inl long ↦ by_case asked asks long (length-take-le 4097 line (omega (arith, long)))
-  | inr short ↦ let P : Text → Type 0 = λ t. Asks t asked in subst P (take_all 4097 line (omega arith)) asks
+  | inr short ↦ let P : Text → Type 0 = λ t. Asks t body asked in subst P (take_all 4097 line (omega arith)) asks
 ]
   where
-    by_case : (a : Result Verb Refusal) → Asks (take 4097 line) a → 4096 + 1 ≤ length line → length (take 4097 line) ≡ 4097 → Asks line a
-    by_case a (asks_for le is spells) long size = absurd (omega (arith, le, size))
+    by_case : (a : Result Verb Refusal) → Asks (take 4097 line) body a → 4096 + 1 ≤ length line → length (take 4097 line) ≡ 4097 → Asks line body a
+    by_case a (asks_for le is spells all) long size = absurd (omega (arith, le, size))
+    by_case a (cut_short le is spells short) long size = absurd (omega (arith, le, size))
     by_case a (not_built le is none) long size = absurd (omega (arith, le, size))
     by_case a (too_long lt) long size = too_long (omega (arith, long))
     by_case a (no_words le is) long size = absurd (omega (arith, le, size))

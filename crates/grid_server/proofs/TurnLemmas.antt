@@ -1,5 +1,5 @@
 -- What each turn counts.
-use Rattle.std.proofs.Common.{◌≡◌, true, false, ℕ, ◌+◌, ◌^◌, ◌≤◌, ◌∷◌, length, Option, None, Some, IsTrue, Ok, Err, arith, subst, ap, sym, ◌∙◌, length-append}
+use Rattle.std.proofs.Common.{◌≡◌, Bool, true, false, ℕ, ◌+◌, ◌^◌, ◌≤◌, ◌∷◌, length, Option, None, Some, IsTrue, Ok, Err, arith, subst, ap, sym, ◌∙◌, length-append}
 use Rattle.grid_outside.specs.Disk.{DiskState}
 use Rattle.grid_outside.specs.Sink.{SinkState}
 use Rattle.grid_outside.specs.Source.{SourceState}
@@ -10,8 +10,11 @@ use Rattle.grid_server.specs.declared.server.Stop.TheVariants as stop
 use Rattle.grid_server.specs.declared.server.Server.{Server}
 use Rattle.grid_server.specs.declared.serving.Service.{Service}
 use Rattle.grid_model.specs.Names.{Text}
+use Rattle.grid_model.specs.Rows.{Cat}
 use Rattle.grid_server.specs.Held.{IsHeld}
-use Rattle.grid_server.specs.Answering.{Goes, Rests, Answers, worked, not_begun}
+use Rattle.grid_server.specs.Keeping.{Goes, Rests}
+use Rattle.grid_server.specs.Answering.{Answers, worked, not_begun, log_worn, vaults_worn}
+use Rattle.grid_server.proofs.KeepingLemmas.{goes_rest}
 use Rattle.grid_journal.specs.Journal.{Keeps}
 use Rattle.grid_server.specs.Reading.{Reader}
 use Rattle.grid_server.specs.declared.serving.Taken.TheVariants as taken
@@ -25,26 +28,15 @@ pub record Counted (old new : Service) : Type 0 where
   pub number : new.number ≤ old.number + 1
 
 -- a request with its body was got, and the input goes on
-got_one : (old new : Reader) (from to : SourceState) (held : Text) → Gets old new from to held false → (new.taken ≤ 2 ^ 48) × (old.taken + length new.unread + 1 ≤ new.taken + length old.unread)
-got_one old new from to held (with_body {mid = mid} reads tells has passes) =
+got_one : (old new : Reader) (from to : SourceState) (held body : Text) → Gets old new from to held body false → (new.taken ≤ 2 ^ 48) × (old.taken + length new.unread + 1 ≤ new.taken + length old.unread)
+got_one old new from to held body (with_body {mid = mid} reads tells has passes) =
     let ends = reads.ends in
     let over = passes.ends in
     let sizes = ap length ends.0 in
     let more = ap length over.0 in (
       omega (arith, over.4),
-      omega (arith, ends.2, over.3, sizes, more, length-append old.unread reads.got, length-append reads.line (10 ∷ mid.unread), length-append mid.unread passes.got, length-append passes.body new.unread),
+      omega (arith, ends.2, over.3, sizes, more, length-append old.unread reads.got, length-append reads.line (10 ∷ mid.unread), length-append mid.unread passes.got, length-append body new.unread),
     )
-
--- what rests goes nowhere
-pub goes_rest : (from : ℕ) (old new : DiskState) → Rests old new → Goes from old new
-goes_rest from old new rests = record { faults = rests.faults; tells = rests.tells; earlier = λ t image le left. rests.left t image left }
-
-pub goes_more : (from to : ℕ) (old mid new : DiskState) → from ≤ to → Goes from old mid → Goes to mid new → Goes from old new
-goes_more from to old mid new le first then = record {
-  faults = omega (arith, first.faults, then.faults);
-  tells = then.tells ∙ first.tells;
-  earlier = λ t image before left. first.earlier t image before (then.earlier t image (omega (arith, before, le)) left);
-}
 
 -- what rests holds what it held
 pub held_rests : (old new : DiskState) (s : Server) → Rests old new → IsHeld old s → IsHeld new s
@@ -54,16 +46,14 @@ held_rests old new s rests held =
       sound = held.sound;
       staged = held.staged;
       keeps = λ told. (let was : IsTrue old.tells = subst IsTrue rests.tells told in subst P (sym (rests.stays was)) (held.keeps was));
-      in_order = held.in_order;
-      paths = held.paths;
-      some_vault = held.some_vault;
+      made = held.made;
     }
 
-module _ (old new : Service) (since : ℕ) (main_old main_new : DiskState) (from to : SourceState) (sink_old sink_new : SinkState) where
-  pub counted : (o : Option Status) → Turns old new since main_old main_new from to sink_old sink_new o → o ≡ None → Counted old new
+module _ (rose : ℕ → Bool) (old new : Service) (since : ℕ) (main_old main_new : DiskState) (from to : SourceState) (sink_old sink_new : SinkState) where
+  pub counted : (o : Option Status) → Turns rose old new since main_old main_new from to sink_old sink_new o → o ≡ None → Counted old new
   counted o (answered asked true finds handles) e = absurd (cc)
   counted o (answered asked false finds handles) e =
-      let got = got_one old.reader new.reader from to finds.0 finds.1 in
+      let got = got_one old.reader new.reader from to finds.0 finds.1 finds.2 in
       record {
         most = got.0;
         ahead = got.1;
@@ -88,9 +78,9 @@ module _ (old new : Service) (since : ℕ) (main_old main_new : DiskState) (from
   stop_serves stop.Disk = tt
   stop_serves stop.Sink = tt
   stop_serves stop.Memory = tt
-  stop_serves (stop.Worn place) = tt
+  stop_serves (stop.Worn what place) = tt
 
-  pub serving_so : (o : Option Status) → Turns old new since main_old main_new from to sink_old sink_new o → (s : Status) → o ≡ Some s → IsServing s
+  pub serving_so : (o : Option Status) → Turns rose old new since main_old main_new from to sink_old sink_new o → (s : Status) → o ≡ Some s → IsServing s
   serving_so o (answered asked true finds handles) s e = let same : status.Done ≡ s = cc in subst (λ (t : Status). IsServing t) same tt
   serving_so o (answered asked false finds handles) s e = absurd (cc)
   serving_so o (stopped asked over stop finds handles) s e = let same : status_of stop ≡ s = cc in subst (λ (t : Status). IsServing t) same (stop_serves stop)
@@ -101,24 +91,40 @@ module _ (old new : Service) (since : ℕ) (main_old main_new : DiskState) (from
   serving_so o (idle taken.Fault finds is idles) s e = let same : status.SourceFault ≡ s = cc in subst (λ (t : Status). IsServing t) same tt
   serving_so o (idle taken.Memory finds is idles) s e = let same : status.Memory ≡ s = cc in subst (λ (t : Status). IsServing t) same tt
 
-  goes_answers : (n : ℕ) (r : _) (asked : _) → Answers old.server asked n since main_old main_new sink_old sink_new r new.server → Goes since main_old main_new × Goes since sink_old sink_new
+  goes_answers : (n : ℕ) (r : _) (asked : _) → Answers rose old.server asked n since main_old main_new sink_old sink_new r new.server → Goes since main_old main_new × Goes since sink_old sink_new
   goes_answers n r asked (worked w) = (w.main, w.sink)
-  goes_answers n r asked (not_begun e main sink) = (goes_rest since main_old main_new main, goes_rest since sink_old sink_new sink)
+  goes_answers n r asked (not_begun e main sink) = (main.main, goes_rest since sink_old sink_new sink)
+  goes_answers n r asked (log_worn place d e comes changed far closes main sink) = (main.main, goes_rest since sink_old sink_new sink)
+  goes_answers n r asked (vaults_worn e puts far main sink) = (goes_rest since main_old main_new main, goes_rest since sink_old sink_new sink)
 
   -- what a stop before the turn may leave is as before
-  pub turn_goes : (o : Option Status) → Turns old new since main_old main_new from to sink_old sink_new o → Goes since main_old main_new × Goes since sink_old sink_new
+  pub turn_goes : (o : Option Status) → Turns rose old new since main_old main_new from to sink_old sink_new o → Goes since main_old main_new × Goes since sink_old sink_new
   turn_goes o (answered asked over finds handles) = goes_answers (old.number + 1) (Ok tt) asked handles.answers
   turn_goes o (stopped asked over stop finds handles) = goes_answers (old.number + 1) (Err stop) asked handles.answers
   turn_goes o (idle taken finds is idles) = (goes_rest since main_old main_new idles.main, goes_rest since sink_old sink_new idles.sink)
 
   -- the rows are those of main again
-  pub turn_holds : (o : Option Status) → Turns old new since main_old main_new from to sink_old sink_new o → o ≡ None → IsHeld main_old old.server → IsHeld main_new new.server
+  pub turn_holds : (o : Option Status) → Turns rose old new since main_old main_new from to sink_old sink_new o → o ≡ None → IsHeld main_old old.server → IsHeld main_new new.server
   turn_holds o (answered asked over finds handles) e held = by_answers handles.answers
     where
-      by_answers : Answers old.server asked (old.number + 1) since main_old main_new sink_old sink_new (Ok tt) new.server → IsHeld main_new new.server
+      by_answers : Answers rose old.server asked (old.number + 1) since main_old main_new sink_old sink_new (Ok tt) new.server → IsHeld main_new new.server
       by_answers (worked w) = w.ends.0.held
       by_answers (not_begun is main sink) = absurd (cc)
+      by_answers (log_worn place d is comes changed far closes main sink) = absurd (cc)
+      by_answers (vaults_worn is puts far main sink) = absurd (cc)
   turn_holds o (stopped asked over stop finds handles) e held = absurd (cc)
   turn_holds o (idle taken finds is idles) e held =
       let P : Server → Type 0 = λ s. IsHeld main_new s in
       subst P (sym idles.server) (held_rests main_old main_new old.server idles.main held)
+
+  -- and the catalogue is of as many stores
+  pub turn_stores : (o : Option Status) → Turns rose old new since main_old main_new from to sink_old sink_new o → o ≡ None → new.server.store.cat.stores ≡ old.server.store.cat.stores
+  turn_stores o (answered asked over finds handles) e = by_answers handles.answers
+    where
+      by_answers : Answers rose old.server asked (old.number + 1) since main_old main_new sink_old sink_new (Ok tt) new.server → new.server.store.cat.stores ≡ old.server.store.cat.stores
+      by_answers (worked w) = ap (λ (c : Cat). c.stores) w.ends.0.cat ∙ w.follows.stores
+      by_answers (not_begun is main sink) = absurd (cc)
+      by_answers (log_worn place d is comes changed far closes main sink) = absurd (cc)
+      by_answers (vaults_worn is puts far main sink) = absurd (cc)
+  turn_stores o (stopped asked over stop finds handles) e = absurd (cc)
+  turn_stores o (idle taken finds is idles) e = ap (λ (s : Server). s.store.cat.stores) idles.server

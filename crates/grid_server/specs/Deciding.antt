@@ -1,25 +1,36 @@
--- What the parts of a decision are.
-use Rattle.std.specs.Prelude.{◌≡◌, ◌≢◌, ℕ, Bool, false, not, [], ◌∷◌, ◌++◌, None, Some, IsTrue, Result, Ok, Err, ⊤}
-use Rattle.grid_model.specs.Names.{Path, is_name}
-use Rattle.grid_model.specs.Rows.{Cat, user, has_collection}
-use Rattle.grid_model.specs.Applying.{is_group_kind}
+-- What a request is found to come to.
+use Rattle.std.specs.Prelude.{◌≡◌, ◌≢◌, ◌≤◌, ◌<◌, ℕ, Bool, true, false, not, ◌&&◌, [], ◌∷◌, ◌++◌, find, option_map, Option, None, Some, IsTrue, Result, Ok}
+use Rattle.grid_model.specs.Names.{Text, Path, is_name, parent, same_text}
+use Rattle.grid_model.specs.Rows.{Cat, user, resource, has_collection, has_object}
+use Rattle.grid_model.specs.Applying.{is_group_kind, is_storage, is_replica}
 use Rattle.grid_model.specs.RowPaths.{collection_at, object_at}
-use Rattle.grid_model.specs.Gridding.{grid_of, IsNewAt}
-use Rattle.grid_model.specs.Commands.{State, make, made, refused}
+use Rattle.grid_model.specs.RowGrids.{grid_of}
+use Rattle.grid_model.specs.NewRows.{IsFreeAt, IsNewAt}
+use Rattle.grid_model.specs.Grid.{Object}
+use Rattle.grid_model.specs.Commands.{State, Act, does, writes, reads, act, make, made, put_at, refused, log_in}
 use Rattle.grid_model.specs.declared.deltas.CollectionRow.{CollectionRow}
+use Rattle.grid_model.specs.declared.plans.OldFile.{OldFile}
+use Rattle.grid_model.specs.declared.requests.Verb.{Verb}
+use Rattle.grid_model.specs.declared.requests.Verb.TheVariants.{Get}
 use Rattle.grid_model.specs.declared.refusal.Refusal.{Refusal}
+use Rattle.grid_server.specs.declared.server.Server.{Server}
 use Rattle.grid_server.specs.declared.decision.Decision.{Decision}
 use Rattle.grid_server.specs.declared.decision.Decision.TheVariants as decision
+use Rattle.grid_server.specs.declared.decision.Plain.{Plain}
+use Rattle.grid_server.specs.declared.decision.Plain.TheVariants as plain
+use Rattle.grid_server.specs.declared.decision.Storing.{Storing}
+use Rattle.grid_server.specs.Held.{state_of}
+use Rattle.grid_server.specs.Answering.{AsksToPut, last_vault}
+
+-- ---- parts
 
 -- a user with this id, who is no group
 abbrev pub is_user_id : Cat → ℕ → Bool
 is_user_id c id = elim (user c id) [ None ↦ false | Some r ↦ not (is_group_kind r.kind) ]
 
--- what the making of a collection comes to, in any state over this catalogue
-abbrev pub DecidesMaking : Cat → Path → Decision → Type 0
-DecidesMaking c p (decision.Refuse refusal) = (s : State) → s.grid ≡ grid_of c → make s p ≡ refused s refusal
-DecidesMaking c p decision.LogIn = ⊥
-DecidesMaking c p (decision.Make row) = ((s : State) → s.grid ≡ grid_of c → make s p ≡ made s p) × IsNewAt c row p
+-- the slot of the resource with this id, which keeps files and is up
+abbrev pub slot_of : Cat → ℕ → Option ℕ
+slot_of c id = elim (resource c id) [ None ↦ None | Some r ↦ elim (is_storage r.kind && r.up) [ true ↦ Some r.slot | false ↦ None ] ]
 
 -- nothing has the path
 pub record IsFree (c : Cat) (p : Path) : Type 0 where
@@ -36,8 +47,71 @@ pub record IsRowFor (c : Cat) (parent : ℕ) (p : Path) (r : CollectionRow) : Ty
   pub fresh : has_collection c r.id ≡ false
   pub plain : r.inherit ≡ false
 
--- its answer
-abbrev pub answer_of : Decision → Result ⊤ Refusal
-answer_of (decision.Refuse refusal) = Err refusal
-answer_of decision.LogIn = Ok tt
-answer_of (decision.Make row) = Ok tt
+-- the path lies in this collection
+pub record HasParentAt (c : Cat) (collection : ℕ) (p : Path) : Type 0 where
+  pub above : Path
+  pub parent_is : parent p ≡ Some above
+  pub there : collection_at c above ≡ Some collection
+
+-- the name is that of this resource
+abbrev pub NamesResource : Cat → Text → ℕ → Type 0
+NamesResource c name id = Some id ≡ option_map (λ r. r.id) (find (λ r. same_text r.name name) c.resources)
+
+-- an object with the last name of the path and an id that is not taken, in this collection, with this body on this leaf
+pub record IsStoringFor (c : Cat) (collection : ℕ) (p : Path) (leaf slot : ℕ) (body : Text) (s : Storing) : Type 0 where
+  pub above : Path
+  pub path_is : p ≡ above ++ s.name ∷ []
+  pub named : IsTrue (is_name s.name)
+  pub collection_is : s.collection ≡ collection
+  pub fresh : has_object c s.object ≡ false
+  pub leaf_is : s.leaf ≡ leaf
+  pub slot_is : s.slot ≡ slot
+  pub body_is : s.body ≡ body
+
+-- A new object at this path with this body, whose file goes to the open leaf of this name.
+pub record IsStoring (c : Cat) (p : Path) (leaf : Text) (body : Text) (s : Storing) : Type 0 where
+  pub fresh : has_object c s.object ≡ false
+  pub free : IsFreeAt c s.collection s.name p
+  pub leaf_named : option_map (λ r. r.name) (resource c s.leaf) ≡ Some leaf
+  pub leaf_open : slot_of c s.leaf ≡ Some s.slot
+  pub body_is : s.body ≡ body
+  pub vault : c.numbers.next_vault ≤ last_vault
+
+-- ---- decisions
+
+-- what the making of a collection comes to, in any state over this catalogue
+abbrev pub DecidesMaking : Cat → Path → Plain → Type 0
+DecidesMaking c p (plain.Refuse refusal) = (s : State) → s.grid ≡ grid_of c → make s p ≡ refused s refusal
+DecidesMaking c p plain.LogIn = ⊥
+DecidesMaking c p (plain.Make row) = ((s : State) → s.grid ≡ grid_of c → make s p ≡ made s p) × IsNewAt c row p
+
+-- what the putting of a body comes to
+abbrev pub DecidesPutting : Cat → Path → Text → Text → Decision → Type 0
+DecidesPutting c p name body (decision.Plain (plain.Refuse refusal)) = (s : State) → s.grid ≡ grid_of c → put_at s p name body ≡ does (refused s refusal)
+DecidesPutting c p name body (decision.Plain other) = ⊥
+DecidesPutting c p name body (decision.Store storing) = ((s : State) → s.grid ≡ grid_of c → put_at s p name body ≡ writes p name storing.slot body) × IsStoring c p name body storing
+DecidesPutting c p name body (decision.Send file) = ⊥
+DecidesPutting c p name body (decision.Worn place) = (place ≡ c.numbers.next_vault) × (last_vault < c.numbers.next_vault)
+
+-- what is done without a store
+abbrev pub DecidesPlain : Server → Act → Plain → Type 0
+DecidesPlain s a (plain.Refuse refusal) = a ≡ does (refused (state_of s) refusal)
+DecidesPlain s a plain.LogIn = a ≡ does (log_in (state_of s))
+DecidesPlain s a (plain.Make row) = (p : Path) × (a ≡ does (made (state_of s) p)) × IsNewAt s.store.cat row p
+
+-- The file is that of the replica of this number of the object at this path, of which the object's size and digest are
+-- recorded.
+pub record IsSending (c : Cat) (p : Path) (o : Object) (file : OldFile) : Type 0 where
+  pub id : ℕ
+  pub at : object_at c p ≡ Some id
+  pub name_is : option_map (λ r. r.vault) (find (λ r. is_replica id file.number r) c.replicas) ≡ Some file.name
+  pub size : file.size ≡ o.size
+  pub digest : file.digest ≡ o.digest
+  pub slot : file.slot < c.stores
+
+-- what a request comes to
+abbrev pub Decides : Server → Result Verb Refusal → Decision → Type 0
+Decides s asked (decision.Plain p) = DecidesPlain s (act (state_of s) asked) p
+Decides s asked (decision.Store storing) = (p : Path) × (leaf : Text) × (body : Text) × (act (state_of s) asked ≡ writes p leaf storing.slot body) × IsStoring s.store.cat p leaf body storing
+Decides s asked (decision.Send file) = (p : Path) × (name : Text) × (o : Object) × (asked ≡ Ok (Get p name)) × (act (state_of s) asked ≡ reads o file.number file.slot) × IsSending s.store.cat p o file
+Decides s asked (decision.Worn place) = AsksToPut (state_of s) asked × (place ≡ s.store.cat.numbers.next_vault) × (last_vault < s.store.cat.numbers.next_vault)

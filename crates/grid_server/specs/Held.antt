@@ -1,10 +1,13 @@
 -- What the server holds in memory, and what main has beside it.
-use Rattle.std.specs.Prelude.{◌≡◌, ◌<◌, [], IsTrue, Ok}
+use Rattle.std.specs.Prelude.{◌≡◌, ℕ, ◌+◌, List, [], length, IsTrue, Ok}
 use Rattle.grid_outside.specs.Disk.{DiskState}
+use Rattle.frame_log.specs.Log.{IsLog, frames}
 use Rattle.grid_model.specs.Names.{Text}
-use Rattle.grid_model.specs.Rows.{Cat, IsCat}
-use Rattle.grid_model.specs.Gridding.{grid_of, HasPaths}
+use Rattle.grid_model.specs.Rows.{Cat, empty_cat}
+use Rattle.grid_model.specs.RowGrids.{grid_of}
+use Rattle.grid_model.specs.Applying.{apply_all}
 use Rattle.grid_model.specs.Commands.{State}
+use Rattle.grid_model.specs.declared.deltas.Delta.{Delta}
 use Rattle.grid_journal.specs.Journal.{Keeps}
 use Rattle.grid_journal.specs.Stands.{Stands}
 use Rattle.grid_server.specs.declared.server.Server.{Server}
@@ -16,12 +19,28 @@ state_of s = record { grid = grid_of s.store.cat; logged_in = s.logged_in }
 abbrev pub StandsFor : Text → Cat → Type 0
 StandsFor main c = (spare : Text) → Stands main spare (Ok c)
 
--- The rows in memory are those that main has, with nothing staged. Each collection has a path, and a vault number is
--- still to be drawn.
+-- the log on main closes at this place
+pub record ClosesAt (main : Text) (place : ℕ) : Type 0 where
+  pub records : List (List ℕ)
+  pub log : IsLog 16 records main
+  pub place_is : place ≡ 16 + length (frames records)
+
+-- changes make the catalogue of the one without rows
+abbrev pub IsMade : Cat → Type 0
+IsMade c = (deltas : List Delta) × (apply_all empty_cat deltas ≡ Ok c)
+
+-- The catalogue differs from the one before in nothing but orphans and the next vault number: it stands for the same grid
+-- after the same commands.
+pub record IsLike (before c : Cat) : Type 0 where
+  pub grid : grid_of c ≡ grid_of before
+  pub stores : c.stores ≡ before.stores
+  pub run : c.numbers.run ≡ before.numbers.run
+  pub last : c.numbers.last ≡ before.numbers.last
+  pub pending : c.pending ≡ before.pending
+
+-- The rows in memory are those that main has, which changes made, with nothing staged.
 pub record IsHeld (main : DiskState) (s : Server) : Type 0 where
   pub sound : IsTrue s.store.sound
   pub staged : s.store.staged ≡ []
   pub keeps : IsTrue main.tells → Keeps s.store.cat s.store main.holds
-  pub in_order : IsCat s.store.cat
-  pub paths : HasPaths s.store.cat
-  pub some_vault : 0 < s.store.cat.numbers.next_vault
+  pub made : IsMade s.store.cat

@@ -3,14 +3,13 @@ use Rattle.std.specs.Prelude.{◌≡◌, ℕ, ◌+◌, ◌-◌, ◌^◌, ◌<◌
 use Rattle.grid_outside.specs.Device.{IsSettled, Leaves}
 use Rattle.grid_outside.specs.Disk.{DiskState}
 use Rattle.grid_model.specs.Rows.{Cat}
-use Rattle.grid_model.specs.Gridding.{grid_of}
+use Rattle.grid_model.specs.RowGrids.{grid_of}
 use Rattle.grid_journal.specs.Stands.{StandsEither}
 use Rattle.grid_server.specs.declared.server.Server.{Server}
 use Rattle.grid_server.specs.declared.opening.BeginError.{BeginError}
 use Rattle.grid_server.specs.declared.opening.BeginError.TheVariants as opening
-use Rattle.grid_server.specs.Held.{IsHeld}
-use Rattle.grid_server.specs.Answering.{Goes, Rests}
-use Rattle.grid_server.specs.Serving.{ClosesAt}
+use Rattle.grid_server.specs.Held.{IsHeld, ClosesAt}
+use Rattle.grid_server.specs.Keeping.{Goes, Rests}
 
 -- the catalogue of the next run, of which no command has changed anything
 abbrev pub begun : Cat → Cat

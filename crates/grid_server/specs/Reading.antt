@@ -67,13 +67,12 @@ pub record ReadsPart (old : Reader) (from to : SourceState) : Type 0 where
 -- how the passing over of so many bytes ended, by those that were passed over and those that were got of the source for it
 abbrev pub PassEnds : Reader → ℕ → Passed → Reader → SourceState → SourceState → List ℕ → List ℕ → Type 0
 PassEnds old count passed.Whole new from to got body = (old.unread ++ got ≡ body ++ new.unread) × (length body ≡ count) × Took got from to × (new.taken ≡ old.taken + length got) × (new.taken ≤ 2 ^ 48)
-PassEnds old count passed.Short new from to got body = (old.unread ++ got ≡ body) × (length body < count) × (new.unread ≡ []) × TookAll got from to × (new.taken ≡ old.taken + length got) × (new.taken ≤ 2 ^ 48)
+PassEnds old count (passed.Short have) new from to got body = (old.unread ++ got ≡ body) × (length body < count) × (new.unread ≡ []) × TookAll got from to × (new.taken ≡ old.taken + length got) × (new.taken ≤ 2 ^ 48) × (have ≡ length body)
 PassEnds old count passed.Long new from to got body = (old.unread ++ got ≡ body) × (length body < count) × (new.unread ≡ []) × ((byte : ℕ) × Took (got ++ byte ∷ []) from to) × (old.taken + length got ≡ 2 ^ 48)
 
--- bytes were passed over
-pub record Passes (old : Reader) (count : ℕ) (how : Passed) (new : Reader) (from to : SourceState) : Type 0 where
+-- these bytes were passed over
+pub record Passes (old : Reader) (count : ℕ) (how : Passed) (new : Reader) (from to : SourceState) (body : List ℕ) : Type 0 where
   pub got : List ℕ
-  pub body : List ℕ
   pub ends : PassEnds old count how new from to got body
 
 -- fewer bytes than were to be passed over were got

@@ -8,7 +8,7 @@ use Rattle.grid_model.specs.declared.grid.Side.{Side}
 use Rattle.grid_journal.specs.Store.{IsNotEmpty}
 use Rattle.grid_server.specs.declared.status.Status.{Status}
 use Rattle.grid_server.specs.declared.status.Status.TheVariants as status
-use Rattle.grid_server.specs.Answering.{Adds, Stays}
+use Rattle.grid_server.specs.Keeping.{Adds, Stays}
 use Rattle.grid_server.specs.Starting.{Started, ok_line, not_empty_line, not_a_catalogue_line, stores_line}
 
 -- the sink got this line, or a first part of it and failed

@@ -1,23 +1,25 @@
 -- What a run of `serve` did over a catalogue, and what it left.
-use Rattle.std.specs.Prelude.{◌≡◌, ◌≢◌, ◌⊎◌, ℕ, ◌+◌, ◌-◌, ◌^◌, ◌<◌, ◌≤◌, max, true, false, List, [], ◌∷◌, ◌++◌, length, take, slice_get, Some, IsTrue}
+use Rattle.std.specs.Prelude.{◌≡◌, ◌≢◌, ◌⊎◌, ℕ, ◌+◌, ◌-◌, ◌^◌, ◌<◌, ◌≤◌, max, Bool, true, false, List, [], ◌∷◌, ◌++◌, length, take, slice_get, Some, Result, IsTrue}
 use Rattle.grid_outside.specs.Device.{IsSettled}
 use Rattle.grid_outside.specs.Disk.{DiskState}
 use Rattle.grid_outside.specs.Sink.{SinkState}
 use Rattle.grid_outside.specs.Source.{SourceState}
 use Rattle.grid_outside.specs.declared.outside.Wear.{Wear}
 use Rattle.grid_outside.specs.declared.outside.Wear.TheVariants as wear
-use Rattle.frame_log.specs.Log.{IsLog, frames}
 use Rattle.grid_model.specs.Names.{Text}
 use Rattle.grid_model.specs.Grid.{Grid}
 use Rattle.grid_model.specs.Rows.{Cat}
-use Rattle.grid_model.specs.Gridding.{grid_of}
+use Rattle.grid_model.specs.RowGrids.{grid_of}
 use Rattle.grid_model.specs.Inputs.{Asked, Takes, AreRequests, IsPart}
+use Rattle.grid_model.specs.Requests.{Asks}
 use Rattle.grid_model.specs.Commands.{State, Done, After, state_after}
+use Rattle.grid_model.specs.declared.requests.Verb.{Verb}
+use Rattle.grid_model.specs.declared.refusal.Refusal.{Refusal}
 use Rattle.grid_model.specs.Replies.{reply, replies}
 use Rattle.grid_server.specs.declared.status.Status.{Status}
 use Rattle.grid_server.specs.declared.status.Status.TheVariants as status
-use Rattle.grid_server.specs.Held.{StandsFor}
-use Rattle.grid_server.specs.Answering.{Did}
+use Rattle.grid_server.specs.Held.{StandsFor, ClosesAt}
+use Rattle.grid_server.specs.Answering.{AllCaused, AsksToPut, Did, last_vault}
 
 -- nobody is logged in
 abbrev pub begins : Grid → State
@@ -82,15 +84,9 @@ pub record IsKept (main : Text) (g : Grid) : Type 0 where
   pub stands : StandsFor main cat
   pub grid : grid_of cat ≡ g
 
--- all replies were added
-abbrev pub ShowsAll : List Done → SinkState → SinkState → Type 0
-ShowsAll done old new = IsTrue old.tells → new.holds ≡ old.holds ++ replies 1 done
-
--- the log on main closes at this place
-pub record ClosesAt (main : Text) (place : ℕ) : Type 0 where
-  pub records : List (List ℕ)
-  pub log : IsLog 16 records main
-  pub place_is : place ≡ 16 + length (frames records)
+-- all replies were added, and each fault that they tell has its cause
+abbrev pub ShowsAll : (ℕ → Bool) → List Done → SinkState → SinkState → Type 0
+ShowsAll rose done old new = (IsTrue old.tells → new.holds ≡ old.holds ++ replies 1 done) × AllCaused rose done
 
 -- all of the input was read
 pub record ReadAll (asked : List Asked) (from to : SourceState) : Type 0 where
@@ -120,40 +116,55 @@ pub record NextChanges (input : Text) (asked : List Asked) (end : State) : Type 
   pub request : Asked
   pub begins : Begins input (asked ++ request ∷ [])
   pub next : Done
-  pub did : Did end request.line next
+  pub did : Did end request.line request.body next
   pub changes : next.changed ≡ true
 
--- what has run out: the numbers of runs, before anything was done, or the room behind the log, which either the
--- beginning of the run or the next request needs
+-- the next request puts a body
+pub record NextPuts (input : Text) (asked : List Asked) (end : State) : Type 0 where
+  pub request : Asked
+  pub begins : Begins input (asked ++ request ∷ [])
+  pub what : Result Verb Refusal
+  pub asks : Asks request.line request.body what
+  pub puts : AsksToPut end what
+
+-- main stands for a catalogue whose next vault file has this number
+pub record HasNextVault (main : Text) (number : ℕ) : Type 0 where
+  pub cat : Cat
+  pub stands : StandsFor main cat
+  pub next : cat.numbers.next_vault ≡ number
+
+-- what has run out: the numbers of runs, before anything was done; the numbers of vault files, of which the next request
+-- needs one; or the room behind the log, which either the beginning of the run or the next request needs
 abbrev pub WearsOut : Cat → Text → List Asked → State → DiskState → ℕ → Wear → Type 0
 WearsOut found input asked end main place wear.Runs = (asked ≡ []) × (place ≡ found.numbers.run) × (place ≡ 2 ^ 64 - 1)
-WearsOut found input asked end main place wear.Vaults = ⊥
+WearsOut found input asked end main place wear.Vaults = (last_vault < place) × HasNextVault main.holds place × NextPuts input asked end
 WearsOut found input asked end main place wear.Log = (2 ^ 62 < place) × ClosesAt main.holds place × ((asked ≡ []) ⊎ NextChanges input asked end)
 
 -- what each status says
-abbrev pub Ends : Cat → List Asked → List Done → State → DiskState → SourceState → SourceState → SinkState → SinkState → Status → Type 0
-Ends found asked done end main from to sink_old sink_new status.Done = ReadAll asked from to × ShowsAll done sink_old sink_new × IsKept main.holds end.grid
-Ends found asked done end main from to sink_old sink_new status.SourceFault = ReadPart asked from to × ShowsAll done sink_old sink_new × IsKept main.holds end.grid
-Ends found asked done end main from to sink_old sink_new (status.Long taken) = (taken ≡ 2 ^ 48 + 1) × ReadMost asked from to × ShowsAll done sink_old sink_new × IsKept main.holds end.grid
-Ends found asked done end main from to sink_old sink_new status.Memory = ShowsAll done sink_old sink_new × IsKept main.holds end.grid
-Ends found asked done end main from to sink_old sink_new (status.Worn what place) = WearsOut found from.left asked end main place what × ShowsAll done sink_old sink_new × IsKept main.holds end.grid
-Ends found asked done end main from to sink_old sink_new status.DiskFault = Unit {0}
-Ends found asked done end main from to sink_old sink_new status.SinkFault = IsKept main.holds end.grid
-Ends found asked done end main from to sink_old sink_new status.Usage = ⊥
-Ends found asked done end main from to sink_old sink_new (status.NotACatalogue side place) = ⊥
-Ends found asked done end main from to sink_old sink_new (status.NotEmpty side len) = ⊥
-Ends found asked done end main from to sink_old sink_new (status.Stores had given) = ⊥
+abbrev pub Ends : (ℕ → Bool) → Cat → List Asked → List Done → State → DiskState → SourceState → SourceState → SinkState → SinkState → Status → Type 0
+Ends rose found asked done end main from to sink_old sink_new status.Done = ReadAll asked from to × ShowsAll rose done sink_old sink_new × IsKept main.holds end.grid
+Ends rose found asked done end main from to sink_old sink_new status.SourceFault = ReadPart asked from to × ShowsAll rose done sink_old sink_new × IsKept main.holds end.grid
+Ends rose found asked done end main from to sink_old sink_new (status.Long taken) = (taken ≡ 2 ^ 48 + 1) × ReadMost asked from to × ShowsAll rose done sink_old sink_new × IsKept main.holds end.grid
+Ends rose found asked done end main from to sink_old sink_new status.Memory = IsKept main.holds end.grid
+Ends rose found asked done end main from to sink_old sink_new (status.Worn what place) = WearsOut found from.left asked end main place what × ShowsAll rose done sink_old sink_new × IsKept main.holds end.grid
+Ends rose found asked done end main from to sink_old sink_new status.DiskFault = Unit {0}
+Ends rose found asked done end main from to sink_old sink_new status.SinkFault = IsKept main.holds end.grid
+Ends rose found asked done end main from to sink_old sink_new status.Usage = ⊥
+Ends rose found asked done end main from to sink_old sink_new (status.NotACatalogue side place) = ⊥
+Ends rose found asked done end main from to sink_old sink_new (status.NotEmpty side len) = ⊥
+Ends rose found asked done end main from to sink_old sink_new (status.Stores had given) = ⊥
 
 -- A run over this catalogue, from so many moments on: the requests that were begun, what each did, what is shown of
 -- their replies, of which at most the last one is not shown whole, and what a stop at any moment leaves.
-pub record Serves (found : Cat) (since : ℕ) (main_old main_new : DiskState) (from to : SourceState) (sink_old sink_new : SinkState) (s : Status) : Type 0 where
+pub record Serves (rose : ℕ → Bool) (found : Cat) (since : ℕ) (main_old main_new : DiskState) (from to : SourceState) (sink_old sink_new : SinkState) (s : Status) : Type 0 where
   pub asked : List Asked
   pub first : Begins from.left asked
   pub done : List Done
   pub end : State
   pub after : After (begins (grid_of found)) asked done end
   pub shown : IsTrue sink_old.tells → AllButOne done sink_old.holds sink_new.holds
-  pub ends : Ends found asked done end main_new from to sink_old sink_new s
+  pub caused : AllCaused rose (take (length done - 1) done)
+  pub ends : Ends rose found asked done end main_new from to sink_old sink_new s
   pub images : IsTrue sink_old.tells → IsSettled main_old → IsSettled sink_old → (t : ℕ) (main sink : Text) → since < t → main_new.left t main → sink_new.left t sink
       → OneImage found done sink_old.holds main sink
 

@@ -4,7 +4,7 @@ use Rattle.grid_outside.specs.Device.{IsSettled}
 use Rattle.grid_outside.specs.Disk.{DiskState}
 use Rattle.grid_model.specs.Names.{Text}
 use Rattle.grid_model.specs.Grid as model
-use Rattle.grid_model.specs.Gridding.{grid_of}
+use Rattle.grid_model.specs.RowGrids.{grid_of}
 use Rattle.grid_model.specs.declared.grid.Side.{Side}
 use Rattle.grid_model.specs.declared.grid.Side.TheVariants.{Main, Spare}
 use Rattle.grid_journal.specs.Start.{start}
@@ -42,5 +42,5 @@ pub record Started (zone admin : Text) (stores : ℕ) (main_old main_new spare :
   pub main_empty : IsTrue main_old.tells → main_old.holds ≡ []
   pub spare_empty : IsTrue spare.tells → spare.holds ≡ []
   pub stands : IsTrue main_old.tells → StandsFor main_new.holds (start zone admin stores)
-  pub grid : grid_of (start zone admin stores) ≡ model.start zone admin
+  pub grid : grid_of (start zone admin stores) ≡ model.start zone admin stores
   pub settled : IsTrue main_old.tells → IsSettled main_new

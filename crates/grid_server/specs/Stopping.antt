@@ -15,7 +15,7 @@ IsOfCommit other = Unit {0}
 abbrev pub stop_of : JournalError → Stop
 stop_of journal.Memory = Memory
 stop_of journal.DiskFault = Disk
-stop_of (journal.Worn what place) = Worn place
+stop_of (journal.Worn what place) = Worn what place
 stop_of (journal.NotEmpty side len) = Memory
 stop_of (journal.NotACatalogue side place) = Memory
 

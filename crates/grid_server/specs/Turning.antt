@@ -1,9 +1,8 @@
 -- What one turn of the serving loop does.
-use Rattle.std.specs.Prelude.{◌≡◌, ◌⊎◌, ℕ, ◌+◌, ◌^◌, true, false, Bool, Option, Some, None, Result, Ok, Err, ⊤}
+use Rattle.std.specs.Prelude.{◌≡◌, ◌⊎◌, ℕ, ◌+◌, ◌^◌, true, false, Bool, [], length, Option, Some, None, Result, Ok, Err, ⊤}
 use Rattle.grid_outside.specs.Disk.{DiskState}
 use Rattle.grid_outside.specs.Sink.{SinkState}
 use Rattle.grid_outside.specs.Source.{SourceState}
-use Rattle.grid_outside.specs.declared.outside.Wear.TheVariants.{Log}
 use Rattle.grid_model.specs.Names.{Text}
 use Rattle.grid_model.specs.Lines.{is_request}
 use Rattle.grid_model.specs.Inputs.{HasBody}
@@ -21,19 +20,23 @@ use Rattle.grid_server.specs.declared.line_reader.Ended.TheVariants as ended
 use Rattle.grid_server.specs.declared.line_reader.Passed.{Passed}
 use Rattle.grid_server.specs.declared.line_reader.Passed.TheVariants as passed
 use Rattle.grid_server.specs.Reading.{Reader, ReadsLine, ReadsPart, Passes, PassesPart}
-use Rattle.grid_server.specs.Answering.{Answers, Rests}
+use Rattle.grid_server.specs.Keeping.{Rests}
+use Rattle.grid_server.specs.Answering.{Answers}
 
 abbrev pub status_of : Stop → Status
 status_of stop.Disk = status.DiskFault
 status_of stop.Sink = status.SinkFault
 status_of stop.Memory = status.Memory
-status_of (stop.Worn place) = status.Worn Log place
+status_of (stop.Worn what place) = status.Worn what place
 
--- A request was read, and this is held of its line. The truth value says whether the input has ended with it.
-pub data Gets (old new : Reader) (from to : SourceState) (held : Text) : Bool → Type 0 where
-  with_body : {mid : Reader} {between : SourceState} {count : ℕ} → ReadsLine old ended.Line mid from between held → between.tells ≡ from.tells → HasBody held count → Passes mid count passed.Whole new between to → Gets old new from to held false
-  cut_short : {mid : Reader} {between : SourceState} {count : ℕ} → ReadsLine old ended.Line mid from between held → between.tells ≡ from.tells → HasBody held count → Passes mid count passed.Short new between to → Gets old new from to held true
-  at_end : ReadsLine old ended.End new from to held → Gets old new from to held true
+-- A request was read, and this is held of its line, with this body behind it. The truth value says whether the input has
+-- ended with it.
+pub data Gets (old new : Reader) (from to : SourceState) (held : Text) : Text → Bool → Type 0 where
+  with_body : {mid : Reader} {between : SourceState} {count : ℕ} {body : Text} → ReadsLine old ended.Line mid from between held → between.tells ≡ from.tells → HasBody held count → Passes mid count passed.Whole new between to body
+      → Gets old new from to held body false
+  cut_short : {mid : Reader} {between : SourceState} {count : ℕ} {body : Text} → ReadsLine old ended.Line mid from between held → between.tells ≡ from.tells → HasBody held count
+      → Passes mid count (passed.Short (length body)) new between to body → Gets old new from to held body true
+  at_end : ReadsLine old ended.End new from to held → Gets old new from to held [] true
 
 -- the body of a request was not read to its end
 pub record InBody (old mid : Reader) (from between : SourceState) (count : ℕ) : Type 0 where
@@ -43,18 +46,18 @@ pub record InBody (old mid : Reader) (from between : SourceState) (count : ℕ) 
   pub tells : between.tells ≡ from.tells
   pub has : HasBody held count
 
--- how a body was passed over with which the input has ended or not
-abbrev pub passed_so : Bool → Passed
-passed_so true = passed.Short
-passed_so false = passed.Whole
+-- how this body was passed over, with which the input has ended or not
+abbrev pub passed_so : Bool → Text → Passed
+passed_so true body = passed.Short (length body)
+passed_so false body = passed.Whole
 
 -- what was read of the input, by what was found
 abbrev pub Finds : Reader → Reader → SourceState → SourceState → Taken → Type 0
 Finds old new from to taken.Skipped = (held : Text) × ReadsLine old ended.Line new from to held × (is_request held ≡ false)
 Finds old new from to taken.Over = (held : Text) × ReadsLine old ended.End new from to held × (is_request held ≡ false)
-Finds old new from to (taken.Request asked over) = (held : Text) × Gets old new from to held over × (is_request held ≡ true) × Asks held asked
+Finds old new from to (taken.Request asked over) = (held : Text) × (body : Text) × Gets old new from to held body over × (is_request held ≡ true) × Asks held body asked
 Finds old new from to taken.Long = ((held : Text) × ReadsLine old ended.Long new from to held)
-    ⊎ ((mid : Reader) × (between : SourceState) × (count : ℕ) × InBody old mid from between count × Passes mid count passed.Long new between to)
+    ⊎ ((mid : Reader) × (between : SourceState) × (count : ℕ) × (body : Text) × InBody old mid from between count × Passes mid count passed.Long new between to body)
 Finds old new from to taken.Fault = ReadsPart old from to ⊎ ((mid : Reader) × (between : SourceState) × (count : ℕ) × InBody old mid from between count × PassesPart mid count between to)
 Finds old new from to taken.Memory = Unit {0}
 
@@ -62,15 +65,15 @@ Finds old new from to taken.Memory = Unit {0}
 abbrev pub FindsBehind : Text → Reader → Reader → SourceState → SourceState → Taken → Type 0
 FindsBehind held mid new between to taken.Skipped = (is_request held ≡ false) × (new ≡ mid) × (to ≡ between)
 FindsBehind held mid new between to taken.Over = ⊥
-FindsBehind held mid new between to (taken.Request asked over) = (is_request held ≡ true) × Asks held asked × ((count : ℕ) × HasBody held count × Passes mid count (passed_so over) new between to)
-FindsBehind held mid new between to taken.Long = (is_request held ≡ true) × ((count : ℕ) × HasBody held count × Passes mid count passed.Long new between to)
+FindsBehind held mid new between to (taken.Request asked over) = (is_request held ≡ true) × ((body : Text) × Asks held body asked × ((count : ℕ) × HasBody held count × Passes mid count (passed_so over body) new between to body))
+FindsBehind held mid new between to taken.Long = (is_request held ≡ true) × ((count : ℕ) × (body : Text) × HasBody held count × Passes mid count passed.Long new between to body)
 FindsBehind held mid new between to taken.Fault = (is_request held ≡ true) × ((count : ℕ) × HasBody held count × PassesPart mid count between to)
 FindsBehind held mid new between to taken.Memory = Unit {0}
 
 -- and of a line that the end of the input ended
 abbrev pub IsLast : Text → Taken → Type 0
 IsLast held taken.Over = is_request held ≡ false
-IsLast held (taken.Request asked over) = (is_request held ≡ true) × Asks held asked × (over ≡ true)
+IsLast held (taken.Request asked over) = (is_request held ≡ true) × Asks held [] asked × (over ≡ true)
 IsLast held taken.Memory = Unit {0}
 IsLast held other = ⊥
 
@@ -100,14 +103,14 @@ pub record Idles (old new : Service) (main_old main_new : DiskState) (sink_old s
   pub sink : Rests sink_old sink_new
 
 -- the next request was answered, from so many moments on
-pub record Handles (old new : Service) (since : ℕ) (main_old main_new : DiskState) (sink_old sink_new : SinkState) (asked : Result Verb Refusal) (result : Result ⊤ Stop) : Type 0 where
-  pub answers : Answers old.server asked (old.number + 1) since main_old main_new sink_old sink_new result new.server
+pub record Handles (rose : ℕ → Bool) (old new : Service) (since : ℕ) (main_old main_new : DiskState) (sink_old sink_new : SinkState) (asked : Result Verb Refusal) (result : Result ⊤ Stop) : Type 0 where
+  pub answers : Answers rose old.server asked (old.number + 1) since main_old main_new sink_old sink_new result new.server
   pub number : new.number ≡ old.number + 1
 
 -- what one turn does, by whether and how the run ends with it
-pub data Turns (old new : Service) (since : ℕ) (main_old main_new : DiskState) (from to : SourceState) (sink_old sink_new : SinkState) : Option Status → Type 0 where
-  answered : (asked : Result Verb Refusal) (over : Bool) → Finds old.reader new.reader from to (taken.Request asked over) → Handles old new since main_old main_new sink_old sink_new asked (Ok tt)
-      → Turns old new since main_old main_new from to sink_old sink_new (after_answer over)
-  stopped : (asked : Result Verb Refusal) (over : Bool) (stop : Stop) → Finds old.reader new.reader from to (taken.Request asked over) → Handles old new since main_old main_new sink_old sink_new asked (Err stop)
-      → Turns old new since main_old main_new from to sink_old sink_new (Some (status_of stop))
-  idle : (taken : Taken) → Finds old.reader new.reader from to taken → IsIdle taken → Idles old new main_old main_new sink_old sink_new → Turns old new since main_old main_new from to sink_old sink_new (status_after taken)
+pub data Turns (rose : ℕ → Bool) (old new : Service) (since : ℕ) (main_old main_new : DiskState) (from to : SourceState) (sink_old sink_new : SinkState) : Option Status → Type 0 where
+  answered : (asked : Result Verb Refusal) (over : Bool) → Finds old.reader new.reader from to (taken.Request asked over) → Handles rose old new since main_old main_new sink_old sink_new asked (Ok tt)
+      → Turns rose old new since main_old main_new from to sink_old sink_new (after_answer over)
+  stopped : (asked : Result Verb Refusal) (over : Bool) (stop : Stop) → Finds old.reader new.reader from to (taken.Request asked over) → Handles rose old new since main_old main_new sink_old sink_new asked (Err stop)
+      → Turns rose old new since main_old main_new from to sink_old sink_new (Some (status_of stop))
+  idle : (taken : Taken) → Finds old.reader new.reader from to taken → IsIdle taken → Idles old new main_old main_new sink_old sink_new → Turns rose old new since main_old main_new from to sink_old sink_new (status_after taken)

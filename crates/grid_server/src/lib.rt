@@ -2,14 +2,19 @@
 #![tactic(auto)]
 
 mod decision;
+mod finding;
 mod line_reader;
 mod lines;
 mod opening;
+mod plain;
+mod replying;
 mod request;
 mod running;
+mod sending;
 mod server;
 mod serving;
 mod status;
+mod storing;
 mod words;
 
 pub use running::run;

@@ -1,4 +1,4 @@
-ghost use Rattle.std.specs.Prelude.{◌≡◌, ◌+◌, ◌-◌, ◌^◌, ◌<◌, ◌≤◌, [], ◌++◌, length, take, drop, min, IsTrue, IfOk, OnOk, OnErr, IsErrOf};
+ghost use Rattle.std.specs.Prelude.{◌≡◌, ℕ, ◌+◌, ◌-◌, ◌^◌, ◌<◌, ◌≤◌, List, [], ◌++◌, length, take, drop, min, IsTrue, IfOk, OnOk, OnErr, IsErrOf};
 ghost use Rattle.std.specs.Bool.{MatchBool};
 ghost use Rattle.grid_outside.specs.Fault.{HasCause, Rose};
 ghost use Rattle.grid_server.specs.declared.line_reader.ReadError.TheVariants.{Memory as NoMemory, Source as Fault};
@@ -77,8 +77,8 @@ impl Model for LineReader {
 pub(crate) enum Passed {
     /// All were passed over.
     Whole,
-    /// The input ended within them.
-    Short,
+    /// The input ended within them, when so many had come.
+    Short { have: u64 },
     /// The input goes on past the bytes that are read.
     Long,
 }
@@ -203,7 +203,7 @@ impl LineReader {
         count: u64,
     ) -> Result<Passed, SourceFault>
         requires { self.old.taken ≤ 2 ^ 48 }
-        ensures passes { IfOk result (λ how. Passes self.old count how self.new (S.source source.old) (S.source source.new)) }
+        ensures passes { IfOk result (λ how. (body : List ℕ) × Passes self.old count how self.new (S.source source.old) (S.source source.new) body) }
         ensures failed { OnErr result (PassesPart self.old count (S.source source.old) (S.source source.new)) }
         ensures tells { (S.source source.new).tells ≡ (S.source source.old).tells }
         ensures cause { HasCause (S.source source.old).faults (S.source source.new).faults result }
@@ -217,10 +217,54 @@ impl LineReader {
             }
             match self.fill(source)? {
                 Filled::More => {}
-                Filled::End => return Ok(Passed::Short),
+                Filled::End => return Ok(Passed::Short { have: count - left }),
                 Filled::Long => return Ok(Passed::Long),
             }
         }
+    }
+
+    /// Reads so many bytes, or those that there are, and leaves them in the body. Room for all is made at once.
+    /// `Source` comes only where the source failed.
+    pub(crate) fn read_body<S: Source>(
+        &mut self,
+        source: &mut S,
+        count: u64,
+        body: &mut Vec<u8>,
+    ) -> Result<Passed, ReadError>
+        requires { self.old.taken ≤ 2 ^ 48 }
+        ensures reads { IfOk result (λ how. Passes self.old count how self.new (S.source source.old) (S.source source.new) body.new.items) }
+        ensures failed { IsErrOf result ReadError.Source → PassesPart self.old count (S.source source.old) (S.source source.new) }
+        ensures tells { (S.source source.new).tells ≡ (S.source source.old).tells }
+        ensures later { (S.source source.old).faults ≤ (S.source source.new).faults }
+        ensures cause { IsErrOf result ReadError.Source → Rose (S.source source.old).faults (S.source source.new).faults }
+    {
+        body.clear();
+        body.reserve(count as usize)?;
+        let mut left = count;
+        'parts: loop {
+            left = self.take_held(left, body)?;
+            if left == 0 {
+                return Ok(Passed::Whole);
+            }
+            match self.fill(source)? {
+                Filled::More => {}
+                Filled::End => return Ok(Passed::Short { have: count - left }),
+                Filled::Long => return Ok(Passed::Long),
+            }
+        }
+    }
+
+    // Adds at most so many of the bytes that are left of the block, and answers how many are still to come.
+    fn take_held(&mut self, count: u64, body: &mut Vec<u8>) -> Result<u64, AllocError>
+        ensures unread { OnOk result (self.new.unread ≡ drop (min count (length self.old.unread)) self.old.unread) }
+        ensures taken { self.new.taken ≡ self.old.taken }
+        ensures left { IfOk result (λ left. left ≡ count - min count (length self.old.unread)) }
+        ensures added { OnOk result (body.new.items ≡ body.old.items ++ take (min count (length self.old.unread)) self.old.unread) }
+    {
+        let rest = &self.block[self.start..self.end];
+        let room = count.min(rest.len() as u64) as usize;
+        body.extend_from_slice(&rest[..room])?;
+        Ok(self.pass_held(count))
     }
 
     // Passes over at most so many of the bytes that are left of the block, and answers how many are still to be passed.

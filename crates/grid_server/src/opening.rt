@@ -1,6 +1,6 @@
 ghost use Rattle.std.specs.Prelude.{◌≡◌, ◌+◌, ◌^◌, ◌<◌, ◌≤◌, ◌∷◌, [], IsTrue, IfOk, IsErrOf};
 ghost use Rattle.grid_outside.specs.Fault.{Rose};
-ghost use Rattle.grid_model.specs.Gridding.{HasPaths};
+ghost use Rattle.grid_server.specs.Held.{IsMade};
 ghost use Rattle.grid_journal.specs.Journal.{Keeps};
 ghost use Rattle.grid_server.specs.Opening.{Begun};
 ghost use Rattle.grid_server.specs.Stopping.{IsOfCommit, begin_error_of};
@@ -8,7 +8,7 @@ ghost use Rattle.grid_server.specs.Stopping.{IsOfCommit, begin_error_of};
 use crate::server::Server;
 use grid_journal::{JournalError, Store};
 use grid_model::{Delta, Deltas, Numbers};
-use grid_outside::{Ambient, Disk, Outside};
+use grid_outside::{Disk, Moments};
 use std::alloc::{AllocError, Global};
 
 /// Why no run is begun.
@@ -24,26 +24,25 @@ pub(crate) enum BeginError {
 
 /// Begins a run over a catalogue: its number is one more than that of the last one, and no command of it has changed
 /// anything. `Disk` comes only where the disk failed, and `Runs` exactly where the last run has the greatest number.
-pub(crate) fn begin_run<D: Disk, A: Ambient>(
+pub(crate) fn begin_run<D: Disk>(
     alloc: Global,
     store: Store,
-    outside: &mut Outside<D, A>,
+    main: &mut D,
+    spare: &mut D,
+    moments: &mut Moments,
 ) -> Result<Server, BeginError>
     requires sound { IsTrue store.sound }
     requires staged { store.staged ≡ [] }
-    requires keeps { IsTrue (D.disk outside.old.main).tells → Keeps store.cat store (D.disk outside.old.main).holds }
-    requires paths { HasPaths store.cat }
-    requires vault { 0 < store.cat.numbers.next_vault }
-    requires main_last { (D.disk outside.old.main).last ≤ outside.old.moments }
-    requires room { outside.old.moments + 4 < 2 ^ 128 }
-    ensures begins { Begun store.cat outside.old.moments (D.disk outside.old.main) (D.disk outside.new.main) result }
-    ensures main_last { (D.disk outside.new.main).last ≤ outside.new.moments }
-    ensures disk { IsErrOf result BeginError.Disk → Rose (D.disk outside.old.main).faults (D.disk outside.new.main).faults }
-    ensures drawn_from { outside.old.moments ≤ outside.new.moments }
-    ensures drawn { outside.new.moments ≤ outside.old.moments + 4 }
-    ensures spare { outside.new.spare ≡ outside.old.spare }
-    ensures stores { outside.new.stores ≡ outside.old.stores }
-    ensures ambient { outside.new.ambient ≡ outside.old.ambient }
+    requires keeps { IsTrue (D.disk main.old).tells → Keeps store.cat store (D.disk main.old).holds }
+    requires made { IsMade store.cat }
+    requires main_last { (D.disk main.old).last ≤ moments.old }
+    requires room { moments.old + 4 < 2 ^ 128 }
+    ensures begins { Begun store.cat moments.old (D.disk main.old) (D.disk main.new) result }
+    ensures main_last { (D.disk main.new).last ≤ moments.new }
+    ensures disk { IsErrOf result BeginError.Disk → Rose (D.disk main.old).faults (D.disk main.new).faults }
+    ensures drawn_from { moments.old ≤ moments.new }
+    ensures drawn { moments.new ≤ moments.old + 4 }
+    ensures spare { spare.new ≡ spare.old }
 {
     let mut store = store;
     let last = store.tables().numbers();
@@ -58,20 +57,11 @@ pub(crate) fn begin_run<D: Disk, A: Ambient>(
     let Ok(deltas) = one(alloc, Delta::Numbers(numbers)) else {
         return Err(BeginError::Memory);
     };
-    match store.commit(
-        alloc,
-        &mut outside.main,
-        &mut outside.spare,
-        &mut outside.moments,
-        deltas,
-    ) {
-        Ok(()) => {
-            store.tables().in_order();
-            Ok(Server {
-                store,
-                logged_in: false,
-            })
-        }
+    match store.commit(alloc, main, spare, moments, deltas) {
+        Ok(()) => Ok(Server {
+            store,
+            logged_in: false,
+        }),
         Err(error) => Err(begin_error_of(error)),
     }
 }

@@ -1,10 +1,10 @@
-ghost use Rattle.std.specs.Prelude.{◌≡◌, ◌↔◌, ◌∷◌, [], IsTrue, IfOk, codes, length};
+ghost use Rattle.std.specs.Prelude.{◌≡◌, ℕ, ◌↔◌, List, ◌∷◌, [], IsTrue, IfOk, IfSome, IfNone, codes, length};
 ghost use Rattle.grid_model.specs.Lines.{is_blank, is_request};
 ghost use Rattle.std.specs.List.{list_any};
-ghost use Rattle.grid_model.specs.Names.{same_text};
+ghost use Rattle.grid_model.specs.Names.{Path as PathOf, SpellsPath, same_text};
 ghost use Rattle.grid_model.specs.Inputs.{HasBody, verbs_with_body};
 ghost use Rattle.grid_model.specs.Requests.{Asks};
-ghost use Rattle.grid_server.specs.Requests.{AreOf, Promise};
+ghost use Rattle.grid_server.specs.Requests.{AreOf, Promise, asked_with, held_body, is_held};
 
 use crate::lines::is_same;
 use grid_model::{Path, PathError, Refusal, Text, Verb, read_number};
@@ -13,6 +13,9 @@ use std::alloc::{AllocError, Global};
 
 /// How many bytes a request line has at most, without its newline.
 const LONGEST_LINE: usize = 4096;
+
+/// How many bytes an object has at most where it is put.
+pub(crate) const OBJECT_SIZE: u64 = 16_777_216;
 
 /// Whether the line is a request: it has words, or is too long to look for them.
 pub(crate) fn is_request(line: &[u8]) -> bool
@@ -27,17 +30,65 @@ fn is_blank(line: &[u8]) -> bool
     line.iter().all(|byte| *byte == b' ')
 }
 
-/// A request line as it was read: what it asks for, or why it is refused before anything is asked, and how many bytes
-/// behind it belong to it.
+/// A request line as it was read: what it asks for, with nothing of a body yet, or why it is refused before anything is
+/// asked, and how many bytes behind it belong to it.
 #[derive(Debug, Drop)]
 pub(crate) struct Request {
     pub(crate) asked: Result<Verb, Refusal>,
     pub(crate) count: u64,
 }
 
+impl Request {
+    /// Whether its body is held: it is that of an object, and has no more bytes than one may have.
+    pub(crate) fn is_held(&self) -> bool
+        ensures { result ≡ is_held self.now.asked }
+    {
+        match &self.asked {
+            Ok(
+                Verb::Put {
+                    path: _,
+                    resource: _,
+                    count,
+                    body: _,
+                },
+            ) => *count <= OBJECT_SIZE,
+            _ => false,
+        }
+    }
+
+    /// What is asked for with a body of so many bytes, of which this is held.
+    pub(crate) fn with_body(self, have: u64, held: Vec<u8>) -> Result<Verb, Refusal>
+        ensures { (body : List ℕ) → length body ≡ have → held.items ≡ held_body self.asked body → result ≡ asked_with self.asked body }
+    {
+        match self.asked {
+            Ok(
+                Verb::Put {
+                    path,
+                    resource,
+                    count,
+                    body: _,
+                },
+            ) => {
+                if have < count {
+                    return Err(Refusal::Truncated { have, want: count });
+                }
+                let body = Text::from_vec(held);
+                Ok(Verb::Put {
+                    path,
+                    resource,
+                    count,
+                    body,
+                })
+            }
+            Ok(verb) => Ok(verb),
+            Err(refusal) => Err(refusal),
+        }
+    }
+}
+
 /// Reads a request line. Fails for want of memory alone.
 pub(crate) fn read_request(alloc: Global, line: &[u8]) -> Result<Request, AllocError>
-    ensures asks { IfOk result (λ request. Asks line.now request.asked) }
+    ensures asks { IfOk result (λ request. (body : List ℕ) → Asks line.now body (asked_with request.asked body)) }
     ensures body { IfOk result (λ request. HasBody line.now request.count) }
 {
     match words(alloc, line) {
@@ -87,20 +138,109 @@ fn has_body(verb: &Text) -> bool
 fn read_verb(alloc: Global, words: &[Text]) -> Result<Option<Verb>, AllocError>
     ensures { IfOk result (λ verb. AreOf words.now verb) }
 {
-    if words.len() != 3 || !is_word(&words[0], b"0") {
+    match words {
+        [session, verb, word] => read_short(alloc, session, verb, word),
+        [session, verb, word, resource] => read_get(alloc, session, verb, word, resource),
+        [session, verb, word, resource, mode, count] => {
+            read_put(alloc, session, verb, word, resource, mode, count)
+        }
+        _ => Ok(None),
+    }
+}
+
+// The verb of three words. Fails for want of memory alone.
+fn read_short(
+    alloc: Global,
+    session: &Text,
+    verb: &Text,
+    word: &Text,
+) -> Result<Option<Verb>, AllocError>
+    ensures { IfOk result (λ found. AreOf (session.now ∷ verb.now ∷ word.now ∷ []) found) }
+{
+    if !is_word(session, b"0") {
         return Ok(None);
     }
-    let verb = &words[1];
-    let word = words[2].as_slice();
     if is_word(verb, b"login") {
-        let user = Text::copy_of(alloc, word)?;
+        let user = Text::copy_of(alloc, word.as_slice())?;
         return Ok(Some(Verb::Login { user }));
     }
     if !is_word(verb, b"mkdir") {
         return Ok(None);
     }
-    match Path::parse(alloc, word) {
-        Ok(path) => Ok(Some(Verb::MkDir { path })),
+    match read_path(alloc, word)? {
+        Some(path) => Ok(Some(Verb::MkDir { path })),
+        None => Ok(None),
+    }
+}
+
+// The verb of four words. Fails for want of memory alone.
+fn read_get(
+    alloc: Global,
+    session: &Text,
+    verb: &Text,
+    word: &Text,
+    resource: &Text,
+) -> Result<Option<Verb>, AllocError>
+    ensures { IfOk result (λ found. AreOf (session.now ∷ verb.now ∷ word.now ∷ resource.now ∷ []) found) }
+{
+    if !is_word(session, b"0") || !is_word(verb, b"get") {
+        return Ok(None);
+    }
+    if !is_word(resource, b"d0") && !is_word(resource, b"-") {
+        return Ok(None);
+    }
+    match read_path(alloc, word)? {
+        Some(path) => {
+            let resource = Text::copy_of(alloc, resource.as_slice())?;
+            Ok(Some(Verb::Get { path, resource }))
+        }
+        None => Ok(None),
+    }
+}
+
+// The verb of six words. Fails for want of memory alone.
+fn read_put(
+    alloc: Global,
+    session: &Text,
+    verb: &Text,
+    word: &Text,
+    resource: &Text,
+    mode: &Text,
+    count: &Text,
+) -> Result<Option<Verb>, AllocError>
+    ensures { IfOk result (λ found. AreOf (session.now ∷ verb.now ∷ word.now ∷ resource.now ∷ mode.now ∷ count.now ∷ []) found) }
+{
+    if !is_word(session, b"0") || !is_word(verb, b"put") {
+        return Ok(None);
+    }
+    if !is_word(resource, b"d0") || !is_word(mode, b"new") {
+        return Ok(None);
+    }
+    let Some(count) = read_number(alloc, count.as_slice())? else {
+        return Ok(None);
+    };
+    match read_path(alloc, word)? {
+        Some(path) => {
+            let resource = Text::copy_of(alloc, resource.as_slice())?;
+            let body = Text::from_vec(Vec::new(alloc));
+            Ok(Some(Verb::Put {
+                path,
+                resource,
+                count,
+                body,
+            }))
+        }
+        None => Ok(None),
+    }
+}
+
+// The path that the word spells. Fails for want of memory alone.
+fn read_path(alloc: Global, word: &Text) -> Result<Option<Path>, AllocError>
+    ensures path { IfOk result (λ found. IfSome found (λ path. SpellsPath word.now path)) }
+    ensures none { IfOk result (λ found. IfNone found ((path : PathOf) → ¬ SpellsPath word.now path)) }
+{
+    match Path::parse(alloc, word.as_slice()) {
+        Ok(path) => Ok(Some(path)),
         Err(PathError::BadPath { at: _ }) => Ok(None),
         Err(PathError::Memory) => Err(AllocError),
     }

@@ -1,13 +1,15 @@
-ghost use Rattle.std.specs.Prelude.{◌≡◌, ◌≢◌, ◌⊎◌, ◌+◌, ◌^◌, ◌<◌, ◌≤◌, ℕ, List, [], length, IsTrue, IfOk, Ok, Err, vec_len};
-ghost use Rattle.grid_outside.specs.Device.{Looks, IsSettled};
+ghost use Rattle.std.specs.Prelude.{Bool, ◌≡◌, ◌≢◌, ◌⊎◌, ◌+◌, ◌^◌, ◌<◌, ◌≤◌, ℕ, List, [], length, IsTrue, IfOk, Ok, Err, vec_len};
+ghost use Rattle.grid_outside.specs.Device.{Looks, IsSettled, EachMember};
+ghost use Rattle.grid_vault.specs.Vault.{RoseAt};
 ghost use Rattle.grid_outside.specs.Fault.{Rose};
 ghost use Rattle.grid_model.specs.Names.{is_name};
 ghost use Rattle.grid_model.specs.Grid.{everybody};
 ghost use Rattle.grid_model.specs.Rows.{Cat};
-ghost use Rattle.grid_model.specs.Gridding.{HasPaths};
+ghost use Rattle.grid_server.specs.Held.{IsMade};
 ghost use Rattle.grid_journal.specs.Journal.{Keeps};
 ghost use Rattle.grid_journal.specs.Stands.{Stands};
-ghost use Rattle.grid_server.specs.Answering.{Stays, Rests};
+ghost use Rattle.grid_server.specs.Keeping.{Stays, Rests};
+ghost use Rattle.grid_server.specs.Stores.{StoresGo};
 ghost use Rattle.grid_server.specs.Starting.{usage_line as usage_text, not_empty_line as not_empty_text, not_a_catalogue_line as not_a_catalogue_text, stores_line as stores_text, side_name as side_text};
 ghost use Rattle.grid_server.specs.Running.{Says, Refuses, RefusesStores, Inits, IsComplete};
 ghost use Rattle.grid_server.specs.Serving.{Serves, IsServing};
@@ -20,7 +22,7 @@ use crate::serving::serve_all;
 use crate::words::{Asked, read_words};
 use grid_journal::{JournalError, Store};
 use grid_model::{Side, Text};
-use grid_outside::{Ambient, Disk, Moments, Outside, Sink, Source, Wear};
+use grid_outside::{Ambient, Disk, Moments, Outside, Plugin, Sink, Source, Wear};
 use std::alloc::{AllocError, Global};
 
 /// Does what the words of the program ask for.
@@ -36,7 +38,8 @@ pub fn run<D: Disk, S: Source, K: Sink, A: Ambient>(
 ) -> Status
     requires main_last { (D.disk outside.old.main).last ≤ outside.old.moments }
     requires sink_last { (K.sink sink.old).last ≤ outside.old.moments }
-    requires room { outside.old.moments + 2 ^ 61 < 2 ^ 128 }
+    requires stores_last { EachMember (λ k store. (⟦<Box<dyn Plugin> as Plugin>⟧.plugin store).last ≤ outside.old.moments) outside.old.stores.items }
+    requires room { outside.old.moments + 2 ^ 101 < 2 ^ 128 }
     requires stores { (0 < vec_len outside.old.stores) × (vec_len outside.old.stores ≤ 16) }
 
     // Words that ask for nothing: the line of usage, and no device but the sink is touched.
@@ -51,9 +54,9 @@ pub fn run<D: Disk, S: Source, K: Sink, A: Ambient>(
     ensures init_source { (zone admin : List ℕ) → AsksFor words.now (task.init zone admin) → source.new ≡ source.old }
 
     // To answer requests: what was answered and shown, and what a stop at any moment leaves of main and the sink.
-    ensures serve { (found : Cat) → AsksFor words.now task.serve → IsTrue (D.disk outside.old.main).tells → IsTrue (S.source source.old).tells →
+    ensures serve { (rose : ℕ → Bool) → ((slot : ℕ) → RoseAt ⟦<Box<dyn Plugin> as Plugin>⟧.plugin slot outside.old.stores.items outside.new.stores.items → IsTrue (rose slot)) → (found : Cat) → AsksFor words.now task.serve → IsTrue (D.disk outside.old.main).tells → IsTrue (S.source source.old).tells →
         Stands (D.disk outside.old.main).holds (D.disk outside.old.spare).holds (Ok found) → found.stores ≡ vec_len outside.old.stores →
-        Serves found outside.old.moments (D.disk outside.old.main) (D.disk outside.new.main) (S.source source.old) (S.source source.new) (K.sink sink.old) (K.sink sink.new) result }
+        Serves rose found outside.old.moments (D.disk outside.old.main) (D.disk outside.new.main) (S.source source.old) (S.source source.new) (K.sink sink.old) (K.sink sink.new) result }
 
     // The catalogue is of another number of stores.
     ensures stores { (found : Cat) → AsksFor words.now task.serve → IsTrue (D.disk outside.old.main).tells →
@@ -84,10 +87,10 @@ pub fn run<D: Disk, S: Source, K: Sink, A: Ambient>(
         length (S.source source.old).left ≤ 2 ^ 48 → ¬ Rose (D.disk outside.old.main).faults (D.disk outside.new.main).faults →
         ¬ Rose (D.disk outside.old.spare).faults (D.disk outside.new.spare).faults → ¬ Rose (S.source source.old).faults (S.source source.new).faults → ¬ Rose (K.sink sink.old).faults (K.sink sink.new).faults → IsComplete result }
 
-    // What is never changed.
+    // Spare is only looked at, and there are as many stores as before.
     ensures spare { Looks (D.disk outside.old.spare) (D.disk outside.new.spare) }
-    ensures other_stores { outside.new.stores ≡ outside.old.stores }
-    ensures ambient { outside.new.ambient ≡ outside.old.ambient }
+    ensures stores_last { EachMember (λ k store. (⟦<Box<dyn Plugin> as Plugin>⟧.plugin store).last ≤ outside.new.moments) outside.new.stores.items }
+    ensures stores_go { StoresGo ⟦<Box<dyn Plugin> as Plugin>⟧.plugin outside.old.stores.items outside.new.stores.items }
 {
     match read_words(words) {
         Asked::Serve => serve(alloc, outside, source, sink),
@@ -107,6 +110,7 @@ fn say<K: Sink>(moments: &mut Moments, sink: &mut K, line: &[u8], status: Status
     requires room { moments.old + 1 < 2 ^ 128 }
     ensures says { Says line.now status (K.sink sink.old) (K.sink sink.new) result }
     ensures fault { result ≡ Status.SinkFault → (status ≡ Status.SinkFault) ⊎ Rose (K.sink sink.old).faults (K.sink sink.new).faults }
+    ensures drawn_from { moments.old ≤ moments.new }
 {
     match sink.put(moments.next(), line) {
         Ok(()) => status,
@@ -123,11 +127,12 @@ fn serve<D: Disk, S: Source, K: Sink, A: Ambient>(
 ) -> Status
     requires main_last { (D.disk outside.old.main).last ≤ outside.old.moments }
     requires sink_last { (K.sink sink.old).last ≤ outside.old.moments }
-    requires room { outside.old.moments + 2 ^ 61 < 2 ^ 128 }
+    requires stores_last { EachMember (λ k store. (⟦<Box<dyn Plugin> as Plugin>⟧.plugin store).last ≤ outside.old.moments) outside.old.stores.items }
+    requires room { outside.old.moments + 2 ^ 101 < 2 ^ 128 }
     requires stores { (0 < vec_len outside.old.stores) × (vec_len outside.old.stores ≤ 16) }
-    ensures serve { (found : Cat) → IsTrue (D.disk outside.old.main).tells → IsTrue (S.source source.old).tells →
+    ensures serve { (rose : ℕ → Bool) → ((slot : ℕ) → RoseAt ⟦<Box<dyn Plugin> as Plugin>⟧.plugin slot outside.old.stores.items outside.new.stores.items → IsTrue (rose slot)) → (found : Cat) → IsTrue (D.disk outside.old.main).tells → IsTrue (S.source source.old).tells →
         Stands (D.disk outside.old.main).holds (D.disk outside.old.spare).holds (Ok found) → found.stores ≡ vec_len outside.old.stores →
-        Serves found outside.old.moments (D.disk outside.old.main) (D.disk outside.new.main) (S.source source.old) (S.source source.new) (K.sink sink.old) (K.sink sink.new) result }
+        Serves rose found outside.old.moments (D.disk outside.old.main) (D.disk outside.new.main) (S.source source.old) (S.source source.new) (K.sink sink.old) (K.sink sink.new) result }
     ensures stores { (found : Cat) → IsTrue (D.disk outside.old.main).tells →
         Stands (D.disk outside.old.main).holds (D.disk outside.old.spare).holds (Ok found) → found.stores ≢ vec_len outside.old.stores →
         RefusesStores found.stores (vec_len outside.old.stores) (K.sink sink.old) (K.sink sink.new) result × Rests (D.disk outside.old.main) (D.disk outside.new.main) × (source.new ≡ source.old) }
@@ -142,8 +147,8 @@ fn serve<D: Disk, S: Source, K: Sink, A: Ambient>(
     ensures sink { result ≡ Status.SinkFault → Rose (K.sink sink.old).faults (K.sink sink.new).faults }
     ensures words { (result ≡ Status.Usage) → ⊥ }
     ensures spare { outside.new.spare ≡ outside.old.spare }
-    ensures other_stores { outside.new.stores ≡ outside.old.stores }
-    ensures ambient { outside.new.ambient ≡ outside.old.ambient }
+    ensures stores_last { EachMember (λ k store. (⟦<Box<dyn Plugin> as Plugin>⟧.plugin store).last ≤ outside.new.moments) outside.new.stores.items }
+    ensures stores_go { StoresGo ⟦<Box<dyn Plugin> as Plugin>⟧.plugin outside.old.stores.items outside.new.stores.items }
 {
     match Store::open(alloc, &mut outside.main, &mut outside.spare) {
         Ok(store) => serve_over(alloc, store, outside, source, sink),
@@ -168,14 +173,14 @@ fn serve_over<D: Disk, S: Source, K: Sink, A: Ambient>(
     requires sound { IsTrue store.sound }
     requires staged { store.staged ≡ [] }
     requires keeps { IsTrue (D.disk outside.old.main).tells → Keeps store.cat store (D.disk outside.old.main).holds }
-    requires paths { HasPaths store.cat }
-    requires vault { 0 < store.cat.numbers.next_vault }
+    requires made { IsMade store.cat }
     requires main_last { (D.disk outside.old.main).last ≤ outside.old.moments }
     requires sink_last { (K.sink sink.old).last ≤ outside.old.moments }
-    requires room { outside.old.moments + 2 ^ 61 < 2 ^ 128 }
+    requires stores_last { EachMember (λ k store. (⟦<Box<dyn Plugin> as Plugin>⟧.plugin store).last ≤ outside.old.moments) outside.old.stores.items }
+    requires room { outside.old.moments + 2 ^ 101 < 2 ^ 128 }
     requires stores { (0 < vec_len outside.old.stores) × (vec_len outside.old.stores ≤ 16) }
-    ensures serve { IsTrue (D.disk outside.old.main).tells → IsTrue (S.source source.old).tells → store.cat.stores ≡ vec_len outside.old.stores →
-        Serves store.cat outside.old.moments (D.disk outside.old.main) (D.disk outside.new.main) (S.source source.old) (S.source source.new) (K.sink sink.old) (K.sink sink.new) result }
+    ensures serve { (rose : ℕ → Bool) → ((slot : ℕ) → RoseAt ⟦<Box<dyn Plugin> as Plugin>⟧.plugin slot outside.old.stores.items outside.new.stores.items → IsTrue (rose slot)) → IsTrue (D.disk outside.old.main).tells → IsTrue (S.source source.old).tells → store.cat.stores ≡ vec_len outside.old.stores →
+        Serves rose store.cat outside.old.moments (D.disk outside.old.main) (D.disk outside.new.main) (S.source source.old) (S.source source.new) (K.sink sink.old) (K.sink sink.new) result }
     ensures stores { store.cat.stores ≢ vec_len outside.old.stores →
         RefusesStores store.cat.stores (vec_len outside.old.stores) (K.sink sink.old) (K.sink sink.new) result × (outside.new.main ≡ outside.old.main) × (source.new ≡ source.old) }
     ensures stores_only { (had given : ℕ) → result ≡ Status.Stores had given → (had ≢ given) × (given ≡ vec_len outside.old.stores) }
@@ -185,15 +190,21 @@ fn serve_over<D: Disk, S: Source, K: Sink, A: Ambient>(
     ensures words { (result ≡ Status.Usage) → ⊥ }
     ensures not_a_catalogue { (side : Side) (place : ℕ) → ¬ (result ≡ Status.NotACatalogue side place) }
     ensures spare { outside.new.spare ≡ outside.old.spare }
-    ensures other_stores { outside.new.stores ≡ outside.old.stores }
-    ensures ambient { outside.new.ambient ≡ outside.old.ambient }
+    ensures stores_last { EachMember (λ k store. (⟦<Box<dyn Plugin> as Plugin>⟧.plugin store).last ≤ outside.new.moments) outside.new.stores.items }
+    ensures stores_go { StoresGo ⟦<Box<dyn Plugin> as Plugin>⟧.plugin outside.old.stores.items outside.new.stores.items }
 {
     let kept = store.tables().stores();
     let given = outside.stores.len() as u8;
     if kept != given {
         return refuse_stores(alloc, &mut outside.moments, sink, kept, given);
     }
-    match begin_run(alloc, store, outside) {
+    match begin_run(
+        alloc,
+        store,
+        &mut outside.main,
+        &mut outside.spare,
+        &mut outside.moments,
+    ) {
         Ok(server) => serve_all(alloc, server, outside, source, sink),
         Err(BeginError::Runs { at }) => Status::Worn {
             what: Wear::Runs,
@@ -221,6 +232,7 @@ fn refuse<K: Sink>(
     ensures refuses { Refuses side at (K.sink sink.old) (K.sink sink.new) result }
     ensures ends { (result ≡ Status.NotACatalogue side at) ⊎ (result ≡ Status.Memory) ⊎ (result ≡ Status.SinkFault) }
     ensures fault { result ≡ Status.SinkFault → Rose (K.sink sink.old).faults (K.sink sink.new).faults }
+    ensures drawn_from { moments.old ≤ moments.new }
 {
     let Ok(line) = not_a_catalogue_line(alloc, side, at) else {
         return Status::Memory;
@@ -241,6 +253,7 @@ fn refuse_stores<K: Sink>(
     ensures refuses { RefusesStores kept given (K.sink sink.old) (K.sink sink.new) result }
     ensures ends { (result ≡ Status.Stores kept given) ⊎ (result ≡ Status.Memory) ⊎ (result ≡ Status.SinkFault) }
     ensures fault { result ≡ Status.SinkFault → Rose (K.sink sink.old).faults (K.sink sink.new).faults }
+    ensures drawn_from { moments.old ≤ moments.new }
 {
     let Ok(line) = stores_line(alloc, kept, given) else {
         return Status::Memory;
@@ -261,6 +274,7 @@ fn init<D: Disk, K: Sink, A: Ambient>(
     requires not_public { admin.now ≢ everybody }
     requires main_last { (D.disk outside.old.main).last ≤ outside.old.moments }
     requires sink_last { (K.sink sink.old).last ≤ outside.old.moments }
+    requires stores_last { EachMember (λ k store. (⟦<Box<dyn Plugin> as Plugin>⟧.plugin store).last ≤ outside.old.moments) outside.old.stores.items }
     requires room { outside.old.moments + 3 < 2 ^ 128 }
     requires stores { (0 < vec_len outside.old.stores) × (vec_len outside.old.stores ≤ 16) }
     ensures inits { Inits zone.now admin.now (vec_len outside.old.stores) (D.disk outside.old.main) (D.disk outside.new.main) (D.disk outside.old.spare) (K.sink sink.old) (K.sink sink.new) result }
@@ -273,6 +287,7 @@ fn init<D: Disk, K: Sink, A: Ambient>(
     ensures no_stores { (had given : ℕ) → ¬ (result ≡ Status.Stores had given) }
     ensures other_stores { outside.new.stores ≡ outside.old.stores }
     ensures ambient { outside.new.ambient ≡ outside.old.ambient }
+    ensures stores_last { EachMember (λ k store. (⟦<Box<dyn Plugin> as Plugin>⟧.plugin store).last ≤ outside.new.moments) outside.new.stores.items }
 {
     let stores = outside.stores.len() as u8;
     match Store::init(
@@ -307,6 +322,7 @@ fn refuse_start<K: Sink>(
     requires room { moments.old + 1 < 2 ^ 128 }
     ensures says { Says (not_empty_text side len) (Status.NotEmpty side len) (K.sink sink.old) (K.sink sink.new) result ⊎ ((result ≡ Status.Memory) × Stays (K.sink sink.old) (K.sink sink.new)) }
     ensures fault { result ≡ Status.SinkFault → Rose (K.sink sink.old).faults (K.sink sink.new).faults }
+    ensures drawn_from { moments.old ≤ moments.new }
 {
     let Ok(line) = not_empty_line(alloc, side, len) else {
         return Status::Memory;

@@ -1,19 +1,26 @@
-ghost use Rattle.std.specs.Prelude.{◌≡◌, ◌+◌, ◌^◌, ◌<◌, ◌≤◌, [], IsTrue, IfOk, Some, false};
+ghost use Rattle.std.specs.Prelude.{Bool, ◌≡◌, ℕ, ◌+◌, ◌^◌, ◌<◌, ◌≤◌, List, [], IsTrue, IfOk, Some, true, false, vec_len};
+ghost use Rattle.grid_outside.specs.Device.{EachMember};
 ghost use Rattle.grid_outside.specs.Fault.{Rose};
+ghost use Rattle.grid_vault.specs.Vault.{RoseAt};
 ghost use Rattle.grid_model.specs.Rows.{Cat};
-ghost use Rattle.grid_model.specs.Gridding.{grid_of};
+ghost use Rattle.grid_model.specs.RowGrids.{grid_of};
+ghost use Rattle.grid_model.specs.Lines.{is_request};
+ghost use Rattle.grid_model.specs.Inputs.{HasBody};
+ghost use Rattle.grid_model.specs.Requests.{Asks};
 ghost use Rattle.grid_server.specs.Held.{IsHeld};
-ghost use Rattle.grid_server.specs.Answering.{Goes};
+ghost use Rattle.grid_server.specs.Keeping.{Goes};
+ghost use Rattle.grid_server.specs.Stores.{StoresGo};
 ghost use Rattle.grid_server.specs.Opening.{begun};
 ghost use Rattle.grid_server.specs.Serving.{Serves, IsServing};
+ghost use Rattle.grid_server.specs.Requests.{asked_with, is_held};
 ghost use Rattle.grid_server.specs.Turning.{status_of, after_answer, IsLast};
 
 use crate::Status;
 use crate::line_reader::{Ended, HELD, LineReader, MOST, Passed, ReadError};
-use crate::request::{is_request, read_request};
+use crate::request::{Request, is_request, read_request};
 use crate::server::{Server, Stop};
 use grid_model::{Refusal, Verb};
-use grid_outside::{Ambient, Disk, Outside, Sink, Source, SourceFault, Wear};
+use grid_outside::{Ambient, Disk, Outside, Plugin, Sink, Source, SourceFault};
 use std::alloc::{AllocError, Global};
 
 // What was read of the input for one turn.
@@ -60,8 +67,10 @@ impl Service {
         requires held { IsHeld (D.disk outside.old.main) self.old.server }
         requires main_last { (D.disk outside.old.main).last ≤ outside.old.moments }
         requires sink_last { (K.sink sink.old).last ≤ outside.old.moments }
-        requires room { outside.old.moments + 5 < 2 ^ 128 }
-        ensures turns { Turns self.old self.new outside.old.moments (D.disk outside.old.main) (D.disk outside.new.main) (S.source source.old) (S.source source.new) (K.sink sink.old) (K.sink sink.new) result }
+        requires stores_last { EachMember (λ k store. (⟦<Box<dyn Plugin> as Plugin>⟧.plugin store).last ≤ outside.old.moments) outside.old.stores.items }
+        requires slots { self.old.server.store.cat.stores ≡ vec_len outside.old.stores }
+        requires room { outside.old.moments + 2 ^ 50 < 2 ^ 128 }
+        ensures turns { (rose : ℕ → Bool) → ((slot : ℕ) → RoseAt ⟦<Box<dyn Plugin> as Plugin>⟧.plugin slot outside.old.stores.items outside.new.stores.items → IsTrue (rose slot)) → Turns rose self.old self.new outside.old.moments (D.disk outside.old.main) (D.disk outside.new.main) (S.source source.old) (S.source source.new) (K.sink sink.old) (K.sink sink.new) result }
         ensures source_tells { (S.source source.new).tells ≡ (S.source source.old).tells }
         ensures main_last { (D.disk outside.new.main).last ≤ outside.new.moments }
         ensures sink_last { (K.sink sink.new).last ≤ outside.new.moments }
@@ -70,10 +79,10 @@ impl Service {
         ensures source { result ≡ Some Status.SourceFault → Rose (S.source source.old).faults (S.source source.new).faults }
         ensures sink { result ≡ Some Status.SinkFault → Rose (K.sink sink.old).faults (K.sink sink.new).faults }
         ensures drawn_from { outside.old.moments ≤ outside.new.moments }
-        ensures drawn { outside.new.moments ≤ outside.old.moments + 5 }
+        ensures drawn { outside.new.moments ≤ outside.old.moments + 2 ^ 50 }
+        ensures stores_last { EachMember (λ k store. (⟦<Box<dyn Plugin> as Plugin>⟧.plugin store).last ≤ outside.new.moments) outside.new.stores.items }
+        ensures stores_go { StoresGo ⟦<Box<dyn Plugin> as Plugin>⟧.plugin outside.old.stores.items outside.new.stores.items }
         ensures spare { outside.new.spare ≡ outside.old.spare }
-        ensures stores { outside.new.stores ≡ outside.old.stores }
-        ensures ambient { outside.new.ambient ≡ outside.old.ambient }
     {
         match self.take(alloc, source) {
             Taken::Skipped => None,
@@ -110,7 +119,7 @@ impl Service {
         }
     }
 
-    // Passes over the body of the request whose line is held, if it is one.
+    // Reads the body of the request whose line is held, if it is one.
     fn take_body<S: Source>(&mut self, alloc: Global, source: &mut S) -> Taken
         requires most { self.old.reader.taken ≤ 2 ^ 48 }
         ensures finds { FindsBehind self.old.line.items self.old.reader self.new.reader (S.source source.old) (S.source source.new) result }
@@ -126,17 +135,75 @@ impl Service {
         let Ok(request) = read_request(alloc, &self.line) else {
             return Taken::Memory;
         };
-        let asked = request.asked;
+        if request.is_held() {
+            return self.hold_body(alloc, source, request);
+        }
+        self.pass_body(alloc, source, request)
+    }
+
+    // Reads a body that is held.
+    fn hold_body<S: Source>(&mut self, alloc: Global, source: &mut S, request: Request) -> Taken
+        requires most { self.old.reader.taken ≤ 2 ^ 48 }
+        requires some { is_request self.old.line.items ≡ true }
+        requires asks { (body : List ℕ) → Asks self.old.line.items body (asked_with request.asked body) }
+        requires body { HasBody self.old.line.items request.count }
+        requires held { is_held request.asked ≡ true }
+        ensures finds { FindsBehind self.old.line.items self.old.reader self.new.reader (S.source source.old) (S.source source.new) result }
+        ensures server { self.new.server ≡ self.old.server }
+        ensures number { self.new.number ≡ self.old.number }
+        ensures tells { (S.source source.new).tells ≡ (S.source source.old).tells }
+        ensures later { (S.source source.old).faults ≤ (S.source source.new).faults }
+        ensures fault { result ≡ Taken.Fault → Rose (S.source source.old).faults (S.source source.new).faults }
+    {
+        let mut body = Vec::new(alloc);
+        match self.reader.read_body(source, request.count, &mut body) {
+            Ok(Passed::Whole) => Taken::Request {
+                asked: request.with_body(body.len() as u64, body),
+                over: false,
+            },
+            Ok(Passed::Short { have }) => Taken::Request {
+                asked: request.with_body(have, body),
+                over: true,
+            },
+            Ok(Passed::Long) => Taken::Long,
+            Err(ReadError::Source) => Taken::Fault,
+            Err(ReadError::Memory) => Taken::Memory,
+        }
+    }
+
+    // Passes over a body that is not held.
+    fn pass_body<S: Source>(&mut self, alloc: Global, source: &mut S, request: Request) -> Taken
+        requires most { self.old.reader.taken ≤ 2 ^ 48 }
+        requires some { is_request self.old.line.items ≡ true }
+        requires asks { (body : List ℕ) → Asks self.old.line.items body (asked_with request.asked body) }
+        requires body { HasBody self.old.line.items request.count }
+        requires not_held { is_held request.asked ≡ false }
+        ensures finds { FindsBehind self.old.line.items self.old.reader self.new.reader (S.source source.old) (S.source source.new) result }
+        ensures server { self.new.server ≡ self.old.server }
+        ensures number { self.new.number ≡ self.old.number }
+        ensures tells { (S.source source.new).tells ≡ (S.source source.old).tells }
+        ensures later { (S.source source.old).faults ≤ (S.source source.new).faults }
+        ensures fault { result ≡ Taken.Fault → Rose (S.source source.old).faults (S.source source.new).faults }
+    {
         match self.reader.pass(source, request.count) {
-            Ok(Passed::Whole) => Taken::Request { asked, over: false },
-            Ok(Passed::Short) => Taken::Request { asked, over: true },
+            Ok(Passed::Whole) => {
+                let have = request.count;
+                Taken::Request {
+                    asked: request.with_body(have, Vec::new(alloc)),
+                    over: false,
+                }
+            }
+            Ok(Passed::Short { have }) => Taken::Request {
+                asked: request.with_body(have, Vec::new(alloc)),
+                over: true,
+            },
             Ok(Passed::Long) => Taken::Long,
             Err(SourceFault) => Taken::Fault,
         }
     }
 }
 
-// What the last line of the input is, which has no body.
+// What the last line of the input is, behind which nothing of a body comes.
 fn last_taken(alloc: Global, line: &[u8]) -> Taken
     ensures { IsLast line.now result }
 {
@@ -145,7 +212,7 @@ fn last_taken(alloc: Global, line: &[u8]) -> Taken
     }
     match read_request(alloc, line) {
         Ok(request) => Taken::Request {
-            asked: request.asked,
+            asked: request.with_body(0, Vec::new(alloc)),
             over: true,
         },
         Err(_) => Taken::Memory,
@@ -167,10 +234,7 @@ fn status_of(stop: Stop) -> Status
         Stop::Disk => Status::DiskFault,
         Stop::Sink => Status::SinkFault,
         Stop::Memory => Status::Memory,
-        Stop::Worn { at } => Status::Worn {
-            what: Wear::Log,
-            at,
-        },
+        Stop::Worn { what, at } => Status::Worn { what, at },
     }
 }
 
@@ -188,9 +252,11 @@ pub(crate) fn serve_all<D: Disk, S: Source, K: Sink, A: Ambient>(
     requires fresh { server.store.cat.numbers.last ≡ 0 }
     requires main_last { (D.disk outside.old.main).last ≤ outside.old.moments }
     requires sink_last { (K.sink sink.old).last ≤ outside.old.moments }
-    requires room { outside.old.moments + 2 ^ 60 < 2 ^ 128 }
-    ensures serves { (found : Cat) → server.store.cat ≡ begun found → grid_of (begun found) ≡ grid_of found → IsTrue (D.disk outside.old.main).tells → IsTrue (S.source source.old).tells →
-        Serves found outside.old.moments (D.disk outside.old.main) (D.disk outside.new.main) (S.source source.old) (S.source source.new) (K.sink sink.old) (K.sink sink.new) result }
+    requires stores_last { EachMember (λ k store. (⟦<Box<dyn Plugin> as Plugin>⟧.plugin store).last ≤ outside.old.moments) outside.old.stores.items }
+    requires slots { server.store.cat.stores ≡ vec_len outside.old.stores }
+    requires room { outside.old.moments + 2 ^ 100 < 2 ^ 128 }
+    ensures serves { (rose : ℕ → Bool) → ((slot : ℕ) → RoseAt ⟦<Box<dyn Plugin> as Plugin>⟧.plugin slot outside.old.stores.items outside.new.stores.items → IsTrue (rose slot)) → (found : Cat) → server.store.cat ≡ begun found → grid_of (begun found) ≡ grid_of found → IsTrue (D.disk outside.old.main).tells → IsTrue (S.source source.old).tells →
+        Serves rose found outside.old.moments (D.disk outside.old.main) (D.disk outside.new.main) (S.source source.old) (S.source source.new) (K.sink sink.old) (K.sink sink.new) result }
     ensures main_goes { Goes outside.old.moments (D.disk outside.old.main) (D.disk outside.new.main) }
     ensures sink_goes { Goes outside.old.moments (K.sink sink.old) (K.sink sink.new) }
     ensures disk { result ≡ Status.DiskFault → Rose (D.disk outside.old.main).faults (D.disk outside.new.main).faults }
@@ -198,9 +264,9 @@ pub(crate) fn serve_all<D: Disk, S: Source, K: Sink, A: Ambient>(
     ensures sink { result ≡ Status.SinkFault → Rose (K.sink sink.old).faults (K.sink sink.new).faults }
     ensures ends { IsServing result }
     ensures source_later { (S.source source.old).faults ≤ (S.source source.new).faults }
+    ensures stores_last { EachMember (λ k store. (⟦<Box<dyn Plugin> as Plugin>⟧.plugin store).last ≤ outside.new.moments) outside.new.stores.items }
+    ensures stores_go { StoresGo ⟦<Box<dyn Plugin> as Plugin>⟧.plugin outside.old.stores.items outside.new.stores.items }
     ensures spare { outside.new.spare ≡ outside.old.spare }
-    ensures stores { outside.new.stores ≡ outside.old.stores }
-    ensures ambient { outside.new.ambient ≡ outside.old.ambient }
 {
     let Ok(mut service) = begin(alloc, server) else {
         return Status::Memory;

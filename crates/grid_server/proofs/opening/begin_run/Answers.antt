@@ -1,35 +1,36 @@
 use Rattle.std.proofs.Common.{◌≡◌, inl, Err, refl, sym, ap, ◌∙◌, subst, arith}
+use Rattle.std.specs.Prelude.{is_ok}
 use Rattle.grid_outside.proofs.Spans.{leaves_start}
-use Rattle.grid_model.specs.Rows.{Cat, IsCat}
+use Rattle.grid_model.specs.Rows.{Cat}
 use Rattle.grid_model.specs.declared.deltas.Numbers.{Numbers}
 use Rattle.grid_journal.specs.Stands.{StandsEither}
 use Rattle.grid_server.specs.declared.opening.BeginError.{BeginError}
 use Rattle.grid_server.specs.Opening.{begun, BeginEnds}
-use Rattle.grid_server.proofs.CarryingLemmas.{keeps_stands, rests_same, rests_where, goes_nowhere, goes_between, of_commit}
+use Rattle.grid_server.proofs.KeepingLemmas.{keeps_stands, rests_same, rests_where, goes_nowhere, goes_between, of_commit}
 use Rattle.grid_server.proofs.OpeningLemmas.{grid_begun, is_begun, begun_well, begun_in_vain}
 use Rattle.grid_server.proofs.opening.begin_run.Goals as goal
 
 pub returns-then-last-clause-begins : goal.returns-then-last-clause-begins
 returns-then-last-clause-begins g c =
-    let main = g.D.Disk.disk c.args.outside.now.main in
+    let main = g.D.Disk.disk c.args.main.now in
     let found = c.args.store.cat in
     let last : c.numbers-last.result ≡ found.numbers = c.numbers-last.ensures ∙ ap (λ (c : Cat). c.numbers) c.tables.ensures in
     record {
-      grid = grid_begun found c.requires.paths c.requires.vault;
+      grid = grid_begun found c.requires.made;
       ends = (rests_same main, ap (λ (n : Numbers). n.run) last, c.if-last.true);
-      main = goes_nowhere c.args.outside.now.moments main;
-      leaves = λ told settled. leaves_start c.args.outside.now.moments (StandsEither found (begun found)) main c.requires.main_last settled (inl (keeps_stands found c.args.store main.holds (c.requires.keeps told)));
+      main = goes_nowhere c.args.moments.now main;
+      leaves = λ told settled. leaves_start c.args.moments.now (StandsEither found (begun found)) main c.requires.main_last settled (inl (keeps_stands found c.args.store main.holds (c.requires.keeps told)));
     }
 
 pub returns-in_default-clause-begins : goal.returns-in_default-clause-begins
 returns-in_default-clause-begins g c =
-    let main = g.D.Disk.disk c.args.outside.now.main in
+    let main = g.D.Disk.disk c.args.main.now in
     let found = c.args.store.cat in
     record {
-      grid = grid_begun found c.requires.paths c.requires.vault;
+      grid = grid_begun found c.requires.made;
       ends = rests_same main;
-      main = goes_nowhere c.args.outside.now.moments main;
-      leaves = λ told settled. leaves_start c.args.outside.now.moments (StandsEither found (begun found)) main c.requires.main_last settled (inl (keeps_stands found c.args.store main.holds (c.requires.keeps told)));
+      main = goes_nowhere c.args.moments.now main;
+      leaves = λ told settled. leaves_start c.args.moments.now (StandsEither found (begun found)) main c.requires.main_last settled (inl (keeps_stands found c.args.store main.holds (c.requires.keeps told)));
     }
 
 pub begin_error_of-requires : goal.begin_error_of-requires
@@ -37,35 +38,37 @@ begin_error_of-requires g c = of_commit c.in-Err.error (λ side at. ((λ e. (c.i
 
 pub returns-in-Ok-commit-clause-begins : goal.returns-in-Ok-commit-clause-begins
 returns-in-Ok-commit-clause-begins g c =
-    let main_old = g.D.Disk.disk c.args.outside.now.main in
+    let main_old = g.D.Disk.disk c.args.main.now in
     let main_new = g.D.Disk.disk c.commit.new.main in
     let store = c.args.store in
-    let is = is_begun store.cat c.requires.paths c.requires.vault c.tables.result.now c.tables.ensures c.numbers-last.result c.numbers-last.ensures c.in-Ok.deltas c.in-Ok.ensures in
+    let is = is_begun store.cat c.requires.made c.tables.result.now c.tables.ensures c.numbers-last.result c.numbers-last.ensures c.in-Ok.deltas c.in-Ok.ensures in
     let done = c.in-Ok-commit.ensures in
     record {
-      grid = grid_begun store.cat c.requires.paths c.requires.vault;
+      grid = grid_begun store.cat c.requires.made;
       ends =
-          begun_well store c.commit.new.self c.in-Ok.deltas main_old main_new c.requires.paths c.requires.vault is done.commits (λ told. done.keeps told store.cat (c.requires.keeps told)) done.span.tells done.settled
-          (let P : Cat → Type 0 = λ x. IsCat x in subst P c.tables-in-Ok-commit.ensures c.in_order.ensures);
-      main = goes_between c.args.outside.now.moments _ _ main_old main_new done.span;
-      leaves = λ told settled. done.any_moment told settled store.cat (begun store.cat) (c.requires.keeps told) is.applied;
+          begun_well store c.commit.new.self c.in-Ok.deltas main_old main_new c.requires.made is done.commits (λ told. done.keeps told store.cat (c.requires.keeps told)) done.span.tells done.settled;
+      main = goes_between c.args.moments.now _ _ main_old main_new done.span;
+      leaves = λ told settled. done.any_moment told settled store.cat (begun store.cat) (c.requires.keeps told) is;
     }
 
 pub returns-in-Err-clause-begins : goal.returns-in-Err-clause-begins
 returns-in-Err-clause-begins g c =
-    let main_old = g.D.Disk.disk c.args.outside.now.main in
+    let main_old = g.D.Disk.disk c.args.main.now in
     let main_new = g.D.Disk.disk c.commit.new.main in
     let store = c.args.store in
-    let is = is_begun store.cat c.requires.paths c.requires.vault c.tables.result.now c.tables.ensures c.numbers-last.result c.numbers-last.ensures c.in-Ok.deltas c.in-Ok.ensures in
+    let is = is_begun store.cat c.requires.made c.tables.result.now c.tables.ensures c.numbers-last.result c.numbers-last.ensures c.in-Ok.deltas c.in-Ok.ensures in
     let done = c.in-Err.ensures in
     let R : BeginError → Type 0 = λ e. BeginEnds store.cat main_old main_new (Err e) in
     record {
-      grid = grid_begun store.cat c.requires.paths c.requires.vault;
+      grid = grid_begun store.cat c.requires.made;
       ends =
           subst R (sym c.begin_error_of.ensures)
           (begun_in_vain store main_old main_new c.in-Err.error (of_commit c.in-Err.error (λ side at. ((λ e. (done.no_other side at).0 (ap Err e)), (λ e. (done.no_other side at).1 (ap Err e)))))
-          (λ ne. rests_where g.D.Disk.disk c.args.outside.now.main c.commit.new.main (done.unchanged c.in-Err.error refl ne).0)
+          (λ ne. rests_where g.D.Disk.disk c.args.main.now c.commit.new.main (done.unchanged c.in-Err.error refl ne).0)
           (λ what at e. (((done.worn what at).0 (ap Err e)).1, omega (arith, ((done.worn what at).0 (ap Err e)).1, ((done.worn what at).0 (ap Err e)).2))) c.requires.keeps);
-      main = goes_between c.args.outside.now.moments _ _ main_old main_new done.span;
-      leaves = λ told settled. done.any_moment told settled store.cat (begun store.cat) (c.requires.keeps told) is.applied;
+      main = goes_between c.args.moments.now _ _ main_old main_new done.span;
+      leaves = λ told settled. done.any_moment told settled store.cat (begun store.cat) (c.requires.keeps told) is;
     }
+
+pub commit-requires-clause-apply : goal.commit-requires-clause-apply
+commit-requires-clause-apply g c = ap is_ok (is_begun c.args.store.cat c.requires.made c.tables.result.now c.tables.ensures c.numbers-last.result c.numbers-last.ensures c.in-Ok.deltas c.in-Ok.ensures)

@@ -1,4 +1,4 @@
-use Rattle.std.proofs.Common.{◌≡◌, ℕ, Err, inl, inr, refl, ap, subst}
+use Rattle.std.proofs.Common.{arith, ◌≡◌, ℕ, Err, inl, inr, refl, ap, subst}
 use Rattle.std.specs.Prelude.{vec_len}
 use Rattle.grid_outside.specs.declared.outside.Wear.TheVariants.{Log}
 use Rattle.grid_journal.specs.declared.error.JournalError.TheVariants as journal
@@ -37,3 +37,15 @@ pub returns-in-Err-Memory-clause-inits : goal.returns-in-Err-Memory-clause-inits
 returns-in-Err-Memory-clause-inits g c =
     let memory = c.in-Err-Memory.field-0-is in
     inr (inr (inr (refl, (c.in-Err-Memory.ensures.unchanged journal.Memory (ap Err memory) (λ e. cc)).0.holds, λ told. refl)))
+
+pub returns-in-Ok-clause-stores_last : goal.returns-in-Ok-clause-stores_last
+returns-in-Ok-clause-stores_last g c = λ k store at. omega (arith, c.requires.stores_last k store at, c.init.ensures.drawn_from, c.say.ensures.drawn_from)
+
+pub returns-in-Err-NotEmpty-clause-stores_last : goal.returns-in-Err-NotEmpty-clause-stores_last
+returns-in-Err-NotEmpty-clause-stores_last g c = λ k store at. omega (arith, c.requires.stores_last k store at, c.init.ensures.drawn_from, c.refuse_start.ensures.drawn_from)
+
+pub returns-in-Err-DiskFault-clause-stores_last : goal.returns-in-Err-DiskFault-clause-stores_last
+returns-in-Err-DiskFault-clause-stores_last g c = λ k store at. omega (arith, c.requires.stores_last k store at, c.init.ensures.drawn_from)
+
+pub returns-in-Err-Memory-clause-stores_last : goal.returns-in-Err-Memory-clause-stores_last
+returns-in-Err-Memory-clause-stores_last g c = λ k store at. omega (arith, c.requires.stores_last k store at, c.init.ensures.drawn_from)

@@ -1,16 +1,12 @@
-use Rattle.std.proofs.Common.{◌≡◌, IsTrue, Err, subst, sym, ap, ◌∙◌, refl}
+use Rattle.std.proofs.Common.{arith, ◌≡◌, IsTrue, Err, subst, sym, ap, ◌∙◌, refl}
 use Rattle.grid_model.specs.Rows.{Cat}
 use Rattle.grid_outside.specs.declared.outside.Wear.TheVariants.{Log}
 use Rattle.grid_model.specs.declared.grid.Side.TheVariants.{Main}
-use Rattle.grid_server.proofs.OpenedLemmas.{paths_made, vault_made}
 use Rattle.grid_server.proofs.RunLemmas.{one_cat, no_both, stands_for, serves_found, unread_fault, unread_memory, refuses_there, refused_at, looked_rests, rests_then, other_stores}
 use Rattle.grid_server.proofs.running.serve.Goals as goal
 
-pub serve_over-requires-clause-paths : goal.serve_over-requires-clause-paths
-serve_over-requires-clause-paths g c = paths_made c.in-Ok.ensures.made.0 c.in-Ok.store.cat c.in-Ok.ensures.made.1
-
-pub serve_over-requires-clause-vault : goal.serve_over-requires-clause-vault
-serve_over-requires-clause-vault g c = vault_made c.in-Ok.ensures.made.0 c.in-Ok.store.cat c.in-Ok.ensures.made.1
+pub serve_over-requires-clause-made : goal.serve_over-requires-clause-made
+serve_over-requires-clause-made g c = c.in-Ok.ensures.made
 
 pub unreachable-requires : goal.unreachable-requires
 unreachable-requires g c = (c.in-Err-NotEmpty.ensures.no_other _ Log _).0 (ap Err c.in-Err-NotEmpty.field-0-is)
@@ -21,14 +17,14 @@ unreachable-requires-in-Err-Worn g c = (c.in-Err-Worn.ensures.no_other Main _ _)
 -- the catalogue was opened
 
 pub returns-in-Ok-clause-serve : goal.returns-in-Ok-clause-serve
-returns-in-Ok-clause-serve g c = λ found told source_told stood stores.
+returns-in-Ok-clause-serve g c rose so = λ found told source_told stood stores.
     let main_old = g.D.Disk.disk c.args.outside.now.main in
     let spare = (g.D.Disk.disk c.args.outside.now.spare).holds in
     let held = c.in-Ok.ensures.stands told spare in
     let same : c.in-Ok.store.cat ≡ found = one_cat main_old.holds spare c.in-Ok.store.cat found held stood in
-    serves_found c.in-Ok.store.cat found c.args.outside.now.moments main_old (g.D.Disk.disk c.open.new.main) (g.D.Disk.disk c.serve_over.new.outside.main) spare (g.S.Source.source c.args.source.now) (g.S.Source.source c.serve_over.new.source)
+    serves_found rose c.in-Ok.store.cat found c.args.outside.now.moments main_old (g.D.Disk.disk c.open.new.main) (g.D.Disk.disk c.serve_over.new.outside.main) spare (g.S.Source.source c.args.source.now) (g.S.Source.source c.serve_over.new.source)
     (g.K.Sink.sink c.args.sink.now) (g.K.Sink.sink c.serve_over.new.sink) c.serve_over.result held stood (c.open.ensures.settled told)
-    (c.serve_over.ensures.serve (subst IsTrue (sym c.open.ensures.looks.tells) told) source_told (ap (λ (c : Cat). c.stores) same ∙ stores))
+    (c.serve_over.ensures.serve rose so (subst IsTrue (sym c.open.ensures.looks.tells) told) source_told (ap (λ (c : Cat). c.stores) same ∙ stores))
 
 pub returns-in-Ok-clause-stores : goal.returns-in-Ok-clause-stores
 returns-in-Ok-clause-stores g c = λ found told stood other.
@@ -50,7 +46,7 @@ returns-in-Ok-clause-refuses g c = λ side place told stood.
 -- there is no catalogue
 
 pub returns-in-Err-NotACatalogue-clause-serve : goal.returns-in-Err-NotACatalogue-clause-serve
-returns-in-Err-NotACatalogue-clause-serve g c = λ found told source_told stood.
+returns-in-Err-NotACatalogue-clause-serve g c rose so = λ found told source_told stood.
     let spare = (g.D.Disk.disk c.args.outside.now.spare).holds in
     absurd (no_both (g.D.Disk.disk c.args.outside.now.main).holds spare found c.in-Err-NotACatalogue.side c.in-Err-NotACatalogue.at stood (c.in-Err-NotACatalogue.ensures.not_a_catalogue c.in-Err-NotACatalogue.side c.in-Err-NotACatalogue.at (ap Err c.in-Err-NotACatalogue.field-0-is) told spare))
 
@@ -77,11 +73,14 @@ returns-in-Err-NotACatalogue-clause-not_a_catalogue g c = λ side place is told.
 -- it was not read
 
 pub returns-in-Err-DiskFault-clause-serve : goal.returns-in-Err-DiskFault-clause-serve
-returns-in-Err-DiskFault-clause-serve g c = λ found told source_told stood stores.
-    unread_fault found c.args.outside.now.moments (g.D.Disk.disk c.args.outside.now.main) (g.D.Disk.disk c.open.new.main) (g.S.Source.source c.args.source.now) (g.K.Sink.sink c.args.sink.now) told c.requires.main_last c.requires.sink_last
+returns-in-Err-DiskFault-clause-serve g c rose so = λ found told source_told stood stores.
+    unread_fault rose found c.args.outside.now.moments (g.D.Disk.disk c.args.outside.now.main) (g.D.Disk.disk c.open.new.main) (g.S.Source.source c.args.source.now) (g.K.Sink.sink c.args.sink.now) told c.requires.main_last c.requires.sink_last
     c.open.ensures.looks (stands_for (g.D.Disk.disk c.args.outside.now.main).holds (g.D.Disk.disk c.args.outside.now.spare).holds found stood)
 
 pub returns-in-Err-Memory-clause-serve : goal.returns-in-Err-Memory-clause-serve
-returns-in-Err-Memory-clause-serve g c = λ found told source_told stood stores.
-    unread_memory found c.args.outside.now.moments (g.D.Disk.disk c.args.outside.now.main) (g.D.Disk.disk c.open.new.main) (g.S.Source.source c.args.source.now) (g.K.Sink.sink c.args.sink.now) told c.requires.main_last c.requires.sink_last
+returns-in-Err-Memory-clause-serve g c rose so = λ found told source_told stood stores.
+    unread_memory rose found c.args.outside.now.moments (g.D.Disk.disk c.args.outside.now.main) (g.D.Disk.disk c.open.new.main) (g.S.Source.source c.args.source.now) (g.K.Sink.sink c.args.sink.now) told c.requires.main_last c.requires.sink_last
     c.open.ensures.looks (stands_for (g.D.Disk.disk c.args.outside.now.main).holds (g.D.Disk.disk c.args.outside.now.spare).holds found stood)
+
+pub returns-in-Err-NotACatalogue-clause-stores_last : goal.returns-in-Err-NotACatalogue-clause-stores_last
+returns-in-Err-NotACatalogue-clause-stores_last g c = λ k store at. omega (arith, c.requires.stores_last k store at, c.refuse.ensures.drawn_from)

@@ -1,14 +1,19 @@
-use Rattle.std.proofs.Common.{◌≡◌, length, IsTrue, arith, refl, sym, subst, ap, ◌∙◌}
+use Rattle.std.proofs.Common.{◌≡◌, ℕ, Bool, true, length, IsTrue, arith, refl, sym, subst, ap, ◌∙◌}
 use Rattle.grid_server.specs.Held.{IsHeld}
 use Rattle.grid_server.specs.declared.server.Server.{Server}
-use Rattle.grid_server.proofs.CarryingLemmas.{goes_nowhere}
+use Rattle.grid_server.proofs.KeepingLemmas.{goes_nowhere, goes_more}
 use Rattle.grid_server.proofs.ServedLemmas.{served_none, next_served, ends_so, ends_at_once}
-use Rattle.grid_server.proofs.TurnLemmas.{counted, serving_so, turn_goes, turn_holds, goes_more}
+use Rattle.grid_server.proofs.TurnLemmas.{counted, serving_so, turn_goes, turn_holds, turn_stores}
+use Rattle.grid_server.proofs.StoresLemmas.{stores_same, stores_more, rose_before, rose_after}
 use Rattle.grid_server.proofs.serving.serve_all.Goals as goal
 
+-- every slot
+abbrev all : ℕ → Bool
+all slot = true
+
 pub returns-in_default-clause-serves : goal.returns-in_default-clause-serves
-returns-in_default-clause-serves g c found cat grid main_told source_told =
-    ends_at_once found c.args.outside.now.moments (g.D.Disk.disk c.args.outside.now.main) (g.S.Source.source c.args.source.now) (g.K.Sink.sink c.args.sink.now) c.args.server main_told c.requires.main_last c.requires.sink_last cat grid c.requires.held
+returns-in_default-clause-serves g c rose so found cat grid main_told source_told =
+    ends_at_once rose found c.args.outside.now.moments (g.D.Disk.disk c.args.outside.now.main) (g.S.Source.source c.args.source.now) (g.K.Sink.sink c.args.sink.now) c.args.server main_told c.requires.main_last c.requires.sink_last cat grid c.requires.held
 
 pub returns-in_default-clause-main_goes : goal.returns-in_default-clause-main_goes
 returns-in_default-clause-main_goes g c = goes_nowhere c.args.outside.now.moments (g.D.Disk.disk c.args.outside.now.main)
@@ -26,8 +31,8 @@ lines-init g c =
     let P : Server → Type 0 = λ s. IsHeld main s in
     let held : IsHeld main c.in-Ok.service.server = subst P (sym new.server) c.requires.held in
     record {
-      served = λ found cat grid main_told source_told.
-          served_none found c.args.outside.now.moments main source sink c.in-Ok.service main_told c.requires.main_last c.requires.sink_last new.unread new.taken new.number (ap (λ (s : Server). s.store.cat) new.server ∙ cat) grid
+      served = λ rose so found cat grid main_told source_told.
+          served_none rose found c.args.outside.now.moments main source sink c.in-Ok.service main_told c.requires.main_last c.requires.sink_last new.unread new.taken new.number (ap (λ (s : Server). s.store.cat) new.server ∙ cat) grid
           (ap (λ (s : Server). s.logged_in) new.server ∙ c.requires.nobody) held;
       held = held;
       main_goes = goes_nowhere c.args.outside.now.moments main;
@@ -42,14 +47,15 @@ lines-init g c =
       few = omega (arith, none, new.number);
       room = omega (arith, none);
       spare = refl;
-      stores = refl;
-      ambient = refl;
+      stores_last = c.requires.stores_last;
+      stores_go = stores_same _ _;
+      slots = ap (λ (s : Server). s.store.cat.stores) new.server ∙ c.requires.slots;
     }
 
 pub lines-smaller : goal.lines-smaller
 lines-smaller g c =
     let so_far = c.lines.invariant in
-    let count = counted c.lines.service c.turn.new.self c.lines.outside.moments _ _ _ _ _ _ _ c.turn.ensures.turns c.in-None.is in
+    let count = counted all c.lines.service c.turn.new.self c.lines.outside.moments _ _ _ _ _ _ _ (c.turn.ensures.turns all (λ slot rose. refl)) c.in-None.is in
     omega (arith, count.ahead, count.most, so_far.within, so_far.most)
 
 pub lines-preserved : goal.lines-preserved
@@ -66,13 +72,14 @@ lines-preserved g c =
     let from = g.S.Source.source c.args.source.now in
     let mid = g.S.Source.source c.lines.source in
     let to = g.S.Source.source c.turn.new.source in
-    let count = counted c.lines.service c.turn.new.self now main_mid main_new mid to sink_mid sink_new _ c.turn.ensures.turns c.in-None.is in
-    let goes = turn_goes c.lines.service c.turn.new.self now main_mid main_new mid to sink_mid sink_new _ c.turn.ensures.turns in
+    let count = counted all c.lines.service c.turn.new.self now main_mid main_new mid to sink_mid sink_new _ (c.turn.ensures.turns all (λ slot rose. refl)) c.in-None.is in
+    let goes = turn_goes all c.lines.service c.turn.new.self now main_mid main_new mid to sink_mid sink_new _ (c.turn.ensures.turns all (λ slot rose. refl)) in
     record {
-      served = λ found cat grid main_told source_told.
-          next_served found since now so_far.drawn_from main_old main_mid from mid sink_old sink_mid c.lines.service (so_far.served found cat grid main_told source_told) (subst IsTrue (sym so_far.main_goes.tells) main_told)
-          (subst IsTrue (sym so_far.source_tells) source_told) (λ sink_told. subst IsTrue (sym so_far.sink_goes.tells) sink_told) c.turn.new.self main_new to sink_new _ c.turn.ensures.turns c.in-None.is;
-      held = turn_holds c.lines.service c.turn.new.self now main_mid main_new mid to sink_mid sink_new _ c.turn.ensures.turns c.in-None.is so_far.held;
+      served = λ rose so found cat grid main_told source_told.
+          next_served rose found since now so_far.drawn_from main_old main_mid from mid sink_old sink_mid c.lines.service (so_far.served rose (λ slot h. so slot (rose_before _ _ _ _ so_far.stores_go c.turn.ensures.stores_go slot h)) found cat grid main_told source_told)
+          (subst IsTrue (sym so_far.main_goes.tells) main_told) (subst IsTrue (sym so_far.source_tells) source_told) (λ sink_told. subst IsTrue (sym so_far.sink_goes.tells) sink_told) so_far.main_last so_far.sink_last c.turn.new.self main_new to sink_new _
+          (c.turn.ensures.turns rose (λ slot h. so slot (rose_after _ _ _ _ so_far.stores_go c.turn.ensures.stores_go slot h))) c.in-None.is;
+      held = turn_holds all c.lines.service c.turn.new.self now main_mid main_new mid to sink_mid sink_new _ (c.turn.ensures.turns all (λ slot rose. refl)) c.in-None.is so_far.held;
       main_goes = goes_more since now main_old main_mid main_new so_far.drawn_from so_far.main_goes goes.0;
       sink_goes = goes_more since now sink_old sink_mid sink_new so_far.drawn_from so_far.sink_goes goes.1;
       source_tells = c.turn.ensures.source_tells ∙ so_far.source_tells;
@@ -85,32 +92,40 @@ lines-preserved g c =
       few = omega (arith, count.ahead, count.number, so_far.few);
       room = omega (arith, count.ahead, so_far.room, c.turn.ensures.drawn);
       spare = c.turn.ensures.spare ∙ so_far.spare;
-      stores = c.turn.ensures.stores ∙ so_far.stores;
-      ambient = c.turn.ensures.ambient ∙ so_far.ambient;
+      stores_last = c.turn.ensures.stores_last;
+      stores_go = stores_more _ _ _ _ so_far.stores_go c.turn.ensures.stores_go;
+      slots = turn_stores all c.lines.service c.turn.new.self now main_mid main_new mid to sink_mid sink_new _ (c.turn.ensures.turns all (λ slot rose. refl)) c.in-None.is ∙ so_far.slots ∙ c.lines.outside.stores.ok.0 ∙ sym c.turn.ensures.stores_go.count ∙ sym c.turn.new.outside.stores.ok.0;
     }
 
 pub returns-in-Some-clause-serves : goal.returns-in-Some-clause-serves
-returns-in-Some-clause-serves g c found cat grid main_told source_told =
+returns-in-Some-clause-serves g c rose so found cat grid main_told source_told =
     let so_far = c.lines.invariant in
-    ends_so found c.args.outside.now.moments c.lines.outside.moments so_far.drawn_from (g.D.Disk.disk c.args.outside.now.main) (g.D.Disk.disk c.lines.outside.main) (g.S.Source.source c.args.source.now) (g.S.Source.source c.lines.source)
-    (g.K.Sink.sink c.args.sink.now) (g.K.Sink.sink c.lines.sink) c.lines.service (so_far.served found cat grid main_told source_told) (subst IsTrue (sym so_far.main_goes.tells) main_told) (subst IsTrue (sym so_far.source_tells) source_told)
-    (λ sink_told. subst IsTrue (sym so_far.sink_goes.tells) sink_told) c.turn.new.self (g.D.Disk.disk c.turn.new.outside.main) (g.S.Source.source c.turn.new.source) (g.K.Sink.sink c.turn.new.sink) _ c.in-Some.status c.turn.ensures.turns c.in-Some.is
+    ends_so rose found c.args.outside.now.moments c.lines.outside.moments so_far.drawn_from (g.D.Disk.disk c.args.outside.now.main) (g.D.Disk.disk c.lines.outside.main) (g.S.Source.source c.args.source.now) (g.S.Source.source c.lines.source)
+    (g.K.Sink.sink c.args.sink.now) (g.K.Sink.sink c.lines.sink) c.lines.service (so_far.served rose (λ slot h. so slot (rose_before _ _ _ _ so_far.stores_go c.turn.ensures.stores_go slot h)) found cat grid main_told source_told) (subst IsTrue (sym so_far.main_goes.tells) main_told) (subst IsTrue (sym so_far.source_tells) source_told)
+    (λ sink_told. subst IsTrue (sym so_far.sink_goes.tells) sink_told) so_far.main_last so_far.sink_last c.turn.new.self (g.D.Disk.disk c.turn.new.outside.main) (g.S.Source.source c.turn.new.source) (g.K.Sink.sink c.turn.new.sink) _ c.in-Some.status
+    (c.turn.ensures.turns rose (λ slot h. so slot (rose_after _ _ _ _ so_far.stores_go c.turn.ensures.stores_go slot h))) c.in-Some.is
 
 pub returns-in-Some-clause-main_goes : goal.returns-in-Some-clause-main_goes
 returns-in-Some-clause-main_goes g c =
     let so_far = c.lines.invariant in
     let goes =
-    turn_goes c.lines.service c.turn.new.self c.lines.outside.moments (g.D.Disk.disk c.lines.outside.main) (g.D.Disk.disk c.turn.new.outside.main) (g.S.Source.source c.lines.source) (g.S.Source.source c.turn.new.source) (g.K.Sink.sink c.lines.sink)
-    (g.K.Sink.sink c.turn.new.sink) _ c.turn.ensures.turns in
+    turn_goes all c.lines.service c.turn.new.self c.lines.outside.moments (g.D.Disk.disk c.lines.outside.main) (g.D.Disk.disk c.turn.new.outside.main) (g.S.Source.source c.lines.source) (g.S.Source.source c.turn.new.source) (g.K.Sink.sink c.lines.sink)
+    (g.K.Sink.sink c.turn.new.sink) _ (c.turn.ensures.turns all (λ slot rose. refl)) in
     goes_more c.args.outside.now.moments c.lines.outside.moments _ _ _ so_far.drawn_from so_far.main_goes goes.0
 
 pub returns-in-Some-clause-sink_goes : goal.returns-in-Some-clause-sink_goes
 returns-in-Some-clause-sink_goes g c =
     let so_far = c.lines.invariant in
     let goes =
-    turn_goes c.lines.service c.turn.new.self c.lines.outside.moments (g.D.Disk.disk c.lines.outside.main) (g.D.Disk.disk c.turn.new.outside.main) (g.S.Source.source c.lines.source) (g.S.Source.source c.turn.new.source) (g.K.Sink.sink c.lines.sink)
-    (g.K.Sink.sink c.turn.new.sink) _ c.turn.ensures.turns in
+    turn_goes all c.lines.service c.turn.new.self c.lines.outside.moments (g.D.Disk.disk c.lines.outside.main) (g.D.Disk.disk c.turn.new.outside.main) (g.S.Source.source c.lines.source) (g.S.Source.source c.turn.new.source) (g.K.Sink.sink c.lines.sink)
+    (g.K.Sink.sink c.turn.new.sink) _ (c.turn.ensures.turns all (λ slot rose. refl)) in
     goes_more c.args.outside.now.moments c.lines.outside.moments _ _ _ so_far.drawn_from so_far.sink_goes goes.1
 
 pub returns-in-Some-clause-ends : goal.returns-in-Some-clause-ends
-returns-in-Some-clause-ends g c = serving_so c.lines.service c.turn.new.self c.lines.outside.moments _ _ _ _ _ _ _ c.turn.ensures.turns c.in-Some.status c.in-Some.is
+returns-in-Some-clause-ends g c = serving_so all c.lines.service c.turn.new.self c.lines.outside.moments _ _ _ _ _ _ _ (c.turn.ensures.turns all (λ slot rose. refl)) c.in-Some.status c.in-Some.is
+
+pub returns-in_default-clause-stores_go : goal.returns-in_default-clause-stores_go
+returns-in_default-clause-stores_go g c = stores_same _ _
+
+pub returns-in-Some-clause-stores_go : goal.returns-in-Some-clause-stores_go
+returns-in-Some-clause-stores_go g c = stores_more _ _ _ _ c.lines.invariant.stores_go c.turn.ensures.stores_go

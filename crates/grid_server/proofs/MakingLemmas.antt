@@ -1,0 +1,93 @@
+-- A new collection: its row fits, and the grid has it.
+use Rattle.std.proofs.Common.{◌≡◌, ℕ, Some, ◌≤◌, List, [], ◌∷◌, ◌++◌, Result, Ok, Err, refl, sym, ap, ◌∙◌, subst, arith}
+use Rattle.std.specs.Prelude.{⊤, nat_lt, nat_le}
+use Rattle.std.proofs.lemmas.Bool.{and_from, lt-ltb, le-leb}
+use Rattle.grid_outside.specs.Disk.{DiskState}
+use Rattle.grid_model.specs.Names.{Text, Path}
+use Rattle.grid_model.specs.Maps.{put}
+use Rattle.grid_model.specs.Grid.{Grid}
+use Rattle.grid_model.specs.Rows.{Cat}
+use Rattle.grid_model.specs.RowPaths.{collection_path}
+use Rattle.grid_model.specs.RowGrids.{grid_of, collection_place}
+use Rattle.grid_model.specs.NewRows.{with_collection_row, IsNewAt}
+use Rattle.grid_model.specs.Applying.{apply, apply_all, where_fits}
+use Rattle.grid_model.specs.Commands.{State, Done, does, made, with_collection}
+use Rattle.grid_model.specs.declared.deltas.CollectionRow.{CollectionRow}
+use Rattle.grid_model.specs.declared.deltas.Numbers.{Numbers}
+use Rattle.grid_model.specs.declared.deltas.Delta.{Delta}
+use Rattle.grid_model.specs.declared.deltas.Delta.TheVariants as delta
+use Rattle.grid_model.proofs.FreePlaces.{collection_fits-new}
+use Rattle.grid_model.proofs.NewCollections.{at_of}
+use Rattle.grid_journal.proofs.DeltaLemmas.{then_all}
+use Rattle.tables_laws.proofs.Grids.{grid-unseen}
+use Rattle.tables_laws.proofs.Places.{place_is}
+use Rattle.tables_laws.proofs.NewCollections.{grid-new_collection}
+use Rattle.grid_server.specs.Held.{state_of, StandsFor, IsMade, IsHeld}
+use Rattle.grid_server.specs.Keeping.{Follows, IsCommitted, Carries, not_kept}
+use Rattle.grid_server.specs.declared.server.Server.{Server}
+use Rattle.grid_server.specs.declared.server.Stop.{Stop}
+use Rattle.grid_server.specs.declared.server.Stop.TheVariants as stop
+use Rattle.grid_server.proofs.OpenedLemmas.{paths_made, vault_made}
+use Rattle.grid_server.proofs.DecidingLemmas.{sound_of}
+use Rattle.grid_server.proofs.KeepingLemmas.{held_stands, goes_nowhere, like_self, quiet_rest, rests_same}
+use Rattle.grid_server.proofs.CarryingLemmas.{carries_commit}
+
+pub done_same : (d e : Done) → does d ≡ does e → d ≡ e
+done_same d e is = cc
+
+module _ (old : Server) (m : IsMade old.store.cat) (row : CollectionRow) (p : Path) (new : IsNewAt old.store.cat row p) (n : ℕ) where
+  abbrev c : Cat
+  c = old.store.cat
+
+  abbrev one : Cat
+  one = with_collection_row c row
+
+  abbrev last : Numbers
+  last = record c.numbers { last = n }
+
+  abbrev pub grown : Cat
+  grown = record one { numbers = last }
+
+  applied_row : apply c (delta.Collection row) ≡ Ok one
+  applied_row = ap (λ b. where_fits b 5 one) (collection_fits-new c (paths_made m.0 c m.1) (sound_of c m).cat row p new)
+
+  applied_last : apply one (delta.Numbers last) ≡ Ok grown
+  applied_last =
+      ap (λ b. where_fits b 19 grown)
+      (and_from (nat_lt 0 c.numbers.next_vault) (nat_le c.numbers.next_vault c.numbers.next_vault) (lt-ltb 0 c.numbers.next_vault (vault_made m.0 c m.1)) (le-leb c.numbers.next_vault c.numbers.next_vault (omega arith)))
+
+  applied_both : apply_all c (delta.Collection row ∷ delta.Numbers last ∷ []) ≡ Ok grown
+  applied_both = ap (then_all (delta.Numbers last ∷ [])) applied_row ∙ ap (then_all []) applied_last
+
+  pub applied_grown : (tables : Cat) → tables ≡ c → (k : Numbers) → k ≡ tables.numbers → (deltas : List Delta) → deltas ≡ delta.Collection row ∷ delta.Numbers (record k { last = n }) ∷ [] → apply_all c deltas ≡ Ok grown
+  applied_grown tables tables_are k k_is deltas deltas_are =
+      let same : k ≡ c.numbers = k_is ∙ ap (λ (x : Cat). x.numbers) tables_are in
+      ap (apply_all c) (deltas_are ∙ ap (λ (x : Numbers). delta.Collection row ∷ delta.Numbers (record x { last = n }) ∷ []) same) ∙ applied_both
+
+  grid_grown : grid_of grown ≡ with_collection (grid_of c) p
+  grid_grown =
+      let above : collection_path c row.parent ≡ Some new.free.above = (at_of c row.parent new.free.above new.free.parent).path in
+      let path : collection_place (collection_path c) row.parent ++ row.name ∷ [] ≡ p = ap (λ (q : Path). q ++ row.name ∷ []) (place_is c row.parent new.free.above above) ∙ sym new.free.path_is in
+      grid-unseen one grown (delta.Numbers last) refl applied_last ∙ grid-new_collection m.0 c one row m.1 new.some_id new.fresh applied_row
+      ∙ ap (λ (q : Path). record (grid_of c) { collections = put (grid_of c).collections q row.inherit }) path ∙ ap (λ b. record (grid_of c) { collections = put (grid_of c).collections p b }) new.plain
+
+  follows : Follows c (made (state_of old) p) n grown
+  follows = record { grid = grid_grown; stores = refl; run = refl; last = refl; pending = refl; same = λ no. absurd (cc) }
+
+  module _ (from : ℕ) (main_old : DiskState) (held : IsHeld main_old old) (main_last : main_old.last ≤ from) where
+    pub carries_grown : (main_new : DiskState) (result : Result ⊤ Stop) (mid : Server) → IsCommitted old grown from main_old main_new result mid → Carries old (made (state_of old) p) n from main_old main_new result mid
+    carries_grown main_new result mid committed =
+        carries_commit old (made (state_of old) p) n from main_old main_new held main_last mid grown result follows refl
+        (ap (λ (g : Grid). (let s : State = record { grid = g; logged_in = old.logged_in } in s)) (sym grid_grown)) committed
+
+    -- memory ran out before anything was done
+    pub carries_unbegun : (mid : Server) → Carries old (made (state_of old) p) n from main_old main_old (Err stop.Memory) mid
+    carries_unbegun mid = record {
+      after = grown;
+      follows = follows;
+      ends = quiet_rest old from main_old main_old held main_last (rests_same main_old);
+      main = goes_nowhere from main_old;
+      leaves = λ told settled t image late left.
+          let P : Text → Type 0 = λ t. StandsFor t c in
+          not_kept c (like_self c) (subst P (sym (settled t image (omega (arith, late, main_last)) left)) (held_stands main_old old held told));
+    }

@@ -1,0 +1,106 @@
+use Rattle.std.proofs.Common.{◌≡◌, ℕ, IsTrue, Ok, Err, ap, subst, arith}
+use Rattle.std.specs.Result.{is_ok}
+use Rattle.grid_server.proofs.StoringLemmas.{first, then, first_applied, then_applied, first_failed, store_failed, between, then_kept, unbegun, one_slot, slot_small, only_slot, stores_went, err_as}
+use Rattle.grid_server.specs.declared.server.Stop.TheVariants.{Disk}
+use Rattle.grid_server.proofs.server.Server.write.Goals as goal
+
+pub returns-in_default-clause-stores : goal.returns-in_default-clause-stores
+returns-in_default-clause-stores g c rose so p leaf body ok word =
+    unbegun c.args.self.now c.args.storing p leaf body ok c.args.now c.args.number c.args.outside.now.moments (g.D.Disk.disk c.args.outside.now.main) c.requires.held c.requires.main_last _ word
+
+pub returns-in_default-begun_deltas-clause-stores : goal.returns-in_default-begun_deltas-clause-stores
+returns-in_default-begun_deltas-clause-stores g c rose so p leaf body ok word =
+    unbegun c.args.self.now c.args.storing p leaf body ok c.args.now c.args.number c.args.outside.now.moments (g.D.Disk.disk c.args.outside.now.main) c.requires.held c.requires.main_last _ word
+
+pub commit-requires-clause-apply : goal.commit-requires-clause-apply
+commit-requires-clause-apply g c =
+    let d = c.requires.decided in
+    ap is_ok
+    (first_applied c.args.self.now c.args.storing d.0 d.1 d.2 d.3 c.args.now c.args.number c.args.outside.now.moments (g.D.Disk.disk c.args.outside.now.main) c.requires.held c.requires.main_last c.tables.result.now c.tables.ensures c.numbers-numbers.result c.numbers-numbers.ensures
+    c.in-Ok-begun_deltas.begun c.in-Ok-begun_deltas.ensures.changes)
+
+pub returns-in-Err-clause-stores : goal.returns-in-Err-clause-stores
+returns-in-Err-clause-stores g c rose so p leaf body ok word =
+    first_failed c.args.self.now c.args.storing p leaf body ok c.args.now c.args.number c.args.outside.now.moments (g.D.Disk.disk c.args.outside.now.main) c.requires.held c.requires.main_last (g.D.Disk.disk c.commit.new.main) c.commit.new.self c.in-Err.stop
+    (c.in-Err.ensures.committed (first c.args.self.now c.args.storing p leaf body ok c.args.now c.args.number c.args.outside.now.moments (g.D.Disk.disk c.args.outside.now.main) c.requires.held c.requires.main_last)
+    (first_applied c.args.self.now c.args.storing p leaf body ok c.args.now c.args.number c.args.outside.now.moments (g.D.Disk.disk c.args.outside.now.main) c.requires.held c.requires.main_last c.tables.result.now c.tables.ensures c.numbers-numbers.result c.numbers-numbers.ensures
+    c.in-Ok-begun_deltas.begun c.in-Ok-begun_deltas.ensures.changes)) word
+
+pub write_all-requires-clause-slots : goal.write_all-requires-clause-slots
+write_all-requires-clause-slots g c =
+    let d = c.requires.decided in
+    let small = slot_small c.args.self.now c.args.storing d.0 d.1 d.2 d.3 c.args.now c.args.number c.args.outside.now.moments (g.D.Disk.disk c.args.outside.now.main) c.requires.held c.requires.main_last in
+    one_slot (record { slot = c.args.storing.slot; name = c.numbers-numbers.result.next_vault }) c.in-Ok.files _ c.in-Ok.ensures (omega (arith, small, c.requires.slots))
+
+pub returns-in-Err-write_all-clause-stores : goal.returns-in-Err-write_all-clause-stores
+returns-in-Err-write_all-clause-stores g c rose so p leaf body ok =
+    let same : c.in-Err-write_all.fault.slot ≡ c.args.storing.slot = only_slot (record { slot = c.args.storing.slot; name = c.numbers-numbers.result.next_vault }) c.in-Ok.files c.in-Err-write_all.fault.slot c.in-Ok.ensures c.in-Err-write_all.ensures.slot in
+    let R : ℕ → Type 0 = λ s. IsTrue (rose s) in (
+      same,
+      subst R same (so c.in-Err-write_all.fault.slot c.in-Err-write_all.ensures.cause),
+      store_failed c.args.self.now c.args.storing p leaf body ok c.args.now c.args.number c.args.outside.now.moments (g.D.Disk.disk c.args.outside.now.main) c.requires.held c.requires.main_last (g.D.Disk.disk c.commit.new.main) c.commit.new.self
+          (c.in-Ok-commit.ensures.committed (first c.args.self.now c.args.storing p leaf body ok c.args.now c.args.number c.args.outside.now.moments (g.D.Disk.disk c.args.outside.now.main) c.requires.held c.requires.main_last)
+          (first_applied c.args.self.now c.args.storing p leaf body ok c.args.now c.args.number c.args.outside.now.moments (g.D.Disk.disk c.args.outside.now.main) c.requires.held c.requires.main_last c.tables.result.now c.tables.ensures c.numbers-numbers.result c.numbers-numbers.ensures
+          c.in-Ok-begun_deltas.begun c.in-Ok-begun_deltas.ensures.changes)),
+    )
+
+pub returns-in-Err-write_all-clause-stores_go : goal.returns-in-Err-write_all-clause-stores_go
+returns-in-Err-write_all-clause-stores_go g c = stores_went _ _ _ _ _ _ c.in-Err-write_all.ensures.any_moment
+
+pub returns-in_default-stored_deltas-clause-stores : goal.returns-in_default-stored_deltas-clause-stores
+returns-in_default-stored_deltas-clause-stores g c rose so p leaf body ok word =
+    between c.args.self.now c.args.storing p leaf body ok c.args.now c.args.number c.args.outside.now.moments (g.D.Disk.disk c.args.outside.now.main) c.requires.held c.requires.main_last (g.D.Disk.disk c.commit.new.main) c.commit.new.self
+    (c.in-Ok-commit.ensures.committed (first c.args.self.now c.args.storing p leaf body ok c.args.now c.args.number c.args.outside.now.moments (g.D.Disk.disk c.args.outside.now.main) c.requires.held c.requires.main_last)
+    (first_applied c.args.self.now c.args.storing p leaf body ok c.args.now c.args.number c.args.outside.now.moments (g.D.Disk.disk c.args.outside.now.main) c.requires.held c.requires.main_last c.tables.result.now c.tables.ensures c.numbers-numbers.result c.numbers-numbers.ensures
+    c.in-Ok-begun_deltas.begun c.in-Ok-begun_deltas.ensures.changes)) word
+
+pub returns-in_default-stored_deltas-clause-stores_go : goal.returns-in_default-stored_deltas-clause-stores_go
+returns-in_default-stored_deltas-clause-stores_go g c = stores_went _ _ _ _ _ _ c.in-Ok-write_all.ensures.any_moment
+
+pub commit-requires-2-clause-held : goal.commit-requires-2-clause-held
+commit-requires-2-clause-held g c =
+    let d = c.requires.decided in
+    (c.in-Ok-commit.ensures.committed (first c.args.self.now c.args.storing d.0 d.1 d.2 d.3 c.args.now c.args.number c.args.outside.now.moments (g.D.Disk.disk c.args.outside.now.main) c.requires.held c.requires.main_last)
+    (first_applied c.args.self.now c.args.storing d.0 d.1 d.2 d.3 c.args.now c.args.number c.args.outside.now.moments (g.D.Disk.disk c.args.outside.now.main) c.requires.held c.requires.main_last c.tables.result.now c.tables.ensures c.numbers-numbers.result c.numbers-numbers.ensures
+    c.in-Ok-begun_deltas.begun c.in-Ok-begun_deltas.ensures.changes)).ends.0
+
+pub commit-requires-2-clause-apply : goal.commit-requires-2-clause-apply
+commit-requires-2-clause-apply g c =
+    let d = c.requires.decided in
+    let committed = c.in-Ok-commit.ensures.committed (first c.args.self.now c.args.storing d.0 d.1 d.2 d.3 c.args.now c.args.number c.args.outside.now.moments (g.D.Disk.disk c.args.outside.now.main) c.requires.held c.requires.main_last)
+    (first_applied c.args.self.now c.args.storing d.0 d.1 d.2 d.3 c.args.now c.args.number c.args.outside.now.moments (g.D.Disk.disk c.args.outside.now.main) c.requires.held c.requires.main_last c.tables.result.now c.tables.ensures c.numbers-numbers.result c.numbers-numbers.ensures
+    c.in-Ok-begun_deltas.begun c.in-Ok-begun_deltas.ensures.changes) in
+    ap is_ok
+    (then_applied c.args.self.now c.args.storing d.0 d.1 d.2 d.3 c.args.now c.args.number c.args.outside.now.moments (g.D.Disk.disk c.args.outside.now.main) c.requires.held c.requires.main_last c.tables.result.now c.tables.ensures c.numbers-numbers.result c.numbers-numbers.ensures
+    c.commit.new.self.store.cat committed.ends.1 c.in-Ok-stored_deltas.kept c.in-Ok-stored_deltas.ensures.changes)
+
+pub returns-in-Ok-commit-2-clause-stores : goal.returns-in-Ok-commit-2-clause-stores
+returns-in-Ok-commit-2-clause-stores g c rose so p leaf body ok word =
+    let committed = c.in-Ok-commit.ensures.committed (first c.args.self.now c.args.storing p leaf body ok c.args.now c.args.number c.args.outside.now.moments (g.D.Disk.disk c.args.outside.now.main) c.requires.held c.requires.main_last)
+    (first_applied c.args.self.now c.args.storing p leaf body ok c.args.now c.args.number c.args.outside.now.moments (g.D.Disk.disk c.args.outside.now.main) c.requires.held c.requires.main_last c.tables.result.now c.tables.ensures c.numbers-numbers.result c.numbers-numbers.ensures
+    c.in-Ok-begun_deltas.begun c.in-Ok-begun_deltas.ensures.changes) in
+    then_kept c.args.self.now c.args.storing p leaf body ok c.args.now c.args.number c.args.outside.now.moments (g.D.Disk.disk c.args.outside.now.main) c.requires.held c.requires.main_last (g.D.Disk.disk c.commit.new.main) c.commit.new.self committed
+    c.write_all.new.moments (omega (arith, c.in-Ok-commit.ensures.drawn_from, c.in-Ok-write_all.ensures.drawn_from)) (omega (arith, c.in-Ok-commit.ensures.main_last, c.in-Ok-write_all.ensures.drawn_from)) (g.D.Disk.disk c.commit-2.new.main) c.commit-2.new.self (Ok tt)
+    (c.in-Ok-commit-2.ensures.committed (then c.args.self.now c.args.storing p leaf body ok c.args.now c.args.number c.args.outside.now.moments (g.D.Disk.disk c.args.outside.now.main) c.requires.held c.requires.main_last)
+    (then_applied c.args.self.now c.args.storing p leaf body ok c.args.now c.args.number c.args.outside.now.moments (g.D.Disk.disk c.args.outside.now.main) c.requires.held c.requires.main_last c.tables.result.now c.tables.ensures c.numbers-numbers.result c.numbers-numbers.ensures
+    c.commit.new.self.store.cat committed.ends.1 c.in-Ok-stored_deltas.kept c.in-Ok-stored_deltas.ensures.changes)) word
+
+pub returns-in-Ok-commit-2-clause-stores_go : goal.returns-in-Ok-commit-2-clause-stores_go
+returns-in-Ok-commit-2-clause-stores_go g c = stores_went _ _ _ _ _ _ c.in-Ok-write_all.ensures.any_moment
+
+pub returns-clause-stores : goal.returns-clause-stores
+returns-clause-stores g c rose so p leaf body ok word =
+    let committed = c.in-Ok-commit.ensures.committed (first c.args.self.now c.args.storing p leaf body ok c.args.now c.args.number c.args.outside.now.moments (g.D.Disk.disk c.args.outside.now.main) c.requires.held c.requires.main_last)
+    (first_applied c.args.self.now c.args.storing p leaf body ok c.args.now c.args.number c.args.outside.now.moments (g.D.Disk.disk c.args.outside.now.main) c.requires.held c.requires.main_last c.tables.result.now c.tables.ensures c.numbers-numbers.result c.numbers-numbers.ensures
+    c.in-Ok-begun_deltas.begun c.in-Ok-begun_deltas.ensures.changes) in
+    then_kept c.args.self.now c.args.storing p leaf body ok c.args.now c.args.number c.args.outside.now.moments (g.D.Disk.disk c.args.outside.now.main) c.requires.held c.requires.main_last (g.D.Disk.disk c.commit.new.main) c.commit.new.self committed
+    c.write_all.new.moments (omega (arith, c.in-Ok-commit.ensures.drawn_from, c.in-Ok-write_all.ensures.drawn_from)) (omega (arith, c.in-Ok-commit.ensures.main_last, c.in-Ok-write_all.ensures.drawn_from)) (g.D.Disk.disk c.commit-2.new.main) c.commit-2.new.self (Err c.in-Err-commit.stop)
+    (c.in-Err-commit.ensures.committed (then c.args.self.now c.args.storing p leaf body ok c.args.now c.args.number c.args.outside.now.moments (g.D.Disk.disk c.args.outside.now.main) c.requires.held c.requires.main_last)
+    (then_applied c.args.self.now c.args.storing p leaf body ok c.args.now c.args.number c.args.outside.now.moments (g.D.Disk.disk c.args.outside.now.main) c.requires.held c.requires.main_last c.tables.result.now c.tables.ensures c.numbers-numbers.result c.numbers-numbers.ensures
+    c.commit.new.self.store.cat committed.ends.1 c.in-Ok-stored_deltas.kept c.in-Ok-stored_deltas.ensures.changes)) word
+
+pub returns-clause-stores_go : goal.returns-clause-stores_go
+returns-clause-stores_go g c = stores_went _ _ _ _ _ _ c.in-Ok-write_all.ensures.any_moment
+
+pub returns-clause-disk : goal.returns-clause-disk
+returns-clause-disk g c e = omega (arith, c.in-Err-commit.ensures.disk (err_as c.in-Err-commit.stop Disk e), c.in-Ok-commit.ensures.later)
