@@ -1,0 +1,12 @@
+mod beginning;
+mod bytes_of_main;
+mod catalogues;
+mod disk_faults;
+mod files;
+mod lines;
+mod makings;
+mod playing;
+mod runs;
+mod sinks;
+mod sources;
+mod stops;

@@ -1,0 +1,90 @@
+// Disks that fail.
+use super::playing::{Outcome, PLAIN, SERVE, Setting, begun, compare, done, goes_on, play};
+use grid_server::Status;
+use std::alloc::Global;
+use std::process::Abort;
+use std::test::Fail;
+
+const INPUT: &[u8] =
+    b"0 login rods\n0 mkdir /tempZone/home/rods/a\n0 mkdir /\n0 mkdir /tempZone/home/rods/a/b\n";
+
+const A: &[u8] = b"/tempZone/home/rods/a\n";
+
+const A_AND_B: &[u8] = b"/tempZone/home/rods/a\n/tempZone/home/rods/a/b\n";
+
+// What is answered before the second record, before the third, and in all.
+const FIRST: &[u8] = b"1 ok\n";
+
+const SECOND: &[u8] = b"1 ok\n2 ok\n3 err Exists\n";
+
+const ALL: &[u8] = b"1 ok\n2 ok\n3 err Exists\n4 ok\n";
+
+// A run that a disk ends, with what was answered, and what is kept.
+fn fails<'a>(replies: &'a [u8], run: u64, last: u64, paths: &'a [u8]) -> Outcome<'a> {
+    Outcome {
+        status: Status::DiskFault,
+        replies,
+        run,
+        last,
+        paths,
+    }
+}
+
+// Serves over a main disk whose call of this number fails, compares how the run ends and what is kept, and serves once
+// more over what is left: what was acknowledged is there, and what was not may be.
+fn serves_again(
+    rt: &impl Abort,
+    alloc: Global,
+    new: &[u8],
+    call: u64,
+    wanted: Outcome<'_>,
+) -> Result<(), Fail> {
+    let setting = Setting {
+        main_fails: call,
+        ..PLAIN
+    };
+    let played = play(rt, alloc, SERVE, new, INPUT, setting)?;
+    let main = compare(rt, alloc, played, wanted)?;
+    goes_on(rt, alloc, &main, wanted.run, wanted.paths)
+}
+
+#[test]
+fn a_disk_may_fail_at_each_call(rt: HostRuntime) -> Result<(), Fail> {
+    let alloc = rt.alloc();
+    let new = begun(alloc)?;
+    // The catalogue is read with three calls. Then a record of the run and one of each collection is added, each with
+    // four: it is written behind the closing gate and synced, and the gate is opened and synced. It is kept from the
+    // opening on.
+    for (call, replies, run, last, paths) in [
+        (1, b"".as_slice(), 0, 0, b"".as_slice()),
+        (2, b"", 0, 0, b""),
+        (3, b"", 0, 0, b""),
+        (4, b"", 0, 0, b""),
+        (5, b"", 0, 0, b""),
+        (6, b"", 0, 0, b""),
+        (7, b"", 1, 0, b""),
+        (8, FIRST, 1, 0, b""),
+        (9, FIRST, 1, 0, b""),
+        (10, FIRST, 1, 0, b""),
+        (11, FIRST, 1, 2, A),
+        (12, SECOND, 1, 2, A),
+        (13, SECOND, 1, 2, A),
+        (14, SECOND, 1, 2, A),
+        (15, SECOND, 1, 4, A_AND_B),
+    ] {
+        serves_again(&rt, alloc, &new, call, fails(replies, run, last, paths))?;
+    }
+    serves_again(&rt, alloc, &new, 16, done(1, ALL, 4, A_AND_B))
+}
+
+#[test]
+fn spare_is_not_asked(rt: HostRuntime) -> Result<(), Fail> {
+    let alloc = rt.alloc();
+    let setting = Setting {
+        spare_fails: 1,
+        ..PLAIN
+    };
+    let played = play(&rt, alloc, SERVE, &begun(alloc)?, INPUT, setting)?;
+    compare(&rt, alloc, played, done(1, ALL, 4, A_AND_B))?;
+    Ok(())
+}
