@@ -206,6 +206,18 @@ fn a_large_body_is_sent_in_parts(rt: HostRuntime) -> Result<(), Fail> {
 }
 
 #[test]
+fn the_largest_body_is_put(rt: HostRuntime) -> Result<(), Fail> {
+    let alloc = rt.alloc();
+    let new = begun(alloc)?;
+    let mut input = b"0 login rods\n0 put /f d0 new 16777216\n".to_vec(alloc)?;
+    add_bytes(&mut input, 16_777_216)?;
+    input.extend_from_slice(b"0 put /f d0 new 0\n")?;
+    let replies = b"1 ok\n2 mark ran 0 1000\n2 ok\n3 err Exists\n";
+    serves_on(&rt, alloc, &new, &input, 0, done(1, replies, 2, b"/f\n"))?;
+    Ok(())
+}
+
+#[test]
 fn a_body_that_is_too_large_is_passed_over(rt: HostRuntime) -> Result<(), Fail> {
     let alloc = rt.alloc();
     let new = begun(alloc)?;
