@@ -4,15 +4,16 @@ ghost use Rattle.grid_outside.specs.Device.{EachMember};
 use crate::{Moments, Plugin};
 use std::alloc::AllocError;
 
-/// The devices that a run works on. Source and sink are handed in beside it.
+/// The devices that a run works on, with stores of one type, which are boxed ones where nothing else is said. Source
+/// and sink are handed in beside it.
 #[derive(Drop)]
-pub struct Outside<D, A> {
+pub struct Outside<D, A, P = Box<dyn Plugin>> {
     /// The disk that has the catalogue, or the root that says where it stands.
     pub main: D,
     /// The other disk.
     pub spare: D,
     /// A slot is a place in this list, counted from 0.
-    pub stores: Vec<Box<dyn Plugin>>,
+    pub stores: Vec<P>,
     pub ambient: A,
     pub moments: Moments,
 }

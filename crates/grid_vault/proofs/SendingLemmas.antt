@@ -1,5 +1,5 @@
 -- How a file is sent part by part.
-use Rattle.std.proofs.Common.{◌≡◌, inl, inr, ℕ, ◌+◌, ◌-◌, ◌*◌, ◌^◌, ◌<◌, ◌≤◌, true, false, IsTrue, List, [], ◌++◌, Some, min, length, take, drop, arith, refl, sym, subst, ap, ◌∙◌, length-append, take-add, Result, Ok, Err, OnErr}
+use Rattle.std.proofs.Common.{◌≡◌, ◌⊎◌, inl, inr, Bool, ℕ, ◌+◌, ◌-◌, ◌*◌, ◌^◌, ◌<◌, ◌≤◌, true, false, IsTrue, List, [], ◌++◌, Some, min, length, take, drop, arith, refl, sym, subst, ap, ◌∙◌, length-append, take-add, Result, Ok, Err, OnErr}
 use Rattle.std.proofs.Math.Seq.{take-append-add}
 use Rattle.std.proofs.lemmas.List.{take-take, take_all, length-take, length-take-le, append-nil, take-append-le}
 use Rattle.std.proofs.lemmas.Bool.{cases_lt}
@@ -10,7 +10,7 @@ use Rattle.grid_outside.specs.Sink.{SinkState}
 use Rattle.grid_model.specs.DataLines.{data_lines, parts}
 use Rattle.grid_model.specs.declared.plans.OldFile.{OldFile}
 use Rattle.grid_vault.specs.Reading.{IsPartOf, ReadsOn, IsAsRecorded}
-use Rattle.grid_vault.specs.Sending.{Puts, PutsAll, BeginsWith, IsReadOf, IsWhole, Answers, Sends, Breaks, SaysOf}
+use Rattle.grid_vault.specs.Sending.{Puts, PutsAll, BeginsWith, IsReadOf, IsWhole, Answers, Sends, IsCutShort, Breaks, SaysOf}
 use Rattle.grid_vault.specs.declared.reading.Part.{Part}
 use Rattle.grid_vault.specs.declared.reading.FileReader.{FileReader}
 use Rattle.grid_vault.specs.declared.sent.Sent.{Sent}
@@ -146,11 +146,32 @@ module _ (store : StoreState) (from now : ℕ) (recorded : OldFile) (number : �
           let P : List ℕ → Type 0 = λ bytes. Puts from now' bytes old new in
           subst P lines_are (puts_on from now now' (data_lines number so_far.sent) (data_lines number (take part.count shown)) old mid new (omega (arith, so_far.drawn)) later so_far.lines puts)
 
+      -- a file that ended with this part, short of the recorded size
+      short_of : part.is_last ≡ true → length all_sent < recorded.size → IsCutShort store recorded all_sent
+      short_of last fewer = record {
+        fewer = fewer;
+        of_file = λ tells.
+            let piece = part_of tells in
+            let front = front_of tells part.count (omega (arith, reads.count)) piece.file piece.is in
+            let all : length piece.file.bytes ≤ length all_sent = omega (arith, piece.last last, piece.within, reads.count, sent_len, fewer, so_far.read) in
+            record { file = piece.file; is = piece.is; bytes_are = sym (front.1 ∙ take_all (length all_sent) piece.file.bytes all) };
+      }
+
+      parts_of : (b : Bool) → part.is_last ≡ b → (length all_sent ≡ min ((count + 1) * 65536) recorded.size) ⊎ IsCutShort store recorded all_sent
+      parts_of false goes =
+          let whole = reads.goes_on goes in
+          inl (omega (arith, sent_len, so_far.size, so_far.read, reads.count, reads.read, whole.0, whole.1))
+      parts_of true last = elim (cases_lt (length all_sent) recorded.size) [
+        | inl fewer ↦ inr (short_of last fewer)
+        | inr all ↦ inl (omega (arith, all, sent_len, so_far.size, so_far.read, so_far.within, reads.count, reads.count_within))
+      ]
+
       -- the sink failed
       pub breaks : Breaks store from now' recorded number old new
       breaks = record {
         sent = all_sent;
-        size = omega (arith, sent_len, reads.count, so_far.read, so_far.within);
+        count = count + 1;
+        whole_parts = parts_of part.is_last refl;
         lines = lines_part;
         of_file = begins;
       }

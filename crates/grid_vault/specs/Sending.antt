@@ -1,5 +1,5 @@
 -- What a file that is read and put on a sink as data lines leaves of the sink and the stores, and what each answer says.
-use Rattle.std.specs.Prelude.{◌≡◌, ℕ, ◌+◌, ◌*◌, ◌^◌, ◌<◌, ◌≤◌, List, ◌++◌, min, length, take, slice_get, Some, IsTrue}
+use Rattle.std.specs.Prelude.{◌≡◌, ◌⊎◌, ℕ, ◌+◌, ◌*◌, ◌^◌, ◌<◌, ◌≤◌, List, ◌++◌, min, length, take, slice_get, Some, IsTrue}
 use Rattle.sha2.specs.Sha256.{sha256}
 use Rattle.grid_outside.specs.Device.{Between, Looks, Leaves, IsSettled, Span, EachPair}
 use Rattle.grid_outside.specs.Files.{File, Files, StoreState, file_at}
@@ -85,10 +85,17 @@ pub record Sends (store : StoreState) (from to : ℕ) (recorded : OldFile) (numb
   pub lines : PutsAll from to (data_lines number sent) old new
   pub answers : Answers store recorded sent answer
 
--- Some bytes were to be sent as data lines, and the sink took a first part of these.
+-- These bytes are fewer than are recorded, and over a store that tells they are the file.
+pub record IsCutShort (store : StoreState) (recorded : OldFile) (sent : List ℕ) : Type 0 where
+  pub fewer : length sent < recorded.size
+  pub of_file : IsTrue store.tells → HoldsBytes recorded.name sent store.holds
+
+-- Some bytes were to be sent as data lines, so many whole parts or all that is recorded, or all of a file that is too short, and
+-- the sink took a first part of these.
 pub record Breaks (store : StoreState) (from to : ℕ) (recorded : OldFile) (number : ℕ) (old new : SinkState) : Type 0 where
   pub sent : List ℕ
-  pub size : length sent ≤ recorded.size
+  pub count : ℕ
+  pub whole_parts : (length sent ≡ min (count * part_size) recorded.size) ⊎ IsCutShort store recorded sent
   pub lines : Puts from to (data_lines number sent) old new
   pub of_file : IsTrue store.tells → BeginsWith recorded.name sent store.holds
 

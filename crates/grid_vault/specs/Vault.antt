@@ -1,4 +1,4 @@
--- What the calls of the vault leave of the stores, which are a list by slot.
+-- What the calls of the vault leave of the stores, which are a list by slot. The rules are this project's own.
 use Rattle.std.specs.Prelude.{◌≡◌, ℕ, List, slice_get, Some, IsTrue}
 use Rattle.grid_outside.specs.Device.{Span}
 use Rattle.grid_outside.specs.Fault.{Rose}
@@ -37,7 +37,7 @@ module _ {B : Type 0} (state : B → StoreState) where
   abbrev pub RemovesOne : ℕ → ℕ → NewFile → List B → List B → Type 0
   RemovesOne from to file old new = Span state from to (λ slot. Removes file.name) (λ slot. slot ≡ file.slot) old new
 
-  -- the count of this slot rose
+  -- the count of the store in this slot rose; of a slot without a store this says nothing
   abbrev pub RoseAt : ℕ → List B → List B → Type 0
   RoseAt slot old new = (before after : B) → slice_get old slot ≡ Some before → slice_get new slot ≡ Some after → Rose (state before).faults (state after).faults
 

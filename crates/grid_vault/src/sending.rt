@@ -104,8 +104,14 @@ fn part_buffer(alloc: Global) -> Result<Vec<u8>, AllocError>
     Ok(vec![in alloc; 0; ROOM]?)
 }
 
-// The same for stores of any one type.
-fn send_in<P: Plugin, K: Sink>(
+/// Reads a file part by part and puts each part of at most 65,536 bytes on the sink as a data line of the reply to
+/// the request of this number. What was read is compared with the recorded size and digest.
+///
+/// A byte past the recorded size is read and not sent, and never more than 2^61 - 1 bytes are read. The slot is below
+/// the number of stores, and no device was given a moment past those drawn. Draws at most one moment for each part of
+/// the recorded size. Errors are `Memory`, which comes before any call of a device, and `Sink`, after which a first
+/// part of the data lines stands.
+pub fn send<P: Plugin, K: Sink>(
     alloc: Global,
     stores: &mut Vec<P>,
     moments: &mut Moments,
@@ -117,15 +123,20 @@ fn send_in<P: Plugin, K: Sink>(
     requires last { EachMember (λ k store. (P.plugin store).last ≤ moments.old) stores.old.items }
     requires sink_last { (K.sink sink.old).last ≤ moments.old }
     requires room { moments.old + parts from.now.size < 2 ^ 128 }
+
+    // Which bytes were added to the sink, and what the answer says of them.
     ensures sent { IfOk result (λ sent. AtSlot P.plugin from.now.slot stores.old.items (λ store.
         Sends store moments.old moments.new from.now number (K.sink sink.old) (K.sink sink.new) sent)) }
     ensures broken { IsErrOf result SendError.Sink → AtSlot P.plugin from.now.slot stores.old.items (λ store.
         Breaks store moments.old moments.new from.now number (K.sink sink.old) (K.sink sink.new)) }
     ensures unchanged { IsErrOf result SendError.Memory →
         (sink.new ≡ sink.old) × (stores.new.items ≡ stores.old.items) × (moments.new ≡ moments.old) }
+
+    // At each moment each store has what it had.
     ensures any_moment { AllKeep P.plugin moments.old moments.new from.now.slot stores.old.items stores.new.items }
     ensures last { EachMember (λ k store. (P.plugin store).last ≤ moments.new) stores.new.items }
     ensures sink_last { (K.sink sink.new).last ≤ moments.new }
+
     ensures fault { IfOk result (λ sent. OnFault sent (RoseAt P.plugin from.now.slot stores.old.items stores.new.items)) }
     ensures cause { IsErrOf result SendError.Sink → Rose (K.sink sink.old).faults (K.sink sink.new).faults }
     ensures drawn_from { moments.old ≤ moments.new }
@@ -139,45 +150,4 @@ fn send_in<P: Plugin, K: Sink>(
         Ok(sent) => Ok(sent),
         Err(SinkFault) => Err(SendError::Sink),
     }
-}
-
-/// Reads a file part by part and puts each part of at most 65,536 bytes on the sink as a data line of the reply to
-/// the request of this number. What was read is compared with the recorded size and digest.
-///
-/// A byte past the recorded size is read and not sent, and never more than 2^61 - 1 bytes are read. The slot is below
-/// the number of stores, and no device was given a moment past those drawn. Draws at most one moment for each part of
-/// the recorded size. Errors are `Memory`, which comes before any call of a device, and `Sink`, after which a first
-/// part of the data lines stands.
-pub fn send<K: Sink>(
-    alloc: Global,
-    stores: &mut Vec<Box<dyn Plugin>>,
-    moments: &mut Moments,
-    from: &OldFile,
-    number: u64,
-    sink: &mut K,
-) -> Result<Sent, SendError>
-    requires slot { from.now.slot < vec_len stores.old }
-    requires last { EachMember (λ k store. (⟦<Box<dyn Plugin> as Plugin>⟧.plugin store).last ≤ moments.old) stores.old.items }
-    requires sink_last { (K.sink sink.old).last ≤ moments.old }
-    requires room { moments.old + parts from.now.size < 2 ^ 128 }
-
-    // Which bytes were added to the sink, and what the answer says of them.
-    ensures sent { IfOk result (λ sent. AtSlot ⟦<Box<dyn Plugin> as Plugin>⟧.plugin from.now.slot stores.old.items (λ store.
-        Sends store moments.old moments.new from.now number (K.sink sink.old) (K.sink sink.new) sent)) }
-    ensures broken { IsErrOf result SendError.Sink → AtSlot ⟦<Box<dyn Plugin> as Plugin>⟧.plugin from.now.slot stores.old.items (λ store.
-        Breaks store moments.old moments.new from.now number (K.sink sink.old) (K.sink sink.new)) }
-    ensures unchanged { IsErrOf result SendError.Memory →
-        (sink.new ≡ sink.old) × (stores.new.items ≡ stores.old.items) × (moments.new ≡ moments.old) }
-
-    // At each moment each store has what it had.
-    ensures any_moment { AllKeep ⟦<Box<dyn Plugin> as Plugin>⟧.plugin moments.old moments.new from.now.slot stores.old.items stores.new.items }
-    ensures last { EachMember (λ k store. (⟦<Box<dyn Plugin> as Plugin>⟧.plugin store).last ≤ moments.new) stores.new.items }
-    ensures sink_last { (K.sink sink.new).last ≤ moments.new }
-
-    ensures fault { IfOk result (λ sent. OnFault sent (RoseAt ⟦<Box<dyn Plugin> as Plugin>⟧.plugin from.now.slot stores.old.items stores.new.items)) }
-    ensures cause { IsErrOf result SendError.Sink → Rose (K.sink sink.old).faults (K.sink sink.new).faults }
-    ensures drawn_from { moments.old ≤ moments.new }
-    ensures drawn { moments.new ≤ moments.old + parts from.now.size }
-{
-    send_in(alloc, stores, moments, from, number, sink)
 }

@@ -56,7 +56,7 @@ fn write_file<P: Plugin>(
     Ok(())
 }
 
-// The same for stores of any one type.
+// The same over a slice.
 fn write_each<P: Plugin>(
     stores: &mut Vec<P>,
     moments: &mut Moments,
@@ -89,25 +89,25 @@ fn write_each<P: Plugin>(
 /// The slots are below the number of stores, and none of these was given a moment past those drawn. There is no file
 /// of these names before, or its `create` fails. Draws at most two moments for each file and one for each 65,536
 /// bytes begun. Takes no memory.
-pub fn write_all(
-    stores: &mut Vec<Box<dyn Plugin>>,
+pub fn write_all<P: Plugin>(
+    stores: &mut Vec<P>,
     moments: &mut Moments,
     files: &NewFiles,
     bytes: &[u8],
 ) -> Result<(), Fault>
     requires slots { All (λ file. file.slot < vec_len stores.old) files.now }
-    requires last { EachMember (λ k store. (⟦<Box<dyn Plugin> as Plugin>⟧.plugin store).last ≤ moments.old) stores.old.items }
+    requires last { EachMember (λ k store. (P.plugin store).last ≤ moments.old) stores.old.items }
     requires room { moments.old + length files.now * (2 + parts (length bytes.now)) < 2 ^ 128 }
 
     // Each file is finished with these bytes, and no stop takes it away.
-    ensures stable { OnOk result (All (IsStableAt ⟦<Box<dyn Plugin> as Plugin>⟧.plugin stores.new.items bytes.now) files.now) }
+    ensures stable { OnOk result (All (IsStableAt P.plugin stores.new.items bytes.now) files.now) }
 
     // At each moment every other file of every slot is as it was.
-    ensures any_moment { WritesOnly ⟦<Box<dyn Plugin> as Plugin>⟧.plugin moments.old moments.new files.now stores.old.items stores.new.items }
-    ensures last { EachMember (λ k store. (⟦<Box<dyn Plugin> as Plugin>⟧.plugin store).last ≤ moments.new) stores.new.items }
+    ensures any_moment { WritesOnly P.plugin moments.old moments.new files.now stores.old.items stores.new.items }
+    ensures last { EachMember (λ k store. (P.plugin store).last ≤ moments.new) stores.new.items }
 
     ensures slot { IfErr result (λ fault. HasSlot files.now fault.slot) }
-    ensures cause { IfErr result (λ fault. RoseAt ⟦<Box<dyn Plugin> as Plugin>⟧.plugin fault.slot stores.old.items stores.new.items) }
+    ensures cause { IfErr result (λ fault. RoseAt P.plugin fault.slot stores.old.items stores.new.items) }
     ensures drawn_from { moments.old ≤ moments.new }
     ensures drawn { moments.new ≤ moments.old + length files.now * (2 + parts (length bytes.now)) }
 {

@@ -4,7 +4,7 @@ use Rattle.grid_outside.specs.Fault.{Rose}
 use Rattle.grid_outside.specs.Files.{Removes}
 use Rattle.grid_outside.proofs.Spans.{acted, one_called, same_place, some_is, slice_get-set_same}
 use Rattle.grid_vault.proofs.Writing.{Removes-same}
-use Rattle.grid_vault.proofs.removal.remove_in.Goals as goal
+use Rattle.grid_vault.proofs.removal.remove.Goals as goal
 
 pub returns-in-Ok-clause-any_moment : goal.returns-in-Ok-clause-any_moment
 returns-in-Ok-clause-any_moment g c =

@@ -1,7 +1,7 @@
 use Rattle.std.proofs.Common.{length, arith, refl}
 use Rattle.std.proofs.lemmas.Option.{slice_get_read}
 use Rattle.grid_vault.proofs.SlotLemmas.{all_kept, one_asked, one_lasts, one_rose, on_fault}
-use Rattle.grid_vault.proofs.sending.send_in.Goals as goal
+use Rattle.grid_vault.proofs.sending.send.Goals as goal
 
 pub returns-in_default-clause-any_moment : goal.returns-in_default-clause-any_moment
 returns-in_default-clause-any_moment g c = all_kept g.P.Plugin.plugin _ _ _ _ (omega arith) c.requires.last
