@@ -1,4 +1,5 @@
--- What the bytes of a log stand for. They are known here as they are, and not by who wrote them.
+-- What the bytes of a log stand for. They are known here as they are, and not by who wrote them. The format is this
+-- project's own.
 use Rattle.std.specs.Prelude.{◌≡◌, ◌≢◌, ◌⊎◌, ℕ, ◌+◌, ◌^◌, ◌<◌, List, [], ◌∷◌, ◌++◌, length, take, drop, All}
 use Rattle.std.specs.Int.{w64, to_be_bytes}
 

@@ -1,4 +1,5 @@
--- What the bytes of the two disks stand for: a catalogue, or none, with the side and the place where that shows.
+-- What the bytes of the two disks stand for: a catalogue, or none, with the side and the place where that shows. The format
+-- is this project's own.
 use Rattle.std.specs.Prelude.{◌≡◌, ◌≢◌, ◌⊎◌, ℕ, ◌+◌, ◌%◌, ◌<◌, Bool, true, false, not, IsTrue, List, [], ◌∷◌, ◌++◌, length, take, flat_map, slice_get, Some, None, IsSome, Result, Ok, Err, IsErr, codes}
 use Rattle.std.specs.List.{list_all}
 use Rattle.frame_log.specs.Log.{IsLog, IsBroken}
@@ -40,6 +41,7 @@ abbrev pub sets_rules : Delta → Bool
 sets_rules (delta.Rules text) = true
 sets_rules other = false
 
+-- it sets none
 abbrev pub sets_no_rules : Delta → Bool
 sets_no_rules d = not (sets_rules d)
 

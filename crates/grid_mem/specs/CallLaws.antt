@@ -36,6 +36,7 @@ pub above_of : (a b : ℕ) → nat_le a b ≡ false → b < a
 above_of a b e = grind (arith, nat_tests)
 
 module _ {Deed C : Type 0} (kind : Kind Deed C) where
+  -- what a record with a first call says of that and of the others
   pub record First (before last : ℕ) (c : C) (call : Call Deed) (calls : List (Call Deed)) : Type 0 where
     pub above : before < call.moment
     pub within : call.moment ≤ last

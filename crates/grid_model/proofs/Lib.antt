@@ -17,3 +17,4 @@ pub mod RowExamples
 pub mod RowOrders
 pub mod TableLemmas
 pub mod WordExamples
+mod WholeExamples

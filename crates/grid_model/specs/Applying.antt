@@ -241,7 +241,7 @@ same_kind Random Random = true
 same_kind Replication Replication = true
 same_kind a b = false
 
--- the id is not 0, no other resource has the name, and a row that it replaces has its kind
+-- the id is not 0, no other resource has the name, a row that it replaces has its kind, and slot and parent fit
 abbrev pub resource_fits : Cat → ResourceRow → Bool
 resource_fits c r = nat_lt 0 r.id && is_name r.name
     && not (list_any (λ o. not (o.id == r.id) && same_text o.name r.name) c.resources)

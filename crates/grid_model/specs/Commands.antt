@@ -1,11 +1,11 @@
 -- What requests do, one after another. Each refused request leaves the grid as it was. The verbs, and the order in
 -- which their refusals are tested, are this project's own; a put records the SHA-256 (FIPS 180-4) of its body.
-use Rattle.std.specs.Prelude.{◌≡◌, ◌≤◌, ℕ, zero, suc, ◌+◌, Bool, true, false, not, ◌||◌, ◌&&◌, nat_le, find, List, [], ◌∷◌, length, take, Option, Some, None, Result, Ok, Err, decimal}
+use Rattle.std.specs.Prelude.{◌≡◌, ◌≤◌, ℕ, zero, suc, ◌+◌, ◌*◌, min, Bool, true, false, not, ◌||◌, ◌&&◌, nat_le, find, List, [], ◌∷◌, ◌++◌, length, take, Option, Some, None, Result, Ok, Err, decimal}
 use Rattle.sha2.specs.Sha256.{sha256}
 use Rattle.grid_model.specs.Maps.{get, has, put, from_list}
 use Rattle.grid_model.specs.Names.{Text, Path, parent, same_text}
 use Rattle.grid_model.specs.Grid.{Grid, Object, Replica, Resource}
-use Rattle.grid_model.specs.Limits.{object_size}
+use Rattle.grid_model.specs.Limits.{object_size, part_size}
 use Rattle.grid_model.specs.DataLines.{parts}
 use Rattle.grid_model.specs.Applying.{is_group_kind, is_storage}
 use Rattle.grid_model.specs.Inputs.{Asked}
@@ -29,6 +29,7 @@ is_there g p = has g.collections p || has g.objects p
 abbrev pub with_collection : Grid → Path → Grid
 with_collection g p = record g { collections = put g.collections p false }
 
+-- the grid with this object at the path
 abbrev pub with_object : Grid → Path → Object → Grid
 with_object g p o = record g { objects = put g.objects p o }
 
@@ -65,7 +66,8 @@ first_source g passes (e ∷ es) = elim (passes e.1.leaf) [
   | true ↦ elim (source_of g e.1) [ None ↦ first_source g passes es | Some slot ↦ Some (e.0, slot) ]
 ]
 
--- the replica that a get reads: the first on the resource that is asked, and without one the first of all
+-- the replica that a get reads: the first on the leaf of this name, and without one the first of all. `-` finds none, unless
+-- a leaf is called so
 abbrev pub source : Grid → Text → Object → Option (ℕ × ℕ)
 source g resource o =
     elim (first_source g (same_text resource) o.replicas.entries) [ Some s ↦ Some s | None ↦ first_source g (λ leaf. true) o.replicas.entries ]
@@ -101,6 +103,7 @@ refused s r = record { state = s; changed = false; answer = ends_so (end.Refused
 abbrev pub made : State → Path → Done
 made s p = record { state = record s { grid = with_collection s.grid p }; changed = true; answer = ends_so (end.Done []) }
 
+-- a user is logged in
 abbrev pub log_in : State → Done
 log_in s = record { state = record s { logged_in = true }; changed = false; answer = ends_so (end.Done []) }
 
@@ -192,8 +195,8 @@ damaged s o slot bytes len found = record {
   answer = record { sent = bytes; marks = mark.Bad slot len found (parts (length bytes)) ∷ []; end = end.Refused (Damaged slot o.size o.digest len found) };
 }
 
--- These bytes were sent of others, so many with this digest, which are not what is recorded: at most one byte more than that,
--- and all but that one were sent.
+-- What was sent is the front, as far as the recorded size, of other bytes than are recorded. Their number and their digest
+-- are told, and there is at most one more of them than is recorded.
 pub record IsOther (o : Object) (len : ℕ) (found bytes : List ℕ) : Type 0 where
   pub read : List ℕ
   pub not_recorded : ¬ ((length read ≡ o.size) × (sha256 read ≡ o.digest))
@@ -202,21 +205,30 @@ pub record IsOther (o : Object) (len : ℕ) (found bytes : List ℕ) : Type 0 wh
   pub one_more : len ≤ o.size + 1
   pub sent_is : bytes ≡ take o.size read
 
--- What comes of a request, by what it comes to and what the stores do. A file that is read is sent as it is read; when it
--- was sent, it has the recorded size and digest or is found damaged.
-pub data Comes (s : State) : Act → Done → Type 0 where
-  at_once : {d : Done} → Comes s (does d) d
-  written : {p : Path} {leaf : Text} {slot : ℕ} {body : List ℕ} (word now : ℕ) → Comes s (writes p leaf slot body) (stored s p leaf body word now)
-  not_written : {p : Path} {leaf : Text} {slot : ℕ} {body : List ℕ} → Comes s (writes p leaf slot body) (failed s slot [])
-  read : {o : Object} {number slot : ℕ} {bytes : List ℕ} (word now : ℕ) → length bytes ≡ o.size → sha256 bytes ≡ o.digest → Comes s (reads o number slot) (sent s bytes number word now)
-  not_read : {o : Object} {number slot : ℕ} {bytes : List ℕ} → length bytes ≤ o.size → Comes s (reads o number slot) (failed s slot bytes)
-  other_read : {o : Object} {number slot len : ℕ} {bytes found : List ℕ} → IsOther o len found bytes → Comes s (reads o number slot) (damaged s o slot bytes len found)
+-- these are the first bytes of some that have the size and digest of the object
+pub record IsFrontOf (o : Object) (bytes : List ℕ) : Type 0 where
+  pub rest : List ℕ
+  pub size : length (bytes ++ rest) ≡ o.size
+  pub digest : sha256 (bytes ++ rest) ≡ o.digest
+
+-- What may come of a request, by what it comes to, where the files of some slots are known to be those that the grid says. A
+-- body is written or a call of the store fails. What is sent has the recorded size and digest, or a call of the store failed
+-- behind so many whole parts of 65,536 bytes or all that is recorded, or it is found damaged. Of a known slot no file is found
+-- damaged, and what is sent before a fault is the front of what is recorded. Which calls failed is not said here, and the word
+-- and the time are any.
+pub data Comes (known : ℕ → Type 0) (s : State) : Act → Done → Type 0 where
+  at_once : {d : Done} → Comes known s (does d) d
+  written : {p : Path} {leaf : Text} {slot : ℕ} {body : List ℕ} (word now : ℕ) → Comes known s (writes p leaf slot body) (stored s p leaf body word now)
+  not_written : {p : Path} {leaf : Text} {slot : ℕ} {body : List ℕ} → Comes known s (writes p leaf slot body) (failed s slot [])
+  read : {o : Object} {number slot : ℕ} {bytes : List ℕ} (word now : ℕ) → length bytes ≡ o.size → sha256 bytes ≡ o.digest → Comes known s (reads o number slot) (sent s bytes number word now)
+  not_read : {o : Object} {number slot : ℕ} {bytes : List ℕ} (count : ℕ) → length bytes ≡ min (count * part_size) o.size → (known slot → IsFrontOf o bytes) → Comes known s (reads o number slot) (failed s slot bytes)
+  other_read : {o : Object} {number slot len : ℕ} {bytes found : List ℕ} → ¬ known slot → IsOther o len found bytes → Comes known s (reads o number slot) (damaged s o slot bytes len found)
 
 -- These requests, one after another from this state on, did this and left that state.
-pub data After : State → List Asked → List Done → State → Type 0 where
-  none : {s : State} → After s [] [] s
+pub data After (known : ℕ → Type 0) : State → List Asked → List Done → State → Type 0 where
+  none : {s : State} → After known s [] [] s
   next : {s end : State} {request : Asked} {more : List Asked} {d : Done} {ds : List Done} (asked : Result Verb Refusal)
-      → Asks request.line request.body asked → Comes s (act s asked) d → After d.state more ds end → After s (request ∷ more) (d ∷ ds) end
+      → Asks request.line request.body asked → Comes known s (act s asked) d → After known d.state more ds end → After known s (request ∷ more) (d ∷ ds) end
 
 -- the state after the first n of them
 abbrev pub state_after : State → List Done → ℕ → State

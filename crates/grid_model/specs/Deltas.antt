@@ -91,7 +91,7 @@ flag true = 1
 
 -- ---- texts, digests and lists
 
--- a byte that a text may have: one that a word may have
+-- a byte that a text may have: one that a word may have, below 256
 abbrev pub is_shown_byte : ℕ → Bool
 is_shown_byte b = is_word_byte b && is_byte b
 
@@ -143,15 +143,19 @@ resource_kind Replication = 4
 abbrev pub entry_kind : ItemKind → Part
 entry_kind k = code_if (gives_access k) (item_number k)
 
+-- a user or a group
 abbrev pub user_row : UserRow → List Part
 user_row r = u32 r.id ∷ code (user_kind r.kind) ∷ text r.name ∷ []
 
+-- who is in a group
 abbrev pub member_row : MemberRow → List Part
 member_row r = u32 r.group ∷ u32 r.user ∷ []
 
+-- a collection, with the id of the one that it lies in
 abbrev pub collection_row : CollectionRow → List Part
 collection_row r = u64 r.id ∷ u64 r.parent ∷ text r.name ∷ code (flag r.inherit) ∷ []
 
+-- an object, with the id of the collection that it lies in
 abbrev pub object_row : ObjectRow → List Part
 object_row r = u64 r.id ∷ u64 r.collection ∷ text r.name ∷ u64 r.size ∷ digest r.digest ∷ u64 r.time ∷ []
 
@@ -159,18 +163,23 @@ object_row r = u64 r.id ∷ u64 r.collection ∷ text r.name ∷ u64 r.size ∷ 
 abbrev pub replica_row : ReplicaRow → List Part
 replica_row r = u64 r.object ∷ u32 r.number ∷ u32 r.leaf ∷ code (flag r.good) ∷ u64 r.size ∷ digest r.digest ∷ u64 r.vault ∷ []
 
+-- metadata of an item
 abbrev pub triple_row : TripleRow → List Part
 triple_row r = code (item_number r.kind) ∷ u64 r.id ∷ text r.attribute ∷ text r.value ∷ text r.unit ∷ []
 
+-- the access of a user at an object or a collection, which is not null
 abbrev pub entry_row : EntryRow → List Part
 entry_row r = entry_kind r.kind ∷ u64 r.id ∷ u32 r.user ∷ code_if (is_given r.level) (level r.level) ∷ []
 
+-- a resource, with the id of its parent, or 0 without one
 abbrev pub resource_row : ResourceRow → List Part
 resource_row r = u32 r.id ∷ text r.name ∷ code (resource_kind r.kind) ∷ u8 r.slot ∷ code (flag r.up) ∷ u32 r.parent ∷ u32 r.place ∷ []
 
+-- a file that is no replica's, and the slot that it is in
 abbrev pub orphan_row : OrphanRow → List Part
 orphan_row r = u64 r.vault ∷ u8 r.slot ∷ []
 
+-- the next vault number, the number of the run, and that of the last command
 abbrev pub numbers : Numbers → List Part
 numbers n = u64 n.next_vault ∷ u64 n.run ∷ u64 n.last ∷ []
 
@@ -180,6 +189,7 @@ numbers n = u64 n.next_vault ∷ u64 n.run ∷ u64 n.last ∷ []
 abbrev pub call : Call → List Part
 call c = text c.name ∷ each (λ t. text t ∷ []) c.args ∷ []
 
+-- a replica that was found to be other than recorded
 abbrev pub bad_replica : BadReplica → List Part
 bad_replica b = u32 b.number ∷ u64 b.len ∷ digest b.found ∷ []
 

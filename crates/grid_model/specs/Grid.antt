@@ -42,12 +42,14 @@ pub data Thing : Type 0 where
   resource_named : Text → Thing
   user_named : Text → Thing
 
+-- the kind of a thing as a number, by which things are ordered
 abbrev pub thing_number : Thing → ℕ
 thing_number (object_at p) = 1
 thing_number (collection_at p) = 2
 thing_number (resource_named n) = 3
 thing_number (user_named n) = 4
 
+-- its path, or its name as one
 abbrev pub thing_names : Thing → Path
 thing_names (object_at p) = p
 thing_names (collection_at p) = p
@@ -58,6 +60,7 @@ thing_names (user_named n) = n ∷ []
 abbrev pub thing_cmp : Thing → Thing → Ordering
 thing_cmp a b = ordering_then (nat_cmp (thing_number a) (thing_number b)) (path_cmp (thing_names a) (thing_names b))
 
+-- one piece of metadata (iRODS: attribute, value and unit)
 pub record Triple : Type 0 where
   pub of : Thing
   pub attribute : Text
@@ -76,6 +79,7 @@ member_cmp a b = ordering_then (text_cmp a.0 b.0) (text_cmp a.1 b.1)
 abbrev pub access_cmp : Path × Text → Path × Text → Ordering
 access_cmp a b = ordering_then (path_cmp a.0 b.0) (text_cmp a.1 b.1)
 
+-- All that users see. A map has each name or path once.
 pub record Grid : Type 0 where
   -- no name and no stores before there is a zone
   pub zone : Text

@@ -29,3 +29,4 @@ pub mod RuleText
 pub mod Siblings
 pub mod Words
 pub mod Writable
+pub mod Whole

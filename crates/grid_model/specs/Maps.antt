@@ -1,4 +1,5 @@
--- Finite maps and sets as values that compute, and are equal wherever they answer alike.
+-- Finite maps and sets as values that compute, and are equal wherever they answer alike, over an order of the keys that is
+-- total and tells all of them apart.
 use Rattle.std.specs.Prelude.{◌≡◌, Bool, true, false, not, T, List, [], ◌∷◌, Option, map, filter, is_some, refl, ⊤}
 use Rattle.std.specs.Bool.{passes}
 use Rattle.std.specs.declared.cmp.Ordering.{Ordering}

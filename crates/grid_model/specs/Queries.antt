@@ -1,4 +1,5 @@
--- Columns and operators of queries.
+-- Columns and operators of queries. The columns have the names of iRODS (iRODS documentation, general query). Which there
+-- are is this project's own.
 use Rattle.std.specs.Prelude.{Bool, true, false}
 use Rattle.grid_model.specs.declared.queries.Column.{Column}
 use Rattle.grid_model.specs.declared.queries.Column.TheVariants.{DataModifyTime, DataSize, DataReplNum, DataReplStatus}

@@ -1,4 +1,5 @@
--- Which texts spell which queries, and where the others are refused.
+-- Which texts spell which queries, and where the others are refused. The grammar is this project's own, after the general
+-- query of iRODS.
 use Rattle.std.specs.Prelude.{◌≡◌, ℕ, zero, suc, ◌^◌, ◌<◌, List, [], ◌∷◌, ◌++◌, IsTrue, length, map, decimal}
 use Rattle.grid_model.specs.Names.{Text}
 use Rattle.grid_model.specs.Places.{IsRefusedAt}

@@ -1,4 +1,4 @@
--- The tokens of query texts, and which bytes spell them.
+-- The tokens of query texts, and which bytes spell them. Both are this project's own; the columns have the names of iRODS.
 use Rattle.std.specs.Prelude.{◌≡◌, ◌≢◌, ℕ, ◌-◌, ◌<◌, Bool, false, ◌||◌, ◌&&◌, List, [], ◌∷◌, ◌++◌, IsTrue, length, codes, nat_le, ◌==◌}
 use Rattle.std.specs.List.{list_all}
 use Rattle.std.specs.Str.{str_eq_ignore_ascii_case}
@@ -39,6 +39,7 @@ pub record Placed : Type 0 where
   pub at : ℕ
   pub token : Token
 
+-- how a keyword is written, in any case of letters
 abbrev pub keyword_text : Keyword → Text
 keyword_text select_word = codes "SELECT"
 keyword_text where_word = codes "WHERE"
@@ -46,6 +47,7 @@ keyword_text and_word = codes "AND"
 keyword_text like_word = codes "LIKE"
 keyword_text not_word = codes "NOT"
 
+-- how a column is written
 abbrev pub column_text : Column → Text
 column_text CollName = codes "COLL_NAME"
 column_text DataName = codes "DATA_NAME"
@@ -59,6 +61,7 @@ column_text DataReplStatus = codes "DATA_REPL_STATUS"
 column_text DataRescHier = codes "DATA_RESC_HIER"
 column_text DataChecksum = codes "DATA_CHECKSUM"
 
+-- how a sign is written
 abbrev pub sign_text : Sign → Text
 sign_text equal = codes "="
 sign_text not_equal = codes "<>"

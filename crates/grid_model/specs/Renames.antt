@@ -8,16 +8,18 @@ use Rattle.grid_model.specs.Grid.{Grid, Object, Resource, Thing, object_at, coll
 abbrev pub renamed : Text → Text → Text → Text
 renamed from to name = elim (same_text from name) [ true ↦ to | false ↦ name ]
 
--- a thing, an object's replicas and a resource's parent, by what becomes of names
+-- what metadata is of, by what becomes of the names of resources
 abbrev pub renamed_thing : (Text → Text) → Thing → Thing
 renamed_thing called (object_at p) = object_at p
 renamed_thing called (collection_at p) = collection_at p
 renamed_thing called (resource_named n) = resource_named (called n)
 renamed_thing called (user_named n) = user_named n
 
+-- an object whose replicas lie on leaves so renamed
 abbrev pub renamed_leaves : (Text → Text) → Object → Object
 renamed_leaves called o = record o { replicas = with_values (λ r. record r { leaf = called r.leaf }) o.replicas }
 
+-- a resource whose parent is so renamed
 abbrev pub renamed_parent : (Text → Text) → Resource → Resource
 renamed_parent called r = record r { parent = option_map called r.parent }
 

@@ -14,10 +14,11 @@ use Rattle.grid_model.specs.declared.deltas.ReplicaRow.{ReplicaRow}
 use Rattle.grid_model.specs.declared.deltas.ResourceRow.{ResourceRow}
 use Rattle.grid_model.specs.declared.deltas.TripleRow.{TripleRow}
 
--- the name of a user or a group, and of a resource; no bytes where there is none
+-- the name of the user or group with this id; no bytes where there is none
 abbrev pub user_name : Cat → ℕ → Text
 user_name c id = unwrap_or (option_map (λ r. r.name) (user c id)) []
 
+-- the name of the resource with this id; no bytes where there is none
 abbrev pub resource_name : Cat → ℕ → Text
 resource_name c id = unwrap_or (option_map (λ r. r.name) (resource c id)) []
 
@@ -25,6 +26,7 @@ resource_name c id = unwrap_or (option_map (λ r. r.name) (resource c id)) []
 abbrev pub place_of : Cat → ResourceRow → ℕ
 place_of c r = elim (r.parent == 0) [ true ↦ 0 | false ↦ length (filter (λ o. (o.parent == r.parent) && nat_lt o.place r.place) c.resources) ]
 
+-- a resource by the name of its parent
 abbrev pub resource_of : Cat → ResourceRow → Resource
 resource_of c r = record {
   kind = r.kind;
@@ -34,9 +36,11 @@ resource_of c r = record {
   place = place_of c r;
 }
 
+-- a replica by the name of its leaf, without the number of its file
 abbrev pub replica_of : Cat → ReplicaRow → Replica
 replica_of c r = record { leaf = resource_name c r.leaf; good = r.good; size = r.size; digest = r.digest }
 
+-- an object with its replicas by their numbers
 abbrev pub object_of : Cat → ObjectRow → Object
 object_of c r = record {
   size = r.size;
@@ -47,25 +51,31 @@ object_of c r = record {
 
 -- ---- paths, where the paths of collections are given
 
+-- the path of each collection, by its id
 abbrev pub Places : Type 0
 Places = ℕ → Option Path
 
+-- the path of the collection with this id; `/` where there is none
 abbrev pub collection_place : Places → ℕ → Path
 collection_place paths id = unwrap_or (paths id) []
 
+-- the path of an object: its name in its collection
 abbrev pub object_place : Places → ObjectRow → Path
 object_place paths r = collection_place paths r.collection ++ r.name ∷ []
 
+-- the path of the object or the collection with this id
 abbrev pub item_place : Cat → Places → ItemKind → ℕ → Path
 item_place c paths kind.Object id = unwrap_or (option_map (object_place paths) (object c id)) []
 item_place c paths k id = collection_place paths id
 
+-- what metadata is of, by paths and names for ids
 abbrev pub thing_of : Cat → Places → ItemKind → ℕ → Thing
 thing_of c paths kind.Object id = object_at (item_place c paths kind.Object id)
 thing_of c paths kind.Collection id = collection_at (collection_place paths id)
 thing_of c paths kind.Resource id = resource_named (resource_name c id)
 thing_of c paths kind.User id = user_named (user_name c id)
 
+-- metadata, by paths and names for ids
 abbrev pub triple_of : Cat → Places → TripleRow → Triple
 triple_of c paths t = record { of = thing_of c paths t.kind t.id; attribute = t.attribute; value = t.value; unit = t.unit }
 
@@ -87,7 +97,8 @@ grid_at c paths = record {
 abbrev pub grid_of : Cat → Grid
 grid_of c = grid_at c (collection_path c)
 
--- whether a delta is of what the grid shows: orphans, numbers and the command that is not done are not in it
+-- Whether a delta counts as one of what the grid shows. Orphans, numbers and the command that is not done are never in it;
+-- rules will be, and are not yet.
 abbrev pub is_seen : Delta → Bool
 is_seen (delta.Orphan r) = false
 is_seen (delta.NoOrphan vault) = false

@@ -13,7 +13,7 @@ use Rattle.grid_model.specs.declared.deltas.ResourceRow.{ResourceRow}
 use Rattle.grid_model.specs.declared.deltas.OrphanRow.{OrphanRow}
 use Rattle.grid_model.specs.declared.deltas.Pending.{Pending}
 
--- each collection and each object has one path, which is of nothing else, and lies in a collection
+-- each collection and each object has one path, which is of nothing else; and all but `/` lie in a collection
 pub record IsTree (c : Cat) : Type 0 where
   -- an object or a collection has a path where it is there, and only there
   pub placed : (x : Item) → IsTrue (gives_access (kind_of x)) → is_some (item_path c x) ≡ item_there c (kind_of x) (id_of x)
