@@ -1,9 +1,9 @@
 -- What the keeping and answering of a request leaves.
-use Rattle.std.proofs.Common.{◌≡◌, ◌⊎◌, inl, inr, ℕ, ◌+◌, ◌<◌, ◌≤◌, Bool, true, false, List, [], ◌++◌, take, drop, Result, Ok, Err, IsTrue, refl, sym, ap, ◌∙◌, subst, arith, take-append-drop}
+use Rattle.std.proofs.Common.{◌≡◌, ◌⊎◌, inl, inr, ℕ, ◌+◌, ◌<◌, ◌≤◌, true, false, List, [], ◌++◌, take, drop, Result, Ok, Err, IsTrue, refl, sym, ap, ◌∙◌, subst, arith, take-append-drop}
 use Rattle.std.specs.Prelude.{⊤, OnOk, IsErrOf}
-use Rattle.std.specs.List.{AllByRecursion}
 use Rattle.std.proofs.lemmas.List.{append-nil}
 use Rattle.std.proofs.lemmas.Bool.{cases_lt}
+use Rattle.grid_outside.specs.Ambient.{AmbientState}
 use Rattle.grid_outside.specs.Device.{IsSettled}
 use Rattle.grid_outside.specs.Disk.{DiskState}
 use Rattle.grid_outside.specs.Sink.{SinkState, AddsPart}
@@ -19,12 +19,17 @@ use Rattle.grid_journal.specs.Journal.{Journal, Keeps}
 use Rattle.grid_server.specs.Held.{state_of, StandsFor, ClosesAt, IsMade, IsLike, IsHeld}
 use Rattle.grid_server.specs.Keeping.{Adds, Stays, Goes, Rests, Follows, last_of, CommitEnds, IsCommitted, Quiet, KeptOrNot, Does, CarryEnds, Carries}
 use Rattle.grid_server.specs.Keeping as keeping
-use Rattle.grid_server.specs.Answering.{Caused, OneOf, not_kept, kept, LeavesOneOf, AnswerEnds, Answers, worked, not_begun, log_worn}
+use Rattle.grid_server.specs.Drawing.{DrawsIfTold}
+use Rattle.grid_server.specs.Answering.{OneOf, not_kept, kept, LeavesOneOf, AnswerEnds, Answers, worked, not_begun, log_worn}
 use Rattle.grid_server.specs.Replying.{IsPut}
 use Rattle.grid_server.specs.declared.server.Server.{Server}
 use Rattle.grid_server.specs.declared.server.Stop.{Stop}
 use Rattle.grid_server.specs.declared.server.Stop.TheVariants as stop
+use Rattle.grid_server.proofs.DrawingLemmas.{draws_untold}
 use Rattle.grid_server.proofs.KeepingLemmas.{held_stands, closes_at, goes_nowhere, goes_act, rests_same, like_self, like_first, like_both, quiet_rest}
+use Rattle.grid_outside.specs.Files.{StoreState}
+use Rattle.grid_server.specs.Causes.{AreCaused}
+use Rattle.grid_server.specs.Safe.{IsKnown}
 
 -- ---- carrying out
 
@@ -105,9 +110,12 @@ adds_first bytes text old new same part = record {
 pub adds_none : (text shown : Text) → AddsFirst text shown shown
 adds_none text shown = record { front = []; rest = text; split = refl; is = sym (append-nil shown) }
 
-module _ (rose : ℕ → Bool) (old mid : Server) (asked : Result Verb Refusal) (d : Done) (comes : Comes (state_of old) (act (state_of old) asked) d) (n from : ℕ) (main_old main_new : DiskState) (sink_old : SinkState) (sink_last : sink_old.last ≤ from) where
+module _ {B : Type 0} (plugin : B → StoreState) (stores_old stores_new : List B) (ambient_old ambient_new : AmbientState) (old mid : Server) (asked : Result Verb Refusal) (d : Done) (comes : (known : ℕ → Type 0) → Comes known (state_of old) (act (state_of old) asked) d) (caused : AreCaused plugin d.answer.marks stores_old stores_new) (drawn : DrawsIfTold d.answer.marks ambient_old ambient_new) (n from : ℕ) (main_old main_new : DiskState) (sink_old : SinkState) (sink_last : sink_old.last ≤ from) where
   abbrev text : Text
   text = reply n d.answer
+
+  none_told : DrawsIfTold [] ambient_old ambient_new
+  none_told = draws_untold d.answer.marks [] ambient_old ambient_new refl refl drawn
 
   -- one of two, where the sink was not called
   either_quiet : (after : Cat) (main sink : Text) → KeptOrNot old.store.cat after main → sink ≡ sink_old.holds → OneOf old.store.cat after text sink_old.holds main sink
@@ -115,13 +123,15 @@ module _ (rose : ℕ → Bool) (old mid : Server) (asked : Result Verb Refusal) 
   either_quiet after main sink (keeping.kept s) same = kept s (let P : Text → Type 0 = λ t. AddsFirst text sink_old.holds t in subst P (sym same) (adds_none text sink_old.holds))
 
   -- it was not kept, so nothing is put on the sink
-  pub answers_stopped : (s : Stop) → Carries old d n from main_old main_new (Err s) mid → Answers rose old asked n from main_old main_new sink_old sink_old (Err s) mid
+  pub answers_stopped : (s : Stop) → Carries old d n from main_old main_new (Err s) mid → Answers plugin stores_old stores_new ambient_old ambient_new old asked n from main_old main_new sink_old sink_old (Err s) mid
   answers_stopped stop.Sink c = absurd c.ends
   answers_stopped stop.Disk c = worked (record {
     d = d;
-    comes = comes;
+    comes = comes (IsKnown plugin from old.store.cat main_old stores_old);
     after = c.after;
     follows = c.follows;
+    caused = caused;
+    drawn = drawn;
     ends = λ told. refl;
     main = c.main;
     sink = goes_nowhere from sink_old;
@@ -129,13 +139,13 @@ module _ (rose : ℕ → Bool) (old mid : Server) (asked : Result Verb Refusal) 
     leaves = λ main_told sink_told main_settled sink_settled t main sink late main_left sink_left.
         either_quiet c.after main sink (c.leaves main_told main_settled t main late main_left) (sink_settled t sink (omega (arith, sink_last, late)) sink_left);
   })
-  answers_stopped stop.Memory c = not_begun refl c.ends (rests_same sink_old)
+  answers_stopped stop.Memory c = not_begun refl c.ends (rests_same sink_old) none_told
   answers_stopped (stop.Worn what place) c =
-      let R : Wear → Type 0 = λ w. Answers rose old asked n from main_old main_new sink_old sink_old (Err (stop.Worn w place)) mid in
-      subst R (sym c.ends.1) (log_worn place d refl comes c.ends.0 c.ends.2 c.ends.3 c.ends.4 (rests_same sink_old))
+      let R : Wear → Type 0 = λ w. Answers plugin stores_old stores_new ambient_old ambient_new old asked n from main_old main_new sink_old sink_old (Err (stop.Worn w place)) mid in
+      subst R (sym c.ends.1) (log_worn place d refl (comes (IsKnown plugin from old.store.cat main_old stores_old)) c.ends.0 c.ends.2 c.ends.3 c.ends.4 (rests_same sink_old) none_told)
 
   -- it was kept where nothing is seen of it, and memory ran out
-  pub answers_unsaid : Carries old d n from main_old main_new (Ok tt) mid → d.changed ≡ false → Answers rose old asked n from main_old main_new sink_old sink_old (Err stop.Memory) mid
+  pub answers_unsaid : Carries old d n from main_old main_new (Ok tt) mid → d.changed ≡ false → Answers plugin stores_old stores_new ambient_old ambient_new old asked n from main_old main_new sink_old sink_old (Err stop.Memory) mid
   answers_unsaid c unchanged =
       let like : IsLike old.store.cat c.after = record {
         grid = c.follows.same unchanged;
@@ -153,7 +163,7 @@ module _ (rose : ℕ → Bool) (old mid : Server) (asked : Result Verb Refusal) 
             subst P c.ends.cat (held_stands main_new mid c.ends.held new_told);
         main = c.main;
         leaves = λ told settled t image late left. like_both old.store.cat c.after image like (c.leaves told settled t image late left);
-      }) (rests_same sink_old)
+      }) (rests_same sink_old) none_told
 
   -- it was kept, and then this was put on the sink, after so many moments
   module _ (sink_new : SinkState) (before : ℕ) (bytes : Text) (later : from ≤ before) (main_last : main_new.last ≤ before) (c : Carries old d n from main_old main_new (Ok tt) mid)
@@ -172,12 +182,14 @@ module _ (rose : ℕ → Bool) (old mid : Server) (asked : Result Verb Refusal) 
             let part : AddsPart bytes sink_old.holds sink = (let P : Text → Type 0 = λ b. AddsPart bytes b sink in subst P was step.2) in
             kept (let P : Text → Type 0 = λ m. StandsFor m c.after in subst P (sym main_is) stood) (adds_first bytes text sink_old.holds sink text_is part)
 
-    answers_put : (result : Result ⊤ Stop) → AnswerEnds rose old d n c.after main_old main_new sink_old sink_new result mid → Answers rose old asked n from main_old main_new sink_old sink_new result mid
+    answers_put : (result : Result ⊤ Stop) → AnswerEnds old d n c.after main_old main_new sink_old sink_new result mid → Answers plugin stores_old stores_new ambient_old ambient_new old asked n from main_old main_new sink_old sink_new result mid
     answers_put result ends = worked (record {
       d = d;
-      comes = comes;
+      comes = comes (IsKnown plugin from old.store.cat main_old stores_old);
       after = c.after;
       follows = c.follows;
+      caused = caused;
+      drawn = drawn;
       ends = ends;
       main = c.main;
       sink = goes_act from (before + 1) (AddsPart bytes) sink_old sink_new (omega (arith, later)) put.later put.acts;
@@ -186,8 +198,8 @@ module _ (rose : ℕ → Bool) (old mid : Server) (asked : Result Verb Refusal) 
     })
 
     -- in whole or in part
-    pub put_so : AllByRecursion (Caused rose) d.answer.marks → (result : Result ⊤ Stop) → OnOk result (Adds bytes sink_old sink_new) → ((s : Stop) → IsErrOf result s → s ≡ stop.Sink) → Answers rose old asked n from main_old main_new sink_old sink_new result mid
-    put_so caused (Ok done) added failed = answers_put (Ok tt) (c.ends, (λ told. added told ∙ ap (λ (t : Text). sink_old.holds ++ t) text_is), caused)
-    put_so caused (Err s) added failed =
-        let R : Stop → Type 0 = λ s. Answers rose old asked n from main_old main_new sink_old sink_new (Err s) mid in
+    pub put_so : (result : Result ⊤ Stop) → OnOk result (Adds bytes sink_old sink_new) → ((s : Stop) → IsErrOf result s → s ≡ stop.Sink) → Answers plugin stores_old stores_new ambient_old ambient_new old asked n from main_old main_new sink_old sink_new result mid
+    put_so (Ok done) added failed = answers_put (Ok tt) (c.ends, λ told. added told ∙ ap (λ (t : Text). sink_old.holds ++ t) text_is)
+    put_so (Err s) added failed =
+        let R : Stop → Type 0 = λ s. Answers plugin stores_old stores_new ambient_old ambient_new old asked n from main_old main_new sink_old sink_new (Err s) mid in
         subst R (sym (failed s refl)) (answers_put (Err stop.Sink) (c.ends, λ told. adds_first bytes text sink_old.holds sink_new.holds text_is (put.acts.holds told)))

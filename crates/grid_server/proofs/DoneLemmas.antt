@@ -1,26 +1,42 @@
 -- Requests that were done, one more, and what is shown and kept of them.
-use Rattle.std.proofs.Common.{◌≡◌, ◌⊎◌, inl, inr, ℕ, zero, suc, ◌+◌, ◌-◌, ◌≤◌, Bool, true, false, List, [], ◌∷◌, ◌++◌, length, take, slice_get, Some, Result, arith, refl, sym, subst, ap, ◌∙◌, append_assoc, length-append}
+use Rattle.std.proofs.Common.{◌≡◌, ◌⊎◌, inl, inr, ℕ, zero, suc, ◌+◌, ◌≤◌, Bool, true, false, List, [], ◌∷◌, ◌++◌, length, take, slice_get, Some, Result, arith, refl, sym, subst, ap, ◌∙◌, append_assoc, length-append}
 use Rattle.std.specs.Prelude.{max}
-use Rattle.std.specs.List.{AllByRecursion}
 use Rattle.std.proofs.lemmas.List.{append-nil, take_all, take-append-le, take_at}
 use Rattle.grid_model.specs.Names.{Text}
 use Rattle.grid_model.specs.Rows.{Cat}
 use Rattle.grid_model.specs.RowGrids.{grid_of}
 use Rattle.grid_model.specs.Inputs.{Asked}
 use Rattle.grid_model.specs.Requests.{Asks}
-use Rattle.grid_model.specs.Commands.{State, Done, Comes, act, After, none, next, state_after}
+use Rattle.grid_model.specs.Commands.{State, Done, Act, Comes, at_once, written, not_written, reads, read, not_read, other_read, act, After, none, next, state_after}
 use Rattle.grid_model.specs.Replies.{reply, replies, AddsFirst}
 use Rattle.grid_model.specs.declared.requests.Verb.{Verb}
 use Rattle.grid_model.specs.declared.refusal.Refusal.{Refusal}
 use Rattle.grid_server.specs.Held.{StandsFor, IsLike}
 use Rattle.grid_server.specs.Keeping.{Follows, last_of}
-use Rattle.grid_server.specs.Answering.{Caused, AllCaused, Did, OneOf, not_kept, kept}
+use Rattle.grid_server.specs.Answering.{Did, OneOf, not_kept, kept}
 use Rattle.grid_server.specs.Serving.{begins, Shows, IsCut, AllButOne, IsBefore, IsAfter, OneImage}
 use Rattle.grid_server.proofs.RequestLemmas.{asks_held}
 
+-- ---- what is known of fewer slots
+
+pub comes_less : (p q : ℕ → Type 0) → ((slot : ℕ) → q slot → p slot) → (s : State) (a : Act) (d : Done) → Comes p s a d → Comes q s a d
+comes_less p q less s a d at_once = at_once
+comes_less p q less s a d (written word now) = written word now
+comes_less p q less s a d not_written = not_written
+comes_less p q less s a d (read word now size digest) = read word now size digest
+comes_less p q less s (reads o number slot) d (not_read count whole front) = not_read count whole (λ k. front (less slot k))
+comes_less p q less s (reads o number slot) d (other_read never other) = other_read (λ k. never (less slot k)) other
+
+pub did_less : (p q : ℕ → Type 0) → ((slot : ℕ) → q slot → p slot) → (s : State) (line body : Text) (d : Done) → Did p s line body d → Did q s line body d
+did_less p q less s line body d did = record { asked = did.asked; asks = did.asks; comes = comes_less p q less s (act s did.asked) d did.comes }
+
+pub after_less : {p q : ℕ → Type 0} → ((slot : ℕ) → q slot → p slot) → {s : State} {asked : List Asked} {done : List Done} {end : State} → After p s asked done end → After q s asked done end
+after_less less none = none
+after_less {p = p} {q = q} less (next {s = s} {d = d} asked asks comes more) = next asked asks (comes_less p q less s (act s asked) d comes) (after_less less more)
+
 -- ---- lists that go on
 
-pub After-push : {s mid : State} {asked : List Asked} {done : List Done} (request : Asked) (d : Done) → After s asked done mid → Did mid request.line request.body d → After s (asked ++ request ∷ []) (done ++ d ∷ []) d.state
+pub After-push : {known : ℕ → Type 0} {s mid : State} {asked : List Asked} {done : List Done} (request : Asked) (d : Done) → After known s asked done mid → Did known mid request.line request.body d → After known s (asked ++ request ∷ []) (done ++ d ∷ []) d.state
 After-push request d none did = next did.asked did.asks did.comes none
 After-push request d (next verb asks is more) did = next verb asks is (After-push request d more did)
 
@@ -32,33 +48,16 @@ replies-push n (e ∷ done) d =
     ∙ sym (append_assoc (reply n e.answer) (replies (n + 1) done) (reply (n + length (e ∷ done)) d.answer))
 
 -- what is held of a line does the same with its body
-pub did_held : (s : State) (held line body : Text) (asked : Result Verb Refusal) (d : Done) → held ≡ take 4097 line → Asks held body asked → Comes s (act s asked) d → Did s line body d
-did_held s held line body asked d e asks comes = let P : Text → Type 0 = λ t. Asks t body asked in record { asked = asked; asks = asks_held line body asked (subst P e asks); comes = comes }
-
--- ---- causes
-
-pub caused_more : (rose : ℕ → Bool) (done : List Done) (d : Done) → AllCaused rose done → AllByRecursion (Caused rose) d.answer.marks → AllCaused rose (done ++ d ∷ [])
-caused_more rose [] d all one = (one, tt)
-caused_more rose (e ∷ done) d all one = (all.0, caused_more rose done d all.1 one)
-
-pub caused_first : (rose : ℕ → Bool) (n : ℕ) (done : List Done) → AllCaused rose done → AllCaused rose (take n done)
-caused_first rose zero done all = tt
-caused_first rose (suc n) [] all = tt
-caused_first rose (suc n) (e ∷ done) all = (all.0, caused_first rose n done all.1)
-
--- all but the last one
-pub caused_before : (rose : ℕ → Bool) (done : List Done) (d : Done) → AllCaused rose done → AllCaused rose (take (length (done ++ d ∷ []) - 1) (done ++ d ∷ []))
-caused_before rose done d all =
-    let P : List Done → Type 0 = λ ds. AllCaused rose ds in
-    subst P (sym (take_at done (d ∷ []) (length (done ++ d ∷ []) - 1) (omega (arith, length-append done (d ∷ []))))) all
+pub did_held : (known : ℕ → Type 0) (s : State) (held line body : Text) (asked : Result Verb Refusal) (d : Done) → held ≡ take 4097 line → Asks held body asked → Comes known s (act s asked) d → Did known s line body d
+did_held known s held line body asked d e asks comes = let P : Text → Type 0 = λ t. Asks t body asked in record { asked = asked; asks = asks_held line body asked (subst P e asks); comes = comes }
 
 -- ---- states in between
 
-after-all : {s : State} {asked : List Asked} {done : List Done} {end : State} → After s asked done end → state_after s done (length done) ≡ end
+after-all : {known : ℕ → Type 0} {s : State} {asked : List Asked} {done : List Done} {end : State} → After known s asked done end → state_after s done (length done) ≡ end
 after-all none = refl
 after-all (next verb asks is rest) = after-all rest
 
-pub state_after-all : (s : State) (asked : List Asked) (done : List Done) (end : State) → After s asked done end → state_after s done (length done) ≡ end
+pub state_after-all : {known : ℕ → Type 0} (s : State) (asked : List Asked) (done : List Done) (end : State) → After known s asked done end → state_after s done (length done) ≡ end
 state_after-all s asked done end after = after-all after
 
 pub state_after-more : (s : State) (done : List Done) (d : Done) (n : ℕ) → n ≤ length done → state_after s (done ++ d ∷ []) n ≡ state_after s done n
@@ -189,6 +188,7 @@ image_more found done d old main sink image = record {
     by (inr after) = inr (record {
       run = after.run;
       within = omega (arith, after.within, length-append done (d ∷ []));
+      near = after.near;
       grid = after.grid ∙ ap (λ (s : State). s.grid) (sym (state_after-more (begins (grid_of found)) done d (max image.whole image.cat.numbers.last) after.within));
     })
 
@@ -199,6 +199,7 @@ like_image found done old main sink c d run last pending grid like stood sink_is
     image_of found done old main d (length done) main sink refl stood sink_is (inr (record {
       run = like.run ∙ run;
       within = omega (arith, last, like.last);
+      near = omega (arith, last, like.last);
       grid = like.grid ∙ grid ∙ ap (λ (k : ℕ). (state_after (begins (grid_of found)) done k).grid) (let most : length done ≡ max (length done) d.numbers.last = omega (arith, last, like.last) in most);
     })) (like.pending ∙ pending)
 
@@ -218,6 +219,7 @@ cut_or_whole found done d old before main sink c after n n_is before_is run last
       reached = inr (record {
         run = follows.run ∙ run;
         within = omega (arith, length-append done (d ∷ []), (place shown.whole shown.whole_is d.changed refl).0);
+        near = (place shown.whole shown.whole_is d.changed refl).2;
         grid = (place shown.whole shown.whole_is d.changed refl).1;
       });
       pending = follows.pending ∙ pending;
@@ -234,20 +236,20 @@ cut_or_whole found done d old before main sink c after n n_is before_is run last
         follows.same same ∙ grid ∙ ap (λ (s : State). s.grid) (sym (state_after-more (begins (grid_of found)) done d (length done) (omega arith))) ∙ ap (λ (j : ℕ). (state_after (begins (grid_of found)) (done ++ d ∷ []) j).grid) (sym e)
 
     place : (whole : ℕ) → (whole ≡ length done) ⊎ (whole ≡ length done + 1) → (b : Bool) → d.changed ≡ b
-        → (max whole after.numbers.last ≤ length done + 1) × (grid_of after ≡ (state_after (begins (grid_of found)) (done ++ d ∷ []) (max whole after.numbers.last)).grid)
+        → (max whole after.numbers.last ≤ length done + 1) × (grid_of after ≡ (state_after (begins (grid_of found)) (done ++ d ∷ []) (max whole after.numbers.last)).grid) × (after.numbers.last ≤ whole + 1)
     place whole (inl w) true changed =
         let l : after.numbers.last ≡ n = follows.last ∙ ap (λ b. last_of b n c.numbers.last) changed in
         let m : max whole after.numbers.last ≡ length done + 1 = omega (arith, w, l, n_is) in
-        (omega (arith, m), at (max whole after.numbers.last) m)
+        (omega (arith, m), at (max whole after.numbers.last) m, omega (arith, w, l, n_is))
     place whole (inr w) true changed =
         let l : after.numbers.last ≡ n = follows.last ∙ ap (λ b. last_of b n c.numbers.last) changed in
         let m : max whole after.numbers.last ≡ length done + 1 = omega (arith, w, l, n_is) in
-        (omega (arith, m), at (max whole after.numbers.last) m)
+        (omega (arith, m), at (max whole after.numbers.last) m, omega (arith, w, l, n_is))
     place whole (inl w) false changed =
         let l : after.numbers.last ≡ c.numbers.last = follows.last ∙ ap (λ b. last_of b n c.numbers.last) changed in
         let m : max whole after.numbers.last ≡ length done = omega (arith, w, l, last) in
-        (omega (arith, m), at_before changed (max whole after.numbers.last) m)
+        (omega (arith, m), at_before changed (max whole after.numbers.last) m, omega (arith, w, l, last))
     place whole (inr w) false changed =
         let l : after.numbers.last ≡ c.numbers.last = follows.last ∙ ap (λ b. last_of b n c.numbers.last) changed in
         let m : max whole after.numbers.last ≡ length done + 1 = omega (arith, w, l, last) in
-        (omega (arith, m), at (max whole after.numbers.last) m)
+        (omega (arith, m), at (max whole after.numbers.last) m, omega (arith, w, l, last))

@@ -1,6 +1,8 @@
 -- Which file a get reads: the walk over rows is the walk over the replicas in the grid.
-use Rattle.std.proofs.Common.{◌≡◌, ◌==◌, ◌<◌, ℕ, Bool, true, false, List, [], ◌∷◌, Option, Some, None, Result, Ok, IsTrue, refl, sym, ap, ◌∙◌, subst, inl, inr, eq-eqb, eqb-true, cond}
+use Rattle.std.proofs.Common.{◌≡◌, ◌==◌, ◌<◌, ◌≤◌, ◌+◌, ℕ, Bool, true, false, List, [], ◌∷◌, length, drop, get_or, Option, Some, None, Result, Ok, IsTrue, refl, sym, ap, ◌∙◌, subst, inl, inr, eq-eqb, eqb-true}
 use Rattle.std.specs.Prelude.{find, option_map, is_some, ◌&&◌, ◌||◌, nat_lt, ◌↔◌}
+use Rattle.std.proofs.lemmas.List.{drop_more}
+use Rattle.std.proofs.Math.ListN.{drop_of_length-le}
 use Rattle.std.proofs.lemmas.Bool.{and_parts, and_from, ltb-true}
 use Rattle.std.specs.declared.cmp.Ordering.{Ordering}
 use Rattle.std.specs.declared.cmp.Ordering.TheVariants.{Equal}
@@ -13,6 +15,7 @@ use Rattle.grid_model.specs.Rows.{Cat, object, resource, replicas_of, replica_cm
 use Rattle.grid_model.specs.RowPaths.{object_at, object_path, is_path_of}
 use Rattle.grid_model.specs.RowGrids.{grid_of, object_of, resource_of, resource_name}
 use Rattle.grid_model.specs.Applying.{is_storage, is_replica}
+use Rattle.grid_model.specs.Whole.{leaf_slot}
 use Rattle.grid_model.specs.Commands.{State, Act, does, reads, act, refused, may_ask, source, first_source, get_at}
 use Rattle.grid_model.specs.declared.deltas.ObjectRow.{ObjectRow}
 use Rattle.grid_model.specs.declared.deltas.ReplicaRow.{ReplicaRow}
@@ -55,35 +58,23 @@ is_same_text b name other tells = same_both b (same_text name other) (λ e. (sam
 -- ---- the walk over rows
 
 module _ (c : Cat) (only : Option ℕ) where
-  -- the row that is found is the first, with its slot
-  pub first_none : (rows : List ReplicaRow) → find (λ x. is_some (slot_to_read c only x)) rows ≡ None → first_to_read c only rows ≡ None
-  first_none [] e = refl
-  first_none (x ∷ rows) e = by_slot (slot_to_read c only x) e (first_none rows)
+  -- the walk ends at the first row that may be read, and goes on behind any other
+  pub first_here : (rows : List ReplicaRow) (i : ℕ) (x : ReplicaRow) → i < length rows → x ≡ get_or rows i x → (slot : ℕ) → slot_to_read c only x ≡ Some slot → first_to_read c only (drop i rows) ≡ Some (x, slot)
+  first_here rows i x within at slot its = ap (first_to_read c only) (drop_more rows i x within ∙ ap (λ (y : ReplicaRow). y ∷ drop (i + 1) rows) (sym at)) ∙ by_slot (slot_to_read c only x) its
     where
-      by_slot : (o : Option ℕ) → cond (is_some o) (Some x) (find (λ y. is_some (slot_to_read c only y)) rows) ≡ None
-          → (find (λ y. is_some (slot_to_read c only y)) rows ≡ None → first_to_read c only rows ≡ None) → elim o as (λ _. Option (ReplicaRow × ℕ)) [ None ↦ first_to_read c only rows | Some slot ↦ Some (x, slot) ] ≡ None
-      by_slot None is more = more is
-      by_slot (Some slot) is more = absurd cc
+      by_slot : (o : Option ℕ) → o ≡ Some slot → elim o as (λ _. Option (ReplicaRow × ℕ)) [ None ↦ first_to_read c only (drop (i + 1) rows) | Some s ↦ Some (x, s) ] ≡ Some (x, slot)
+      by_slot None e = absurd cc
+      by_slot (Some s) e = let same : s ≡ slot = some-same s slot e in ap (λ (k : ℕ). Some (x, k)) same
 
-  pub first_found : (rows : List ReplicaRow) (x : ReplicaRow) (slot : ℕ) → find (λ y. is_some (slot_to_read c only y)) rows ≡ Some x → slot_to_read c only x ≡ Some slot → first_to_read c only rows ≡ Some (x, slot)
-  first_found [] x slot e its = absurd cc
-  first_found (y ∷ rows) x slot e its = by_slot (slot_to_read c only y) refl e (first_found rows x slot)
+  pub first_later : (rows : List ReplicaRow) (i : ℕ) (x : ReplicaRow) → i < length rows → x ≡ get_or rows i x → slot_to_read c only x ≡ None → first_to_read c only (drop i rows) ≡ first_to_read c only (drop (i + 1) rows)
+  first_later rows i x within at its = ap (first_to_read c only) (drop_more rows i x within ∙ ap (λ (y : ReplicaRow). y ∷ drop (i + 1) rows) (sym at)) ∙ by_slot (slot_to_read c only x) its
     where
-      by_slot : (o : Option ℕ) → slot_to_read c only y ≡ o → cond (is_some o) (Some y) (find (λ z. is_some (slot_to_read c only z)) rows) ≡ Some x
-          → (find (λ z. is_some (slot_to_read c only z)) rows ≡ Some x → slot_to_read c only x ≡ Some slot → first_to_read c only rows ≡ Some (x, slot))
-          → elim o as (λ _. Option (ReplicaRow × ℕ)) [ None ↦ first_to_read c only rows | Some s ↦ Some (y, s) ] ≡ Some (x, slot)
-      by_slot None is found more = more found its
-      by_slot (Some s) is found more =
-          let same : y ≡ x = some-same y x found in
-          let slots : s ≡ slot = some-same s slot (sym is ∙ ap (slot_to_read c only) same ∙ its) in
-          λ i. Some (same i, slots i)
+      by_slot : (o : Option ℕ) → o ≡ None → elim o as (λ _. Option (ReplicaRow × ℕ)) [ None ↦ first_to_read c only (drop (i + 1) rows) | Some s ↦ Some (x, s) ] ≡ first_to_read c only (drop (i + 1) rows)
+      by_slot None e = refl
+      by_slot (Some s) e = absurd cc
 
-  -- a row that is found has a slot
-  pub slot_found : (rows : List ReplicaRow) (x : ReplicaRow) → find (λ y. is_some (slot_to_read c only y)) rows ≡ Some x → slot_to_read c only x ≡ None → ⊥
-  slot_found rows x e none =
-      let some : is_some (slot_to_read c only x) ≡ true = (in_from_find (λ y. is_some (slot_to_read c only y)) rows x e).1 in
-      let no : is_some (slot_to_read c only x) ≡ false = ap is_some none in
-      cc
+  pub first_none : (rows : List ReplicaRow) (i : ℕ) → length rows ≤ i → first_to_read c only (drop i rows) ≡ None
+  first_none rows i past = ap (first_to_read c only) (drop_of_length-le rows past)
 
   -- it is the walk that looks at the leaf first
   pub first-rows : (rows : List ReplicaRow) → first_to_read c only rows ≡ first_row c (is_asked only) rows
@@ -102,22 +93,24 @@ module _ (c : Cat) (only : Option ℕ) where
       by_test true g o = refl
       by_test false g o = refl
 
-  -- the row that is read is one of these, and its leaf has that slot
-  pub first_there : (rows : List ReplicaRow) (from : ReplicaRow × ℕ) → first_to_read c only rows ≡ Some from → IsIn rows from.0 × (slot_of c from.0.leaf ≡ Some from.1)
+  -- the row that is read is one of these and good, and its leaf has that slot
+  pub first_there : (rows : List ReplicaRow) (from : ReplicaRow × ℕ) → first_to_read c only rows ≡ Some from → IsIn rows from.0 × (from.0.good ≡ true) × (slot_of c from.0.leaf ≡ Some from.1)
   first_there [] from e = absurd cc
   first_there (x ∷ rows) from e = by_slot (slot_to_read c only x) refl e (first_there rows from)
     where
-      leaf_slot : (a : Bool) (o : Option ℕ) (slot : ℕ) → elim a as (λ _. Option ℕ) [ true ↦ o | false ↦ None ] ≡ Some slot → o ≡ Some slot
-      leaf_slot true o slot is = is
-      leaf_slot false o slot is = absurd cc
+      may_read : (a g : Bool) (o : Option ℕ) (slot : ℕ) → elim (a && g) as (λ _. Option ℕ) [ true ↦ o | false ↦ None ] ≡ Some slot → (g ≡ true) × (o ≡ Some slot)
+      may_read true true o slot is = (refl, is)
+      may_read true false o slot is = absurd cc
+      may_read false g o slot is = absurd cc
 
       by_slot : (o : Option ℕ) → slot_to_read c only x ≡ o → elim o as (λ _. Option (ReplicaRow × ℕ)) [ None ↦ first_to_read c only rows | Some slot ↦ Some (x, slot) ] ≡ Some from
-          → (first_to_read c only rows ≡ Some from → IsIn rows from.0 × (slot_of c from.0.leaf ≡ Some from.1)) → IsIn (x ∷ rows) from.0 × (slot_of c from.0.leaf ≡ Some from.1)
-      by_slot None is later more = let its = more later in (inr its.0, its.1)
+          → (first_to_read c only rows ≡ Some from → IsIn rows from.0 × (from.0.good ≡ true) × (slot_of c from.0.leaf ≡ Some from.1)) → IsIn (x ∷ rows) from.0 × (from.0.good ≡ true) × (slot_of c from.0.leaf ≡ Some from.1)
+      by_slot None is later more = let its = more later in (inr its.0, its.1, its.2)
       by_slot (Some slot) is found more =
           let same : (x, slot) ≡ from = some-same (x, slot) from found in
-          let P : ReplicaRow × ℕ → Type 0 = λ f. IsIn (x ∷ rows) f.0 × (slot_of c f.0.leaf ≡ Some f.1) in
-          subst P same (inl refl, leaf_slot (is_asked only x.leaf && x.good) (slot_of c x.leaf) slot is)
+          let P : ReplicaRow × ℕ → Type 0 = λ f. IsIn (x ∷ rows) f.0 × (f.0.good ≡ true) × (slot_of c f.0.leaf ≡ Some f.1) in
+          let its = may_read (is_asked only x.leaf) x.good (slot_of c x.leaf) slot is in
+          subst P same (inl refl, its.0, its.1)
 
 -- ---- an object that is there
 
@@ -201,12 +194,12 @@ module _ (c : Cat) (m : IsMade c) (p : Path) (o : ObjectRow) (at : object_at c p
       by_first None is = sym (ap (option_map told) is)
       by_first (Some s) is = refl
 
-  -- the walks end at a replica of the object whose leaf has that slot
-  read_there : (leaf : Option ℕ) (from : ReplicaRow × ℕ) → to_read c leaf o ≡ Some from → IsIn (replicas_of c o.id) from.0 × (slot_of c from.0.leaf ≡ Some from.1)
+  -- the walks end at a good replica of the object whose leaf has that slot
+  read_there : (leaf : Option ℕ) (from : ReplicaRow × ℕ) → to_read c leaf o ≡ Some from → IsIn (replicas_of c o.id) from.0 × (from.0.good ≡ true) × (slot_of c from.0.leaf ≡ Some from.1)
   read_there leaf from e = by_first (first_to_read c leaf (replicas_of c o.id)) refl e
     where
       by_first : (f : Option (ReplicaRow × ℕ)) → first_to_read c leaf (replicas_of c o.id) ≡ f → elim f as (λ _. Option (ReplicaRow × ℕ)) [ Some s ↦ Some s | None ↦ first_to_read c None (replicas_of c o.id) ] ≡ Some from
-          → IsIn (replicas_of c o.id) from.0 × (slot_of c from.0.leaf ≡ Some from.1)
+          → IsIn (replicas_of c o.id) from.0 × (from.0.good ≡ true) × (slot_of c from.0.leaf ≡ Some from.1)
       by_first None is any = first_there c None (replicas_of c o.id) from any
       by_first (Some s) is same = first_there c leaf (replicas_of c o.id) from (is ∙ same)
 
@@ -225,11 +218,23 @@ module _ (c : Cat) (m : IsMade c) (p : Path) (o : ObjectRow) (at : object_at c p
           let here = (in_from_find (λ y. y.id == id) c.resources r is).0 in
           fits (is_storage r.kind) r.up r.slot (in_from_all (ResourceStands c) c.resources sound.tied.resources r here).0 its
 
+  -- the leaf has it
+  leaf_of_slot : (id slot : ℕ) → slot_of c id ≡ Some slot → leaf_slot c id ≡ Some slot
+  leaf_of_slot id slot e = by_row (resource c id) e
+    where
+      is_open : (b : Bool) (s : ℕ) → elim b as (λ _. Option ℕ) [ true ↦ Some s | false ↦ None ] ≡ Some slot → Some s ≡ Some slot
+      is_open true s is = is
+      is_open false s is = absurd cc
+
+      by_row : (f : Option ResourceRow) → elim f as (λ _. Option ℕ) [ None ↦ None | Some r ↦ elim (is_storage r.kind && r.up) [ true ↦ Some r.slot | false ↦ None ] ] ≡ Some slot → option_map (λ (r : ResourceRow). r.slot) f ≡ Some slot
+      by_row None none = absurd cc
+      by_row (Some r) its = is_open (is_storage r.kind && r.up) r.slot its
+
   -- the replica of that number
-  one_replica : (x : ReplicaRow) → IsIn (replicas_of c o.id) x → find (λ r. is_replica o.id x.number r) c.replicas ≡ Some x
+  one_replica : (x : ReplicaRow) → IsIn (replicas_of c o.id) x → find (is_replica o.id x.number) c.replicas ≡ Some x
   one_replica x here =
       let there = in_from_filter (λ y. y.object == o.id) c.replicas x here in
-      find_from_in (λ r. is_replica o.id x.number r) c.replicas x there.0 (and_from (x.object == o.id) (x.number == x.number) there.1 (eq-eqb x.number x.number refl)) (λ y its passes.
+      find_from_in (is_replica o.id x.number) c.replicas x there.0 (and_from (x.object == o.id) (x.number == x.number) there.1 (eq-eqb x.number x.number refl)) (λ y its passes.
       let parts = and_parts (y.object == o.id) (y.number == x.number) passes in
       let objects : nat_cmp y.object x.object ≡ Equal = equal_number y.object x.object (eqb-true y.object o.id parts.0 ∙ sym (eqb-true x.object o.id there.1)) in
       in_once replica_cmp replica_cmp_total c.replicas y x sound.cat.replicas.ordered its there.0
@@ -310,10 +315,18 @@ module _ (c : Cat) (m : IsMade c) (p : Path) (o : ObjectRow) (at : object_at c p
             record {
               id = o.id;
               at = at;
-              name_is = ap (option_map (λ (r : ReplicaRow). r.vault)) (one_replica from.0 there.0);
+              object_row = o;
+              there = found;
+              size_row = refl;
+              digest_row = refl;
+              row = from.0;
+              is_row = one_replica from.0 there.0;
+              name_is = refl;
+              good = there.1;
+              leaf = leaf_of_slot from.0.leaf from.1 there.2;
               size = refl;
               digest = refl;
-              slot = slot_within from.0.leaf from.1 there.1;
+              slot = slot_within from.0.leaf from.1 there.2;
             },
           )
 

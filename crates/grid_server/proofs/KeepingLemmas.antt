@@ -44,21 +44,25 @@ closes_at c j main place is keeps =
 
 -- ---- devices
 
-pub goes_nowhere : (from : ℕ) (s : DeviceState (List ℕ)) → Goes from s s
+pub goes_nowhere : {C : Type 0} (from : ℕ) (s : DeviceState C) → Goes from s s
 goes_nowhere from s = record { faults = omega arith; tells = refl; earlier = λ t image le left. left }
 
-pub goes_between : (from to : ℕ) (change : List ℕ → List ℕ → Type 0) (old new : DeviceState (List ℕ)) → Between from to change old new → Goes from old new
+pub goes_between : {C : Type 0} (from to : ℕ) (change : C → C → Type 0) (old new : DeviceState C) → Between from to change old new → Goes from old new
 goes_between from to change old new between = record { faults = between.faults; tells = between.tells; earlier = λ t image le left. (between.earlier t image le).0 left }
 
 pub goes_act : (from moment : ℕ) (change : List ℕ → List ℕ → Type 0) (old new : DeviceState (List ℕ)) → from < moment → old.faults ≤ new.faults → Acts moment change old new → Goes from old new
 goes_act from moment change old new lt later acts = record { faults = later; tells = acts.tells; earlier = λ t image le left. (acts.earlier t image (omega (arith, le, lt))).0 left }
 
-pub goes_more : (from to : ℕ) (old mid new : DeviceState (List ℕ)) → from ≤ to → Goes from old mid → Goes to mid new → Goes from old new
+pub goes_more : {C : Type 0} (from to : ℕ) (old mid new : DeviceState C) → from ≤ to → Goes from old mid → Goes to mid new → Goes from old new
 goes_more from to old mid new le first then = record {
   faults = omega (arith, first.faults, then.faults);
   tells = then.tells ∙ first.tells;
   earlier = λ t image before left. first.earlier t image before (then.earlier t image (omega (arith, before, le)) left);
 }
+
+-- so it does since fewer moments
+pub goes_since : {C : Type 0} (from to : ℕ) (old new : DeviceState C) → from ≤ to → Goes to old new → Goes from old new
+goes_since from to old new le goes = record { faults = goes.faults; tells = goes.tells; earlier = λ t image before left. goes.earlier t image (omega (arith, before, le)) left }
 
 -- what rests goes nowhere
 pub goes_rest : (from : ℕ) (old new : DeviceState (List ℕ)) → Rests old new → Goes from old new

@@ -1,6 +1,8 @@
 pub mod CarryingLemmas
+pub mod CausesLemmas
 pub mod DecidingLemmas
 pub mod DoneLemmas
+pub mod DrawingLemmas
 pub mod FindingLemmas
 pub mod InputLemmas
 pub mod KeepingLemmas
@@ -12,10 +14,14 @@ pub mod PlainLemmas
 pub mod RequestLemmas
 pub mod RunLemmas
 pub mod SendingLemmas
+pub mod SentFileLemmas
 pub mod ServedLemmas
 pub mod StoredLemmas
+pub mod StoredRows
 pub mod StoresLemmas
 pub mod StoringLemmas
 pub mod TakingLemmas
 pub mod TaskLemmas
 pub mod TurnLemmas
+pub mod WholeLemmas
+mod MarkExamples

@@ -1,7 +1,8 @@
 -- From the catalogue that was opened to the run over it.
-use Rattle.std.proofs.Common.{◌≡◌, ◌⊎◌, inl, inr, ℕ, Bool, ◌^◌, ◌<◌, ◌≤◌, List, [], ◌∷◌, ◌++◌, length, length-append, Result, Ok, Err, IsTrue, arith, refl, sym, subst, ap, ◌∙◌}
+use Rattle.std.proofs.Common.{◌≡◌, ◌⊎◌, inl, inr, ℕ, ◌^◌, ◌<◌, ◌≤◌, List, [], ◌∷◌, ◌++◌, length, length-append, Result, Ok, Err, IsTrue, arith, refl, sym, subst, ap, ◌∙◌}
 use Rattle.std.proofs.lemmas.List.{append-nil}
 use Rattle.std.proofs.lemmas.Bool.{cases_lt}
+use Rattle.grid_outside.specs.Ambient.{AmbientState}
 use Rattle.grid_outside.specs.Device.{Looks, IsSettled}
 use Rattle.grid_outside.specs.Disk.{DiskState}
 use Rattle.grid_outside.specs.Sink.{SinkState}
@@ -28,7 +29,13 @@ use Rattle.grid_server.specs.Opening.{begun, BeginEnds, Begun}
 use Rattle.grid_server.specs.Serving.{begins, Shows, OneImage, IsKept, Ends, Serves}
 use Rattle.grid_server.specs.Running.{Refuses, RefusesStores, Inits, Says, IsComplete}
 use Rattle.grid_server.specs.Tasks.{AsksFor, to_serve, to_init, init, serve}
+use Rattle.grid_server.proofs.DrawingLemmas.{draws_none}
 use Rattle.grid_server.proofs.DoneLemmas.{shows_all, image_of}
+use Rattle.grid_outside.specs.Files.{StoreState}
+use Rattle.grid_server.proofs.StoresLemmas.{stores_same}
+use Rattle.grid_server.proofs.CausesLemmas.{caused_none}
+use Rattle.grid_server.proofs.WholeLemmas.{known_later}
+use Rattle.grid_server.proofs.DoneLemmas.{after_less}
 
 -- ---- what the disks stand for
 
@@ -73,21 +80,22 @@ early found done old main sink grid (inr stood) same = record {
   stands = stood;
   whole = 0;
   shows = shows_none old done sink same;
-  reached = inr (record { run = refl; within = omega arith; grid = grid ∙ ap (λ (s : State). s.grid) (sym (state_after-none (begins (grid_of found)) done)) });
+  reached = inr (record { run = refl; within = omega arith; near = omega arith; grid = grid ∙ ap (λ (s : State). s.grid) (sym (state_after-none (begins (grid_of found)) done)) });
   pending = refl;
 }
 
 -- a run was begun, and then served
-pub serves_begun : (rose : ℕ → Bool) (found : Cat) (since mid : ℕ) (main_old main_mid main_new : DiskState) (from to : SourceState) (sink_old sink_new : SinkState) (server : Server) (s : Status) → sink_old.last ≤ since → IsTrue main_old.tells
-    → Begun found since main_old main_mid (Ok server) → Goes mid main_mid main_new → Goes mid sink_old sink_new → Serves rose found mid main_mid main_new from to sink_old sink_new s → Serves rose found since main_old main_new from to sink_old sink_new s
-serves_begun rose found since mid main_old main_mid main_new from to sink_old sink_new server s last told began main_goes sink_goes w = record {
+pub serves_begun : {B : Type 0} (plugin : B → StoreState) (stores_old stores_new : List B) (ambient_old ambient_new : AmbientState) (found : Cat) (since mid : ℕ) (main_old main_mid main_new : DiskState) (from to : SourceState) (sink_old sink_new : SinkState) (server : Server) (s : Status) → since ≤ mid → sink_old.last ≤ since → IsTrue main_old.tells
+    → Begun found since main_old main_mid (Ok server) → Goes mid main_mid main_new → Goes mid sink_old sink_new → Serves plugin stores_old stores_new ambient_old ambient_new found mid main_mid main_new from to sink_old sink_new s → Serves plugin stores_old stores_new ambient_old ambient_new found since main_old main_new from to sink_old sink_new s
+serves_begun plugin stores_old stores_new ambient_old ambient_new found since mid main_old main_mid main_new from to sink_old sink_new server s le last told began main_goes sink_goes w = record {
   asked = w.asked;
   first = w.first;
   done = w.done;
   end = w.end;
-  after = w.after;
+  after = after_less (known_later plugin since mid found main_old main_mid stores_old le (λ settled. began.ends.4 told)) w.after;
   shown = w.shown;
   caused = w.caused;
+  drawn = w.drawn;
   ends = w.ends;
   images = λ sink_told main_settled sink_settled t main sink late main_left sink_left. at sink_told main_settled sink_settled t main sink late main_left sink_left (cases_lt mid t);
 }
@@ -106,16 +114,17 @@ unbegun opening.Disk = status.DiskFault
 unbegun opening.Memory = status.Memory
 
 -- none was begun
-pub serves_unbegun : (rose : ℕ → Bool) (found : Cat) (since : ℕ) (main_old main_new : DiskState) (source : SourceState) (sink : SinkState) (e : BeginError) → sink.last ≤ since → IsTrue main_old.tells → StandsFor main_old.holds found
-    → Begun found since main_old main_new (Err e) → Serves rose found since main_old main_new source source sink sink (unbegun e)
-serves_unbegun rose found since main_old main_new source sink e last told stood began = record {
+pub serves_unbegun : {B : Type 0} (plugin : B → StoreState) (stores : List B) (ambient : AmbientState) (found : Cat) (since : ℕ) (main_old main_new : DiskState) (source : SourceState) (sink : SinkState) (e : BeginError) → sink.last ≤ since → IsTrue main_old.tells → StandsFor main_old.holds found
+    → Begun found since main_old main_new (Err e) → Serves plugin stores stores ambient ambient found since main_old main_new source source sink sink (unbegun e)
+serves_unbegun plugin stores ambient found since main_old main_new source sink e last told stood began = record {
   asked = [];
   first = inl (source.left, none_taken);
   done = [];
   end = begins (grid_of found);
   after = nothing_done;
   shown = λ sink_told. shows_all sink.holds [] sink.holds (sym (append-nil sink.holds));
-  caused = tt;
+  caused = caused_none plugin 0 [] stores stores (λ slot. refl) tt (stores_same plugin 0 stores);
+  drawn = draws_none ambient;
   ends = by e began.ends;
   images = λ sink_told main_settled sink_settled t main_image sink_image late main_left sink_left.
       early found [] sink.holds main_image sink_image began.grid (began.leaves told main_settled t main_image late main_left) (sink_settled t sink_image (omega (arith, last, late)) sink_left);
@@ -127,40 +136,41 @@ serves_unbegun rose found since main_old main_new source sink e last told stood 
     kept : Rests main_old main_new → IsKept main_new.holds (grid_of found)
     kept rests = record { cat = found; stands = (let P : Text → Type 0 = λ m. StandsFor m found in subst P (sym (rests.stays told)) stood); grid = refl }
 
-    by : (e : BeginError) → BeginEnds found main_old main_new (Err e) → Ends rose found [] [] (begins (grid_of found)) main_new source source sink sink (unbegun e)
-    by (opening.Runs place) w = ((refl, w.1, w.2), (nothing_shown, tt), kept w.0)
-    by (opening.Log place) w = ((w.1, (let P : Text → Type 0 = λ m. ClosesAt m place in subst P (sym (w.0.stays told)) (w.2 told)), inl refl), (nothing_shown, tt), kept w.0)
+    by : (e : BeginError) → BeginEnds found main_old main_new (Err e) → Ends found [] [] (begins (grid_of found)) main_new source source sink sink (unbegun e)
+    by (opening.Runs place) w = ((refl, w.1, w.2), nothing_shown, kept w.0)
+    by (opening.Log place) w = ((w.1, (let P : Text → Type 0 = λ m. ClosesAt m place in subst P (sym (w.0.stays told)) (w.2 told)), inl (refl, (kept w.0).stands)), nothing_shown, kept w.0)
     by opening.Disk w = tt
     by opening.Memory w = kept w
 
 -- ---- before the catalogue was read
 
 -- main was only looked at
-pub serves_opened : (rose : ℕ → Bool) (found : Cat) (since : ℕ) (main_old main_mid main_new : DiskState) (from to : SourceState) (sink_old sink_new : SinkState) (s : Status) → (IsSettled main_old → IsSettled main_mid)
-    → Serves rose found since main_mid main_new from to sink_old sink_new s → Serves rose found since main_old main_new from to sink_old sink_new s
-serves_opened rose found since main_old main_mid main_new from to sink_old sink_new s settled w = record {
+pub serves_opened : {B : Type 0} (plugin : B → StoreState) (stores_old stores_new : List B) (ambient_old ambient_new : AmbientState) (found : Cat) (since : ℕ) (main_old main_mid main_new : DiskState) (from to : SourceState) (sink_old sink_new : SinkState) (s : Status) → (IsSettled main_old → IsSettled main_mid)
+    → Serves plugin stores_old stores_new ambient_old ambient_new found since main_mid main_new from to sink_old sink_new s → Serves plugin stores_old stores_new ambient_old ambient_new found since main_old main_new from to sink_old sink_new s
+serves_opened plugin stores_old stores_new ambient_old ambient_new found since main_old main_mid main_new from to sink_old sink_new s settled w = record {
   asked = w.asked;
   first = w.first;
   done = w.done;
   end = w.end;
-  after = w.after;
+  after = after_less (known_later plugin since since found main_old main_mid stores_old (omega arith) settled) w.after;
   shown = w.shown;
   caused = w.caused;
+  drawn = w.drawn;
   ends = w.ends;
   images = λ sink_told main_settled sink_settled. w.images sink_told (settled main_settled) sink_settled;
 }
 
 -- the catalogue that was found is the one that the disks stand for
-pub serves_found : (rose : ℕ → Bool) (held found : Cat) (since : ℕ) (main_old main_mid main_new : DiskState) (spare : Text) (from to : SourceState) (sink_old sink_new : SinkState) (s : Status) → Stands main_old.holds spare (Ok held) → Stands main_old.holds spare (Ok found)
-    → (IsSettled main_old → IsSettled main_mid) → Serves rose held since main_mid main_new from to sink_old sink_new s → Serves rose found since main_old main_new from to sink_old sink_new s
-serves_found rose held found since main_old main_mid main_new spare from to sink_old sink_new s one other settled w =
-    let P : Cat → Type 0 = λ c. Serves rose c since main_mid main_new from to sink_old sink_new s in
-    serves_opened rose found since main_old main_mid main_new from to sink_old sink_new s settled (subst P (one_cat main_old.holds spare held found one other) w)
+pub serves_found : {B : Type 0} (plugin : B → StoreState) (stores_old stores_new : List B) (ambient_old ambient_new : AmbientState) (held found : Cat) (since : ℕ) (main_old main_mid main_new : DiskState) (spare : Text) (from to : SourceState) (sink_old sink_new : SinkState) (s : Status) → Stands main_old.holds spare (Ok held) → Stands main_old.holds spare (Ok found)
+    → (IsSettled main_old → IsSettled main_mid) → Serves plugin stores_old stores_new ambient_old ambient_new held since main_mid main_new from to sink_old sink_new s → Serves plugin stores_old stores_new ambient_old ambient_new found since main_old main_new from to sink_old sink_new s
+serves_found plugin stores_old stores_new ambient_old ambient_new held found since main_old main_mid main_new spare from to sink_old sink_new s one other settled w =
+    let P : Cat → Type 0 = λ c. Serves plugin stores_old stores_new ambient_old ambient_new c since main_mid main_new from to sink_old sink_new s in
+    serves_opened plugin stores_old stores_new ambient_old ambient_new found since main_old main_mid main_new from to sink_old sink_new s settled (subst P (one_cat main_old.holds spare held found one other) w)
 
 -- nothing was read, for want of memory or since the disk failed
-module _ (rose : ℕ → Bool) (found : Cat) (since : ℕ) (main_old main_new : DiskState) (source : SourceState) (sink : SinkState) (told : IsTrue main_old.tells) (main_last : main_old.last ≤ since) (sink_last : sink.last ≤ since) (looks : Looks main_old main_new)
+module _ {B : Type 0} (plugin : B → StoreState) (stores : List B) (ambient : AmbientState) (found : Cat) (since : ℕ) (main_old main_new : DiskState) (source : SourceState) (sink : SinkState) (told : IsTrue main_old.tells) (main_last : main_old.last ≤ since) (sink_last : sink.last ≤ since) (looks : Looks main_old main_new)
     (stood : StandsFor main_old.holds found) where
-  unread : (s : Status) → Ends rose found [] [] (begins (grid_of found)) main_new source source sink sink s → Serves rose found since main_old main_new source source sink sink s
+  unread : (s : Status) → Ends found [] [] (begins (grid_of found)) main_new source source sink sink s → Serves plugin stores stores ambient ambient found since main_old main_new source source sink sink s
   unread s ends = record {
     asked = [];
     first = inl (source.left, none_taken);
@@ -168,17 +178,18 @@ module _ (rose : ℕ → Bool) (found : Cat) (since : ℕ) (main_old main_new : 
     end = begins (grid_of found);
     after = nothing_done;
     shown = λ sink_told. shows_all sink.holds [] sink.holds (sym (append-nil sink.holds));
-    caused = tt;
+    caused = caused_none plugin 0 [] stores stores (λ slot. refl) tt (stores_same plugin 0 stores);
+    drawn = draws_none ambient;
     ends = ends;
     images = λ sink_told main_settled sink_settled t main_image sink_image late main_left sink_left.
         image_of found [] sink.holds main_old.holds found 0 main_image sink_image (main_settled t main_image (omega (arith, main_last, late)) ((looks.left t main_image).0 main_left)) stood
         (sink_settled t sink_image (omega (arith, sink_last, late)) sink_left ∙ sym (append-nil sink.holds)) (inl (record { run = refl; grid = refl; none_shown = refl })) refl;
   }
 
-  pub unread_fault : Serves rose found since main_old main_new source source sink sink status.DiskFault
+  pub unread_fault : Serves plugin stores stores ambient ambient found since main_old main_new source source sink sink status.DiskFault
   unread_fault = unread status.DiskFault tt
 
-  pub unread_memory : Serves rose found since main_old main_new source source sink sink status.Memory
+  pub unread_memory : Serves plugin stores stores ambient ambient found since main_old main_new source source sink sink status.Memory
   unread_memory = unread status.Memory (record { cat = found; stands = (let P : Text → Type 0 = λ m. StandsFor m found in subst P (sym (looks.holds told)) stood); grid = refl })
 
 -- ---- where a catalogue is refused
@@ -231,11 +242,11 @@ inits_so z a y b stores main_old main_new spare sink_old sink_new s one two init
 
 -- ---- where nothing fails
 
-pub complete : (rose : ℕ → Bool) (found : Cat) (since : ℕ) (main_old main_new : DiskState) (from to : SourceState) (sink_old sink_new : SinkState) (s : Status) → Serves rose found since main_old main_new from to sink_old sink_new s
+pub complete : {B : Type 0} (plugin : B → StoreState) (stores_old stores_new : List B) (ambient_old ambient_new : AmbientState) (found : Cat) (since : ℕ) (main_old main_new : DiskState) (from to : SourceState) (sink_old sink_new : SinkState) (s : Status) → Serves plugin stores_old stores_new ambient_old ambient_new found since main_old main_new from to sink_old sink_new s
     → length from.left ≤ 2 ^ 48 → (s ≡ status.DiskFault → ⊥) → (s ≡ status.SourceFault → ⊥) → (s ≡ status.SinkFault → ⊥) → IsComplete s
-complete rose found since main_old main_new from to sink_old sink_new s w fits disk source sink = by s refl w.ends
+complete plugin stores_old stores_new ambient_old ambient_new found since main_old main_new from to sink_old sink_new s w fits disk source sink = by s refl w.ends
   where
-    by : (r : Status) → s ≡ r → Ends rose found w.asked w.done w.end main_new from to sink_old sink_new r → IsComplete s
+    by : (r : Status) → s ≡ r → Ends found w.asked w.done w.end main_new from to sink_old sink_new r → IsComplete s
     by status.Done is ends = subst IsComplete (sym is) tt
     by status.SourceFault is ends = absurd (source is)
     by (status.Long taken) is ends = absurd (omega (arith, fits, ends.1.size, ap length ends.1.split, length-append ends.1.taken to.left))

@@ -1,8 +1,9 @@
 -- What was served so far, turn by turn, and how it ends.
 use Rattle.std.proofs.Common.{◌≡◌, ◌⊎◌, inl, inr, ℕ, ◌+◌, ◌^◌, ◌<◌, ◌≤◌, Bool, true, false, List, [], ◌∷◌, ◌++◌, length, take, Option, Some, None, Result, Ok, Err, IsTrue, arith, refl, sym, subst, ap, ◌∙◌, append_assoc, length-append}
-use Rattle.std.specs.Prelude.{⊤, ◌-◌}
+use Rattle.std.specs.Prelude.{⊤}
 use Rattle.std.proofs.lemmas.List.{append-nil, take_at}
 use Rattle.std.proofs.lemmas.Bool.{cases_lt}
+use Rattle.grid_outside.specs.Ambient.{AmbientState}
 use Rattle.grid_outside.specs.Device.{IsSettled}
 use Rattle.grid_outside.specs.Disk.{DiskState}
 use Rattle.grid_outside.specs.Sink.{SinkState}
@@ -31,19 +32,27 @@ use Rattle.grid_server.specs.Held.{state_of, StandsFor, IsHeld}
 use Rattle.grid_server.specs.Keeping.{Rests, Quiet, last_of}
 use Rattle.grid_outside.specs.declared.outside.Wear.TheVariants as wear
 use Rattle.grid_server.specs.Reading.{Reader, ReadsLine, ReadsPart, Passes, PassesPart}
-use Rattle.grid_server.specs.Answering.{AllCaused, AsksToPut, Works, Answers, worked, not_begun, log_worn, vaults_worn, Did}
+use Rattle.grid_server.specs.Answering.{AsksToPut, Works, Answers, worked, not_begun, log_worn, vaults_worn, Did}
 use Rattle.grid_server.specs.Turning.{Gets, with_body, cut_short, at_end, InBody, Turns, answered, stopped, idle, status_of}
 use Rattle.grid_server.specs.Opening.{begun}
+use Rattle.grid_server.specs.Drawing.{marks_of, DrawsIfTold}
 use Rattle.grid_server.specs.Serving.{begins, Begins, OneImage, IsKept, ShowsAll, Ends, Serves}
 use Rattle.grid_server.proofs.InputLemmas.{push_request, push_blank, takes_of}
-use Rattle.grid_server.proofs.DoneLemmas.{After-push, did_held, replies-push, state_after-all, shows_part, shows_all, image_more, image_of, like_image, all_but_one, cut_or_whole, caused_more, caused_first, caused_before}
+use Rattle.grid_server.proofs.DrawingLemmas.{draws_none, draws_still, draws_more}
+use Rattle.grid_server.proofs.DoneLemmas.{After-push, did_held, did_less, replies-push, state_after-all, shows_part, shows_all, image_more, image_of, like_image, all_but_one, cut_or_whole}
+use Rattle.grid_server.proofs.CausesLemmas.{caused_none, caused_on, caused_more}
+use Rattle.grid_server.proofs.StoresLemmas.{stores_same}
+use Rattle.grid_server.specs.Causes.{AreCaused}
+use Rattle.grid_server.specs.Safe.{IsKnown}
+use Rattle.grid_server.specs.Stores.{StoresGo}
 use Rattle.grid_server.proofs.KeepingLemmas.{held_stands, quiet_rest}
 use Rattle.grid_server.proofs.CarryingLemmas.{adds_none}
 use Rattle.grid_server.proofs.RequestLemmas.{asks_held, held_request, body_held}
 use Rattle.grid_server.proofs.TurnLemmas.{held_rests}
+use Rattle.grid_outside.specs.Files.{StoreState}
 
 -- the requests so far were handled, from so many moments on
-pub record Served (rose : ℕ → Bool) (found : Cat) (since : ℕ) (main_old main_now : DiskState) (from now : SourceState) (sink_old sink_now : SinkState) (service : Service) : Type 0 where
+pub record Served {B : Type 0} (plugin : B → StoreState) (stores_old stores_now : List B) (ambient_old ambient_now : AmbientState) (found : Cat) (since : ℕ) (main_old main_now : DiskState) (from now : SourceState) (sink_old sink_now : SinkState) (service : Service) : Type 0 where
   pub front : Text
   pub split : from.left ≡ front ++ (service.reader.unread ++ now.left)
   pub taken : service.reader.taken ≡ length front + length service.reader.unread
@@ -51,13 +60,14 @@ pub record Served (rose : ℕ → Bool) (found : Cat) (since : ℕ) (main_old ma
   pub takes : Takes front asked []
   pub done : List Done
   pub end : State
-  pub after : After (begins (grid_of found)) asked done end
+  pub after : After (IsKnown plugin since found main_old stores_old) (begins (grid_of found)) asked done end
   pub state : end ≡ state_of service.server
   pub number : service.number ≡ length done
   pub run : service.server.store.cat.numbers.run ≡ found.numbers.run + 1
   pub last : service.server.store.cat.numbers.last ≤ length done
   pub pending : service.server.store.cat.pending ≡ found.pending
-  pub caused : AllCaused rose done
+  pub caused : AreCaused plugin (marks_of done) stores_old stores_now
+  pub drawn : DrawsIfTold (marks_of done) ambient_old ambient_now
   pub shown : IsTrue sink_old.tells → sink_now.holds ≡ sink_old.holds ++ replies 1 done
   pub main_settled : IsSettled main_old → IsSettled main_now
   pub sink_settled : IsTrue sink_old.tells → IsSettled sink_old → IsSettled sink_now
@@ -65,9 +75,9 @@ pub record Served (rose : ℕ → Bool) (found : Cat) (since : ℕ) (main_old ma
   pub images : IsTrue sink_old.tells → IsSettled main_old → IsSettled sink_old → (t : ℕ) (main sink : Text) → since < t → main_now.left t main → sink_now.left t sink → OneImage found done sink_old.holds main sink
 
 -- nothing yet
-pub served_none : (rose : ℕ → Bool) (found : Cat) (since : ℕ) (main : DiskState) (from : SourceState) (sink : SinkState) (service : Service) → IsTrue main.tells → main.last ≤ since → sink.last ≤ since → service.reader.unread ≡ [] → service.reader.taken ≡ 0 → service.number ≡ 0
-    → service.server.store.cat ≡ begun found → grid_of (begun found) ≡ grid_of found → service.server.logged_in ≡ false → IsHeld main service.server → Served rose found since main main from from sink sink service
-served_none rose found since main from sink service told main_last sink_last unread taken number cat grid nobody held =
+pub served_none : {B : Type 0} (plugin : B → StoreState) (stores : List B) (ambient : AmbientState) (found : Cat) (since : ℕ) (main : DiskState) (from : SourceState) (sink : SinkState) (service : Service) → IsTrue main.tells → main.last ≤ since → sink.last ≤ since → service.reader.unread ≡ [] → service.reader.taken ≡ 0 → service.number ≡ 0
+    → service.server.store.cat ≡ begun found → grid_of (begun found) ≡ grid_of found → service.server.logged_in ≡ false → IsHeld main service.server → Served plugin stores stores ambient ambient found since main main from from sink sink service
+served_none plugin stores ambient found since main from sink service told main_last sink_last unread taken number cat grid nobody held =
     let state : begins (grid_of found) ≡ state_of service.server =
     ap (λ (g : Grid). begins g) (sym grid ∙ ap grid_of (sym cat)) ∙ ap (λ b. (let s : State = record { grid = grid_of service.server.store.cat; logged_in = b } in s)) (sym nobody) in
     let stood : StandsFor main.holds (begun found) = (let P : Cat → Type 0 = λ c. StandsFor main.holds c in subst P cat (held_stands main service.server held told)) in
@@ -85,14 +95,15 @@ served_none rose found since main from sink service told main_last sink_last unr
       run = ap (λ (c : Cat). c.numbers.run) cat;
       last = omega (arith, ap (λ (c : Cat). c.numbers.last) cat);
       pending = ap (λ (c : Cat). c.pending) cat;
-      caused = tt;
+      caused = caused_none plugin 0 [] stores stores (λ slot. refl) tt (stores_same plugin 0 stores);
+      drawn = draws_none ambient;
       shown = λ told. sym (append-nil sink.holds);
       main_settled = λ settled. settled;
       sink_settled = λ told settled. settled;
       held = held;
       images = λ sink_told main_settled sink_settled t main_image sink_image late main_left sink_left.
           image_of found [] sink.holds main.holds (begun found) 0 main_image sink_image (main_settled t main_image (omega (arith, main_last, late)) main_left) stood
-          (sink_settled t sink_image (omega (arith, sink_last, late)) sink_left ∙ sym (append-nil sink.holds)) (inr (record { run = refl; within = omega arith; grid = grid })) refl;
+          (sink_settled t sink_image (omega (arith, sink_last, late)) sink_left ∙ sym (append-nil sink.holds)) (inr (record { run = refl; within = omega arith; near = omega arith; grid = grid })) refl;
     }
 
 -- a line and its newline, and more
@@ -102,8 +113,9 @@ joins front line body more = ap (λ (t : Text). front ++ t) (sym (append_assoc l
 stop_is : (s t : Stop) → (let r : Result ⊤ Stop = Err s in r ≡ Err t) → s ≡ t
 stop_is s t is = cc
 
-module _ (rose : ℕ → Bool) (found : Cat) (since since_now : ℕ) (later : since ≤ since_now) (main_old main_mid : DiskState) (from mid : SourceState) (sink_old sink_mid : SinkState) (old : Service)
-    (served : Served rose found since main_old main_mid from mid sink_old sink_mid old) (main_told : IsTrue main_mid.tells) (source_told : IsTrue mid.tells) (sink_told : IsTrue sink_old.tells → IsTrue sink_mid.tells) (main_last : main_mid.last ≤ since_now) (sink_last : sink_mid.last ≤ since_now) where
+module _ {B : Type 0} (plugin : B → StoreState) (stores_old stores_mid stores_new : List B) (ambient_old ambient_mid ambient_new : AmbientState) (found : Cat) (since since_now : ℕ) (later : since ≤ since_now) (first_went : StoresGo plugin since stores_old stores_mid) (then_went : StoresGo plugin since_now stores_mid stores_new) (main_old main_mid : DiskState) (from mid : SourceState) (sink_old sink_mid : SinkState) (old : Service)
+    (known_still : (slot : ℕ) → IsKnown plugin since found main_old stores_old slot → IsKnown plugin since_now old.server.store.cat main_mid stores_mid slot)
+    (served : Served plugin stores_old stores_mid ambient_old ambient_mid found since main_old main_mid from mid sink_old sink_mid old) (main_told : IsTrue main_mid.tells) (source_told : IsTrue mid.tells) (sink_told : IsTrue sink_old.tells → IsTrue sink_mid.tells) (main_last : main_mid.last ≤ since_now) (sink_last : sink_mid.last ≤ since_now) where
   -- ---- nothing was seen to be done
 
   quiet : (main_new : DiskState) → Rests main_mid main_new → Quiet old.server.store.cat since_now main_mid main_new
@@ -112,11 +124,8 @@ module _ (rose : ℕ → Bool) (found : Cat) (since since_now : ℕ) (later : si
   grid_before : grid_of old.server.store.cat ≡ (state_after (begins (grid_of found)) served.done (length served.done)).grid
   grid_before = ap (λ (s : State). s.grid) (sym served.state ∙ sym (state_after-all (begins (grid_of found)) served.asked served.done served.end served.after))
 
-  same_shown : (sink_new : SinkState) → Rests sink_mid sink_new → IsTrue sink_old.tells → sink_new.holds ≡ sink_old.holds ++ replies 1 served.done
+  same_shown : (sink_new : SinkState) → Rests sink_mid sink_new → ShowsAll served.done sink_old sink_new
   same_shown sink_new rests told = rests.stays (sink_told told) ∙ served.shown told
-
-  all_shown : (sink_new : SinkState) → Rests sink_mid sink_new → ShowsAll rose served.done sink_old sink_new
-  all_shown sink_new rests = (same_shown sink_new rests, served.caused)
 
   same_kept : (main_new : DiskState) → Quiet old.server.store.cat since_now main_mid main_new → IsKept main_new.holds served.end.grid
   same_kept main_new q = record { cat = q.cat; stands = q.stands main_told; grid = q.like.grid ∙ ap (λ (s : State). s.grid) (sym served.state) }
@@ -134,16 +143,17 @@ module _ (rose : ℕ → Bool) (found : Cat) (since since_now : ℕ) (later : si
           like_image found served.done sink_old.holds main sink old.server.store.cat l.0 served.run served.last served.pending grid_before l.1 l.2 shown
 
   -- a run that ends without another request
-  ends_quiet : (main_new : DiskState) (to : SourceState) (sink_new : SinkState) (s : Status) → Begins from.left served.asked → Quiet old.server.store.cat since_now main_mid main_new → Rests sink_mid sink_new
-      → Ends rose found served.asked served.done served.end main_new from to sink_old sink_new s → Serves rose found since main_old main_new from to sink_old sink_new s
-  ends_quiet main_new to sink_new s first q sink_rests ends = record {
+  ends_quiet : (main_new : DiskState) (to : SourceState) (sink_new : SinkState) (s : Status) → Begins from.left served.asked → Quiet old.server.store.cat since_now main_mid main_new → Rests sink_mid sink_new → DrawsIfTold [] ambient_mid ambient_new
+      → Ends found served.asked served.done served.end main_new from to sink_old sink_new s → Serves plugin stores_old stores_new ambient_old ambient_new found since main_old main_new from to sink_old sink_new s
+  ends_quiet main_new to sink_new s first q sink_rests drawn ends = record {
     asked = served.asked;
     first = first;
     done = served.done;
     end = served.end;
     after = served.after;
     shown = λ told. shows_all sink_old.holds served.done sink_new.holds (same_shown sink_new sink_rests told);
-    caused = caused_first rose (length served.done - 1) served.done served.caused;
+    caused = caused_on plugin since since_now (marks_of served.done) stores_old stores_mid stores_new first_went then_went served.caused;
+    drawn = draws_still (marks_of served.done) ambient_old ambient_mid ambient_new served.drawn drawn;
     ends = ends;
     images = same_images main_new sink_new q sink_rests;
   }
@@ -152,25 +162,25 @@ module _ (rose : ℕ → Bool) (found : Cat) (since since_now : ℕ) (later : si
 
   module _ (request : Asked) (asked : Result Verb Refusal) (held : Text) (held_is : held ≡ take 4097 request.line) (asks : Asks held request.body asked) where
     -- it did so from the state that the requests before it left
-    did_next : (d : Done) → Comes (state_of old.server) (act (state_of old.server) asked) d → Did served.end request.line request.body d
+    did_next : (d : Done) → Comes (IsKnown plugin since_now old.server.store.cat main_mid stores_mid) (state_of old.server) (act (state_of old.server) asked) d → Did (IsKnown plugin since_now old.server.store.cat main_mid stores_mid) served.end request.line request.body d
     did_next d comes =
-        let P : State → Type 0 = λ s. Did s request.line request.body d in
-        subst P (sym served.state) (did_held (state_of old.server) held request.line request.body asked d held_is asks comes)
+        let P : State → Type 0 = λ s. Did (IsKnown plugin since_now old.server.store.cat main_mid stores_mid) s request.line request.body d in
+        subst P (sym served.state) (did_held (IsKnown plugin since_now old.server.store.cat main_mid stores_mid) (state_of old.server) held request.line request.body asked d held_is asks comes)
 
     last_within : (b : Bool) → last_of b (old.number + 1) old.server.store.cat.numbers.last ≤ length served.done + 1
     last_within true = omega (arith, served.number)
     last_within false = omega (arith, served.last)
 
     -- what came of it, kept and shown or how far that came
-    module _ (main_new : DiskState) (sink_new : SinkState) (result : Result ⊤ Stop) (new : Server) (works : Works rose old.server asked (old.number + 1) since_now main_mid main_new sink_mid sink_new result new) where
+    module _ (main_new : DiskState) (sink_new : SinkState) (result : Result ⊤ Stop) (new : Server) (works : Works plugin stores_mid stores_new ambient_mid ambient_new old.server asked (old.number + 1) since_now main_mid main_new sink_mid sink_new result new) where
       abbrev d : Done
       d = works.d
 
       abbrev done_more : List Done
       done_more = served.done ++ works.d ∷ []
 
-      after_more : After (begins (grid_of found)) (served.asked ++ request ∷ []) (served.done ++ works.d ∷ []) works.d.state
-      after_more = After-push request works.d served.after (did_next works.d works.comes)
+      after_more : After (IsKnown plugin since found main_old stores_old) (begins (grid_of found)) (served.asked ++ request ∷ []) (served.done ++ works.d ∷ []) works.d.state
+      after_more = After-push request works.d served.after (did_less (IsKnown plugin since_now old.server.store.cat main_mid stores_mid) (IsKnown plugin since found main_old stores_old) known_still served.end request.line request.body works.d (did_next works.d works.comes))
 
       -- what a stop leaves
       more_images : IsTrue sink_old.tells → IsSettled main_old → IsSettled sink_old → (t : ℕ) (main sink : Text) → since < t → main_new.left t main → sink_new.left t sink → OneImage found (served.done ++ works.d ∷ []) sink_old.holds main sink
@@ -198,7 +208,7 @@ module _ (rose : ℕ → Bool) (found : Cat) (since since_now : ℕ) (later : si
 
       -- the run ends with it, of whose reply a first part is shown
       cut : (to : SourceState) (s : Status) → Begins from.left (served.asked ++ request ∷ []) → (IsTrue sink_mid.tells → AddsFirst (reply (old.number + 1) works.d.answer) sink_mid.holds sink_new.holds)
-          → Ends rose found (served.asked ++ request ∷ []) (served.done ++ works.d ∷ []) works.d.state main_new from to sink_old sink_new s → Serves rose found since main_old main_new from to sink_old sink_new s
+          → Ends found (served.asked ++ request ∷ []) (served.done ++ works.d ∷ []) works.d.state main_new from to sink_old sink_new s → Serves plugin stores_old stores_new ambient_old ambient_new found since main_old main_new from to sink_old sink_new s
       cut to s begins_more adds ends = record {
         asked = served.asked ++ request ∷ [];
         first = begins_more;
@@ -208,14 +218,15 @@ module _ (rose : ℕ → Bool) (found : Cat) (since since_now : ℕ) (later : si
         shown = λ told.
             all_but_one sink_old.holds served.done works.d sink_new.holds
             (shows_part sink_old.holds sink_mid.holds served.done works.d (old.number + 1) sink_new.holds (omega (arith, served.number)) (served.shown told) (adds (sink_told told)));
-        caused = caused_before rose served.done works.d served.caused;
+        caused = caused_more plugin since since_now served.done works.d stores_old stores_mid stores_new first_went then_went served.caused works.caused;
+        drawn = draws_more served.done works.d ambient_old ambient_mid ambient_new served.drawn works.drawn;
         ends = ends;
         images = more_images;
       }
 
     -- it was done, kept and shown, and the run goes on
     next_worked : (new : Service) (main_new : DiskState) (to : SourceState) (sink_new : SinkState) (front : Text) → from.left ≡ front ++ (new.reader.unread ++ to.left) → new.reader.taken ≡ length front + length new.reader.unread
-        → Takes front (served.asked ++ request ∷ []) [] → new.number ≡ old.number + 1 → Works rose old.server asked (old.number + 1) since_now main_mid main_new sink_mid sink_new (Ok tt) new.server → Served rose found since main_old main_new from to sink_old sink_new new
+        → Takes front (served.asked ++ request ∷ []) [] → new.number ≡ old.number + 1 → Works plugin stores_mid stores_new ambient_mid ambient_new old.server asked (old.number + 1) since_now main_mid main_new sink_mid sink_new (Ok tt) new.server → Served plugin stores_old stores_new ambient_old ambient_new found since main_old main_new from to sink_old sink_new new
     next_worked new main_new to sink_new front split taken takes number works =
         let same : new.server.store.cat ≡ works.after = works.ends.0.cat in
         record {
@@ -232,7 +243,8 @@ module _ (rose : ℕ → Bool) (found : Cat) (since since_now : ℕ) (later : si
           run = ap (λ (c : Cat). c.numbers.run) same ∙ works.follows.run ∙ served.run;
           last = omega (arith, ap (λ (c : Cat). c.numbers.last) same, works.follows.last, last_within works.d.changed, served.last, length-append served.done (works.d ∷ []));
           pending = ap (λ (c : Cat). c.pending) same ∙ works.follows.pending ∙ served.pending;
-          caused = caused_more rose served.done works.d served.caused works.ends.2;
+          caused = caused_more plugin since since_now served.done works.d stores_old stores_mid stores_new first_went then_went served.caused works.caused;
+          drawn = draws_more served.done works.d ambient_old ambient_mid ambient_new served.drawn works.drawn;
           shown = λ told. more_shown main_new sink_new (Ok tt) new.server works works.ends.1 told;
           main_settled = λ settled. works.ends.0.settled main_told (served.main_settled settled);
           sink_settled = λ told settled. works.sink_settled (sink_told told) (served.sink_settled told settled);
@@ -242,36 +254,36 @@ module _ (rose : ℕ → Bool) (found : Cat) (since since_now : ℕ) (later : si
 
     -- how the run ends in it, by what stopped it
     stops : (new : Server) (main_new : DiskState) (to : SourceState) (sink_new : SinkState) (s : Stop) → Begins from.left served.asked → Begins from.left (served.asked ++ request ∷ [])
-        → Answers rose old.server asked (old.number + 1) since_now main_mid main_new sink_mid sink_new (Err s) new → Serves rose found since main_old main_new from to sink_old sink_new (status_of s)
+        → Answers plugin stores_mid stores_new ambient_mid ambient_new old.server asked (old.number + 1) since_now main_mid main_new sink_mid sink_new (Err s) new → Serves plugin stores_old stores_new ambient_old ambient_new found since main_old main_new from to sink_old sink_new (status_of s)
     stops new main_new to sink_new stop.Disk first begins_more (worked w) = cut main_new sink_new (Err stop.Disk) new w to status.DiskFault begins_more (λ told. (
         let P : Text → Type 0 = λ t. AddsFirst (reply (old.number + 1) w.d.answer) sink_mid.holds t in subst P (sym (w.ends told)) (adds_none (reply (old.number + 1) w.d.answer) sink_mid.holds))) tt
     stops new main_new to sink_new stop.Sink first begins_more (worked w) = cut main_new sink_new (Err stop.Sink) new w to status.SinkFault begins_more w.ends.1 (kept_more main_new sink_new (Err stop.Sink) new w w.ends.0.held w.ends.0.state)
     stops new main_new to sink_new stop.Memory first begins_more (worked w) = cut main_new sink_new (Err stop.Memory) new w to status.Memory begins_more w.ends.1 (kept_more main_new sink_new (Err stop.Memory) new w w.ends.0.held w.ends.0.state)
     stops new main_new to sink_new (stop.Worn what place) first begins_more (worked w) = absurd w.ends
-    stops new main_new to sink_new s first begins_more (not_begun is q sink) =
-        let S : Stop → Type 0 = λ x. Serves rose found since main_old main_new from to sink_old sink_new (status_of x) in
-        subst S (sym (stop_is s stop.Memory is)) (ends_quiet main_new to sink_new status.Memory first q sink (same_kept main_new q))
-    stops new main_new to sink_new s first begins_more (log_worn place d is comes changed far closes q sink) =
-        let S : Stop → Type 0 = λ x. Serves rose found since main_old main_new from to sink_old sink_new (status_of x) in
+    stops new main_new to sink_new s first begins_more (not_begun is q sink drawn) =
+        let S : Stop → Type 0 = λ x. Serves plugin stores_old stores_new ambient_old ambient_new found since main_old main_new from to sink_old sink_new (status_of x) in
+        subst S (sym (stop_is s stop.Memory is)) (ends_quiet main_new to sink_new status.Memory first q sink drawn (same_kept main_new q))
+    stops new main_new to sink_new s first begins_more (log_worn place d is comes changed far closes q sink drawn) =
+        let S : Stop → Type 0 = λ x. Serves plugin stores_old stores_new ambient_old ambient_new found since main_old main_new from to sink_old sink_new (status_of x) in
         subst S (sym (stop_is s (stop.Worn wear.Log place) is))
-        (ends_quiet main_new to sink_new (status.Worn wear.Log place) first q sink (
-          (far, closes main_told, inr (record { request = request; begins = begins_more; next = d; did = did_next d comes; changes = changed })),
-          all_shown sink_new sink,
+        (ends_quiet main_new to sink_new (status.Worn wear.Log place) first q sink drawn (
+          (far, closes main_told, inr (record { request = request; begins = begins_more; next = d; did = did_less (IsKnown plugin since_now old.server.store.cat main_mid stores_mid) (λ slot. ⊥) (λ slot no. absurd no) served.end request.line request.body d (did_next d comes); changes = changed })),
+          same_shown sink_new sink,
           same_kept main_new q,
         ))
-    stops new main_new to sink_new s first begins_more (vaults_worn is puts far main sink) =
-        let S : Stop → Type 0 = λ x. Serves rose found since main_old main_new from to sink_old sink_new (status_of x) in
+    stops new main_new to sink_new s first begins_more (vaults_worn is puts far main sink drawn) =
+        let S : Stop → Type 0 = λ x. Serves plugin stores_old stores_new ambient_old ambient_new found since main_old main_new from to sink_old sink_new (status_of x) in
         let q = quiet main_new main in
         let L : Text → Type 0 = λ t. Asks t request.body asked in
         let A : State → Type 0 = λ s. AsksToPut s asked in
         subst S (sym (stop_is s (stop.Worn wear.Vaults old.server.store.cat.numbers.next_vault) is))
-        (ends_quiet main_new to sink_new (status.Worn wear.Vaults old.server.store.cat.numbers.next_vault) first q sink (
+        (ends_quiet main_new to sink_new (status.Worn wear.Vaults old.server.store.cat.numbers.next_vault) first q sink drawn (
           (
             far,
             record { cat = old.server.store.cat; stands = (let P : Text → Type 0 = λ t. StandsFor t old.server.store.cat in subst P (sym (main.stays main_told)) (held_stands main_mid old.server served.held main_told)); next = refl },
             record { request = request; begins = begins_more; what = asked; asks = asks_held request.line request.body asked (subst L held_is asks); puts = subst A (sym served.state) puts },
           ),
-          all_shown sink_new sink,
+          same_shown sink_new sink,
           same_kept main_new q,
         ))
 
@@ -407,15 +419,15 @@ module _ (rose : ℕ → Bool) (found : Cat) (since since_now : ℕ) (later : si
   asks_same held asked body other is asks = let P : Text → Type 0 = λ t. Asks held t asked in subst P is asks
 
   next_handled : (new : Service) (main_new : DiskState) (to : SourceState) (sink_new : SinkState) (asked : Result Verb Refusal) (held body : Text) (w : Went new.reader to held body) → Asks held body asked
-      → Answers rose old.server asked (old.number + 1) since_now main_mid main_new sink_mid sink_new (Ok tt) new.server → new.number ≡ old.number + 1 → Served rose found since main_old main_new from to sink_old sink_new new
+      → Answers plugin stores_mid stores_new ambient_mid ambient_new old.server asked (old.number + 1) since_now main_mid main_new sink_mid sink_new (Ok tt) new.server → new.number ≡ old.number + 1 → Served plugin stores_old stores_new ambient_old ambient_new found since main_old main_new from to sink_old sink_new new
   next_handled new main_new to sink_new asked held body w asks (worked works) number = next_worked w.request asked held w.held_is (asks_same held asked body w.request.body w.body_is asks) new main_new to sink_new w.front w.split w.taken w.takes number works
-  next_handled new main_new to sink_new asked held body w asks (not_begun is main sink) number = absurd (cc)
-  next_handled new main_new to sink_new asked held body w asks (log_worn place d is comes changed far closes main sink) number = absurd (cc)
-  next_handled new main_new to sink_new asked held body w asks (vaults_worn is puts far main sink) number = absurd (cc)
+  next_handled new main_new to sink_new asked held body w asks (not_begun is main sink drawn) number = absurd (cc)
+  next_handled new main_new to sink_new asked held body w asks (log_worn place d is comes changed far closes main sink drawn) number = absurd (cc)
+  next_handled new main_new to sink_new asked held body w asks (vaults_worn is puts far main sink drawn) number = absurd (cc)
 
   next_skipped : (new : Service) (main_new : DiskState) (to : SourceState) (sink_new : SinkState) (held : Text) (reads : ReadsLine old.reader ended.Line new.reader mid to held) → is_request held ≡ false
-      → new.server ≡ old.server → new.number ≡ old.number → Rests main_mid main_new → Rests sink_mid sink_new → Served rose found since main_old main_new from to sink_old sink_new new
-  next_skipped new main_new to sink_new held reads none server number main_rests sink_rests = record {
+      → new.server ≡ old.server → new.number ≡ old.number → Rests main_mid main_new → Rests sink_mid sink_new → DrawsIfTold [] ambient_mid ambient_new → Served plugin stores_old stores_new ambient_old ambient_new found since main_old main_new from to sink_old sink_new new
+  next_skipped new main_new to sink_new held reads none server number main_rests sink_rests drawn = record {
     front = served.front ++ (reads.line ++ 0x0A ∷ []);
     split = behind_line new.reader to held reads ∙ joins served.front reads.line [] (new.reader.unread ++ to.left);
     taken = omega (
@@ -438,7 +450,8 @@ module _ (rose : ℕ → Bool) (found : Cat) (since since_now : ℕ) (later : si
     run = ap (λ (s : Server). s.store.cat.numbers.run) server ∙ served.run;
     last = omega (arith, ap (λ (s : Server). s.store.cat.numbers.last) server, served.last);
     pending = ap (λ (s : Server). s.store.cat.pending) server ∙ served.pending;
-    caused = served.caused;
+    caused = caused_on plugin since since_now (marks_of served.done) stores_old stores_mid stores_new first_went then_went served.caused;
+    drawn = draws_still (marks_of served.done) ambient_old ambient_mid ambient_new served.drawn drawn;
     shown = same_shown sink_new sink_rests;
     main_settled = λ settled t image late left. served.main_settled settled t image (omega (arith, late, main_rests.last)) (main_rests.left t image left) ∙ sym (main_rests.stays main_told);
     sink_settled = λ told settled t image late left. served.sink_settled told settled t image (omega (arith, late, sink_rests.last)) (sink_rests.left t image left) ∙ sym (sink_rests.stays (sink_told told));
@@ -447,13 +460,13 @@ module _ (rose : ℕ → Bool) (found : Cat) (since since_now : ℕ) (later : si
   }
 
   -- the run goes on
-  pub next_served : (new : Service) (main_new : DiskState) (to : SourceState) (sink_new : SinkState) (o : Option Status) → Turns rose old new since_now main_mid main_new mid to sink_mid sink_new o → o ≡ None
-      → Served rose found since main_old main_new from to sink_old sink_new new
+  pub next_served : (new : Service) (main_new : DiskState) (to : SourceState) (sink_new : SinkState) (o : Option Status) → Turns plugin stores_mid stores_new ambient_mid ambient_new old new since_now main_mid main_new mid to sink_mid sink_new o → o ≡ None
+      → Served plugin stores_old stores_new ambient_old ambient_new found since main_old main_new from to sink_old sink_new new
   next_served new main_new to sink_new o (answered asked true finds handles) e = absurd (cc)
   next_served new main_new to sink_new o (answered asked false finds handles) e =
       next_handled new main_new to sink_new asked finds.0 finds.1 (went new.reader to finds.0 finds.1 finds.3 finds.2) finds.4 handles.answers handles.number
   next_served new main_new to sink_new o (stopped asked over stop finds handles) e = absurd (cc)
-  next_served new main_new to sink_new o (idle taken.Skipped finds is idles) e = next_skipped new main_new to sink_new finds.0 finds.1 finds.2 idles.server idles.number idles.main idles.sink
+  next_served new main_new to sink_new o (idle taken.Skipped finds is idles) e = next_skipped new main_new to sink_new finds.0 finds.1 finds.2 idles.server idles.number idles.main idles.sink idles.drawn
   next_served new main_new to sink_new o (idle taken.Over finds is idles) e = absurd (cc)
   next_served new main_new to sink_new o (idle (taken.Request asked over) finds is idles) e = absurd is
   next_served new main_new to sink_new o (idle taken.Long finds is idles) e = absurd (cc)
@@ -463,14 +476,13 @@ module _ (rose : ℕ → Bool) (found : Cat) (since since_now : ℕ) (later : si
   -- ---- the end
 
   end_answered : (new : Service) (main_new : DiskState) (to : SourceState) (sink_new : SinkState) (asked : Result Verb Refusal) (held body : Text) (l : Last to held body) → Asks held body asked
-      → Answers rose old.server asked (old.number + 1) since_now main_mid main_new sink_mid sink_new (Ok tt) new.server → Serves rose found since main_old main_new from to sink_old sink_new status.Done
-  end_answered new main_new to sink_new asked held body l asks (not_begun is main sink) = absurd (cc)
-  end_answered new main_new to sink_new asked held body l asks (log_worn place d is comes changed far closes main sink) = absurd (cc)
-  end_answered new main_new to sink_new asked held body l asks (vaults_worn is puts far main sink) = absurd (cc)
+      → Answers plugin stores_mid stores_new ambient_mid ambient_new old.server asked (old.number + 1) since_now main_mid main_new sink_mid sink_new (Ok tt) new.server → Serves plugin stores_old stores_new ambient_old ambient_new found since main_old main_new from to sink_old sink_new status.Done
+  end_answered new main_new to sink_new asked held body l asks (not_begun is main sink drawn) = absurd (cc)
+  end_answered new main_new to sink_new asked held body l asks (log_worn place d is comes changed far closes main sink drawn) = absurd (cc)
+  end_answered new main_new to sink_new asked held body l asks (vaults_worn is puts far main sink drawn) = absurd (cc)
   end_answered new main_new to sink_new asked held body l asks_so (worked w) =
       let asks = asks_same held asked body l.request.body l.body_is asks_so in
       let all : IsTrue sink_old.tells → sink_new.holds ≡ sink_old.holds ++ replies 1 (served.done ++ w.d ∷ []) = more_shown l.request asked held l.held_is asks main_new sink_new (Ok tt) new.server w w.ends.1 in
-      let caused : AllCaused rose (served.done ++ w.d ∷ []) = caused_more rose served.done w.d served.caused w.ends.2 in
       record {
         asked = served.asked ++ l.request ∷ [];
         first = inr l.are;
@@ -478,13 +490,14 @@ module _ (rose : ℕ → Bool) (found : Cat) (since since_now : ℕ) (later : si
         end = w.d.state;
         after = after_more l.request asked held l.held_is asks main_new sink_new (Ok tt) new.server w;
         shown = λ told. shows_all sink_old.holds (served.done ++ w.d ∷ []) sink_new.holds (all told);
-        caused = caused_first rose (length (served.done ++ w.d ∷ []) - 1) (served.done ++ w.d ∷ []) caused;
-        ends = (record { are = l.are; all = l.all; fits = l.fits }, (all, caused), kept_more l.request asked held l.held_is asks main_new sink_new (Ok tt) new.server w w.ends.0.held w.ends.0.state);
+        caused = caused_more plugin since since_now served.done w.d stores_old stores_mid stores_new first_went then_went served.caused w.caused;
+        drawn = draws_more served.done w.d ambient_old ambient_mid ambient_new served.drawn w.drawn;
+        ends = (record { are = l.are; all = l.all; fits = l.fits }, all, kept_more l.request asked held l.held_is asks main_new sink_new (Ok tt) new.server w w.ends.0.held w.ends.0.state);
         images = more_images l.request asked held l.held_is asks main_new sink_new (Ok tt) new.server w;
       }
 
   end_stopped : (new : Service) (main_new : DiskState) (to : SourceState) (sink_new : SinkState) (asked : Result Verb Refusal) (over : Bool) (stop : Stop) (held body : Text) → Gets old.reader new.reader mid to held body over → is_request held ≡ true
-      → Asks held body asked → Answers rose old.server asked (old.number + 1) since_now main_mid main_new sink_mid sink_new (Err stop) new.server → Serves rose found since main_old main_new from to sink_old sink_new (status_of stop)
+      → Asks held body asked → Answers plugin stores_mid stores_new ambient_mid ambient_new old.server asked (old.number + 1) since_now main_mid main_new sink_mid sink_new (Err stop) new.server → Serves plugin stores_old stores_new ambient_old ambient_new found since main_old main_new from to sink_old sink_new (status_of stop)
   end_stopped new main_new to sink_new asked false stop held body gets some asks a =
       let w = went new.reader to held body some gets in
       let rest = new.reader.unread ++ to.left in
@@ -494,8 +507,8 @@ module _ (rose : ℕ → Bool) (found : Cat) (since since_now : ℕ) (later : si
       stops l.request asked held l.held_is (asks_same held asked body l.request.body l.body_is asks) new.server main_new to sink_new stop so_far (inr l.are) a
 
   end_blank : (new : Service) (main_new : DiskState) (to : SourceState) (sink_new : SinkState) (held : Text) (reads : ReadsLine old.reader ended.End new.reader mid to held) → is_request held ≡ false
-      → Rests main_mid main_new → Rests sink_mid sink_new → Serves rose found since main_old main_new from to sink_old sink_new status.Done
-  end_blank new main_new to sink_new held reads none main_rests sink_rests =
+      → Rests main_mid main_new → Rests sink_mid sink_new → DrawsIfTold [] ambient_mid ambient_new → Serves plugin stores_old stores_new ambient_old ambient_new found since main_old main_new from to sink_old sink_new status.Done
+  end_blank new main_new to sink_new held reads none main_rests sink_rests drawn =
       let are : AreRequests from.left served.asked =
       record {
         whole = served.asked;
@@ -505,15 +518,15 @@ module _ (rose : ℕ → Bool) (found : Cat) (since since_now : ℕ) (later : si
         ends = ends_blank reads.is (sym (held_request held reads.line reads.held) ∙ none);
         are = sym (append-nil served.asked);
       } in
-      ends_quiet main_new to sink_new status.Done (inr are) (quiet main_new main_rests) sink_rests
-      (record { are = are; all = (reads.ends.2 source_told).1; fits = last_fits new.reader to held reads }, all_shown sink_new sink_rests, same_kept main_new (quiet main_new main_rests))
+      ends_quiet main_new to sink_new status.Done (inr are) (quiet main_new main_rests) sink_rests drawn
+      (record { are = are; all = (reads.ends.2 source_told).1; fits = last_fits new.reader to held reads }, same_shown sink_new sink_rests, same_kept main_new (quiet main_new main_rests))
 
   -- more bytes than are read stand behind these
   ends_long : (main_new : DiskState) (to : SourceState) (sink_new : SinkState) (rest : Text) (byte : ℕ) → from.left ≡ (served.front ++ rest) ++ byte ∷ to.left → length (served.front ++ rest) ≡ 2 ^ 48 → IsPart rest
-      → Rests main_mid main_new → Rests sink_mid sink_new → Serves rose found since main_old main_new from to sink_old sink_new (status.Long (2 ^ 48 + 1))
-  ends_long main_new to sink_new rest byte split size part main_rests sink_rests =
+      → Rests main_mid main_new → Rests sink_mid sink_new → DrawsIfTold [] ambient_mid ambient_new → Serves plugin stores_old stores_new ambient_old ambient_new found since main_old main_new from to sink_old sink_new (status.Long (2 ^ 48 + 1))
+  ends_long main_new to sink_new rest byte split size part main_rests sink_rests drawn =
       let front = served.front ++ rest in
-      ends_quiet main_new to sink_new (status.Long (2 ^ 48 + 1)) so_far (quiet main_new main_rests) sink_rests (
+      ends_quiet main_new to sink_new (status.Long (2 ^ 48 + 1)) so_far (quiet main_new main_rests) sink_rests drawn (
         refl,
         record {
           taken = front ++ byte ∷ [];
@@ -523,13 +536,13 @@ module _ (rose : ℕ → Bool) (found : Cat) (since since_now : ℕ) (later : si
           takes = takes_of (take (2 ^ 48) (front ++ byte ∷ [])) served.front rest served.asked (take_at front (byte ∷ []) (2 ^ 48) size) served.takes;
           part = part;
         },
-        all_shown sink_new sink_rests,
+        same_shown sink_new sink_rests,
         same_kept main_new (quiet main_new main_rests),
       )
 
-  end_long_line : (new : Service) (main_new : DiskState) (to : SourceState) (sink_new : SinkState) (held : Text) → ReadsLine old.reader ended.Long new.reader mid to held → Rests main_mid main_new → Rests sink_mid sink_new
-      → Serves rose found since main_old main_new from to sink_old sink_new (status.Long (2 ^ 48 + 1))
-  end_long_line new main_new to sink_new held reads main_rests sink_rests =
+  end_long_line : (new : Service) (main_new : DiskState) (to : SourceState) (sink_new : SinkState) (held : Text) → ReadsLine old.reader ended.Long new.reader mid to held → Rests main_mid main_new → Rests sink_mid sink_new → DrawsIfTold [] ambient_mid ambient_new
+      → Serves plugin stores_old stores_new ambient_old ambient_new found since main_old main_new from to sink_old sink_new (status.Long (2 ^ 48 + 1))
+  end_long_line new main_new to sink_new held reads main_rests sink_rests drawn =
       let byte = reads.ends.2.0 in
       let split : from.left ≡ (served.front ++ reads.line) ++ byte ∷ to.left =
       served.split ∙ ap (λ (t : Text). served.front ++ t)
@@ -538,11 +551,11 @@ module _ (rose : ℕ → Bool) (found : Cat) (since since_now : ℕ) (later : si
       ∙ sym (append_assoc served.front reads.line (byte ∷ to.left)) in
       let size : length (served.front ++ reads.line) ≡ 2 ^ 48 =
       omega (arith, length-append served.front reads.line, ap length reads.ends.0, length-append old.reader.unread reads.got, served.taken, reads.ends.3) in
-      ends_long main_new to sink_new reads.line byte split size (of_line reads.is) main_rests sink_rests
+      ends_long main_new to sink_new reads.line byte split size (of_line reads.is) main_rests sink_rests drawn
 
   end_long_body : (new : Service) (main_new : DiskState) (to : SourceState) (sink_new : SinkState) (reader : Reader) (between : SourceState) (count : ℕ) (body : Text) (in_body : InBody old.reader reader mid between count)
-      → Passes reader count passed.Long new.reader between to body → Rests main_mid main_new → Rests sink_mid sink_new → Serves rose found since main_old main_new from to sink_old sink_new (status.Long (2 ^ 48 + 1))
-  end_long_body new main_new to sink_new reader between count body in_body passes main_rests sink_rests =
+      → Passes reader count passed.Long new.reader between to body → Rests main_mid main_new → Rests sink_mid sink_new → DrawsIfTold [] ambient_mid ambient_new → Serves plugin stores_old stores_new ambient_old ambient_new found since main_old main_new from to sink_old sink_new (status.Long (2 ^ 48 + 1))
+  end_long_body new main_new to sink_new reader between count body in_body passes main_rests sink_rests drawn =
       let reads = in_body.reads in
       let line = reads.line in
       let byte = passes.ends.3.0 in
@@ -567,25 +580,25 @@ module _ (rose : ℕ → Bool) (found : Cat) (since since_now : ℕ) (later : si
         length-append line (10 ∷ body),
       ) in
       ends_long main_new to sink_new (line ++ 0x0A ∷ body) byte split size
-      (of_body line body refl reads.is (sym (held_request in_body.held line reads.held) ∙ in_body.some) (body_held line count (subst H reads.held in_body.has)) passes.ends.1) main_rests sink_rests
+      (of_body line body refl reads.is (sym (held_request in_body.held line reads.held) ∙ in_body.some) (body_held line count (subst H reads.held in_body.has)) passes.ends.1) main_rests sink_rests drawn
 
   -- the source failed behind these
-  ends_broken : (main_new : DiskState) (to : SourceState) (sink_new : SinkState) (rest : Text) → from.left ≡ (served.front ++ rest) ++ to.left → IsPart rest → Rests main_mid main_new → Rests sink_mid sink_new
-      → Serves rose found since main_old main_new from to sink_old sink_new status.SourceFault
-  ends_broken main_new to sink_new rest split part main_rests sink_rests =
-      ends_quiet main_new to sink_new status.SourceFault so_far (quiet main_new main_rests) sink_rests
-      (record { taken = served.front ++ rest; split = split; left = rest; takes = takes_of (served.front ++ rest) served.front rest served.asked refl served.takes; part = part }, all_shown sink_new sink_rests, same_kept main_new (quiet main_new main_rests))
+  ends_broken : (main_new : DiskState) (to : SourceState) (sink_new : SinkState) (rest : Text) → from.left ≡ (served.front ++ rest) ++ to.left → IsPart rest → Rests main_mid main_new → Rests sink_mid sink_new → DrawsIfTold [] ambient_mid ambient_new
+      → Serves plugin stores_old stores_new ambient_old ambient_new found since main_old main_new from to sink_old sink_new status.SourceFault
+  ends_broken main_new to sink_new rest split part main_rests sink_rests drawn =
+      ends_quiet main_new to sink_new status.SourceFault so_far (quiet main_new main_rests) sink_rests drawn
+      (record { taken = served.front ++ rest; split = split; left = rest; takes = takes_of (served.front ++ rest) served.front rest served.asked refl served.takes; part = part }, same_shown sink_new sink_rests, same_kept main_new (quiet main_new main_rests))
 
-  end_broken_line : (main_new : DiskState) (to : SourceState) (sink_new : SinkState) → ReadsPart old.reader mid to → Rests main_mid main_new → Rests sink_mid sink_new → Serves rose found since main_old main_new from to sink_old sink_new status.SourceFault
-  end_broken_line main_new to sink_new part main_rests sink_rests =
+  end_broken_line : (main_new : DiskState) (to : SourceState) (sink_new : SinkState) → ReadsPart old.reader mid to → Rests main_mid main_new → Rests sink_mid sink_new → DrawsIfTold [] ambient_mid ambient_new → Serves plugin stores_old stores_new ambient_old ambient_new found since main_old main_new from to sink_old sink_new status.SourceFault
+  end_broken_line main_new to sink_new part main_rests sink_rests drawn =
       let rest = old.reader.unread ++ part.got in
       ends_broken main_new to sink_new rest
       (served.split ∙ ap (λ (t : Text). served.front ++ t) (ap (λ (t : Text). old.reader.unread ++ t) (part.took source_told) ∙ sym (append_assoc old.reader.unread part.got to.left)) ∙ sym (append_assoc served.front rest to.left))
-      (of_line part.is) main_rests sink_rests
+      (of_line part.is) main_rests sink_rests drawn
 
   end_broken_body : (main_new : DiskState) (to : SourceState) (sink_new : SinkState) (reader : Reader) (between : SourceState) (count : ℕ) (in_body : InBody old.reader reader mid between count)
-      → PassesPart reader count between to → Rests main_mid main_new → Rests sink_mid sink_new → Serves rose found since main_old main_new from to sink_old sink_new status.SourceFault
-  end_broken_body main_new to sink_new reader between count in_body part main_rests sink_rests =
+      → PassesPart reader count between to → Rests main_mid main_new → Rests sink_mid sink_new → DrawsIfTold [] ambient_mid ambient_new → Serves plugin stores_old stores_new ambient_old ambient_new found since main_old main_new from to sink_old sink_new status.SourceFault
+  end_broken_body main_new to sink_new reader between count in_body part main_rests sink_rests drawn =
       let reads = in_body.reads in
       let line = reads.line in
       let body = reader.unread ++ part.got in
@@ -594,37 +607,37 @@ module _ (rose : ℕ → Bool) (found : Cat) (since since_now : ℕ) (later : si
       let rest : reader.unread ++ between.left ≡ body ++ to.left = ap (λ (t : Text). reader.unread ++ t) (part.took between_told) ∙ sym (append_assoc reader.unread part.got to.left) in
       ends_broken main_new to sink_new (line ++ 0x0A ∷ body)
       (behind_line reader between in_body.held reads ∙ ap (λ (t : Text). served.front ++ (line ++ 0x0A ∷ t)) rest ∙ joins served.front line body to.left)
-      (of_body line body refl reads.is (sym (held_request in_body.held line reads.held) ∙ in_body.some) (body_held line count (subst H reads.held in_body.has)) part.short) main_rests sink_rests
+      (of_body line body refl reads.is (sym (held_request in_body.held line reads.held) ∙ in_body.some) (body_held line count (subst H reads.held in_body.has)) part.short) main_rests sink_rests drawn
 
-  end_early : (main_new : DiskState) (to : SourceState) (sink_new : SinkState) → Rests main_mid main_new → Rests sink_mid sink_new → Serves rose found since main_old main_new from to sink_old sink_new status.Memory
-  end_early main_new to sink_new main_rests sink_rests = ends_quiet main_new to sink_new status.Memory so_far (quiet main_new main_rests) sink_rests (same_kept main_new (quiet main_new main_rests))
+  end_early : (main_new : DiskState) (to : SourceState) (sink_new : SinkState) → Rests main_mid main_new → Rests sink_mid sink_new → DrawsIfTold [] ambient_mid ambient_new → Serves plugin stores_old stores_new ambient_old ambient_new found since main_old main_new from to sink_old sink_new status.Memory
+  end_early main_new to sink_new main_rests sink_rests drawn = ends_quiet main_new to sink_new status.Memory so_far (quiet main_new main_rests) sink_rests drawn (same_kept main_new (quiet main_new main_rests))
 
-  pub ends_so : (new : Service) (main_new : DiskState) (to : SourceState) (sink_new : SinkState) (o : Option Status) (s : Status) → Turns rose old new since_now main_mid main_new mid to sink_mid sink_new o → o ≡ Some s
-      → Serves rose found since main_old main_new from to sink_old sink_new s
+  pub ends_so : (new : Service) (main_new : DiskState) (to : SourceState) (sink_new : SinkState) (o : Option Status) (s : Status) → Turns plugin stores_mid stores_new ambient_mid ambient_new old new since_now main_mid main_new mid to sink_mid sink_new o → o ≡ Some s
+      → Serves plugin stores_old stores_new ambient_old ambient_new found since main_old main_new from to sink_old sink_new s
   ends_so new main_new to sink_new o s turns e = by_turn o turns s e
     where
-      ends : (t : Status) (s : Status) → t ≡ s → Serves rose found since main_old main_new from to sink_old sink_new t → Serves rose found since main_old main_new from to sink_old sink_new s
-      ends t s same serves = let Q : Status → Type 0 = λ u. Serves rose found since main_old main_new from to sink_old sink_new u in subst Q same serves
+      ends : (t : Status) (s : Status) → t ≡ s → Serves plugin stores_old stores_new ambient_old ambient_new found since main_old main_new from to sink_old sink_new t → Serves plugin stores_old stores_new ambient_old ambient_new found since main_old main_new from to sink_old sink_new s
+      ends t s same serves = let Q : Status → Type 0 = λ u. Serves plugin stores_old stores_new ambient_old ambient_new found since main_old main_new from to sink_old sink_new u in subst Q same serves
 
-      by_turn : (o : Option Status) → Turns rose old new since_now main_mid main_new mid to sink_mid sink_new o → (s : Status) → o ≡ Some s → Serves rose found since main_old main_new from to sink_old sink_new s
+      by_turn : (o : Option Status) → Turns plugin stores_mid stores_new ambient_mid ambient_new old new since_now main_mid main_new mid to sink_mid sink_new o → (s : Status) → o ≡ Some s → Serves plugin stores_old stores_new ambient_old ambient_new found since main_old main_new from to sink_old sink_new s
       by_turn o (answered asked false finds handles) s e = absurd (cc)
       by_turn o (answered asked true finds handles) s e =
           ends status.Done s (cc) (end_answered new main_new to sink_new asked finds.0 finds.1 (last new.reader to finds.0 finds.1 finds.3 finds.2) finds.4 handles.answers)
       by_turn o (stopped asked over stop finds handles) s e = ends (status_of stop) s (cc) (end_stopped new main_new to sink_new asked over stop finds.0 finds.1 finds.2 finds.3 finds.4 handles.answers)
       by_turn o (idle taken.Skipped finds is idles) s e = absurd (cc)
-      by_turn o (idle taken.Over finds is idles) s e = ends status.Done s (cc) (end_blank new main_new to sink_new finds.0 finds.1 finds.2 idles.main idles.sink)
+      by_turn o (idle taken.Over finds is idles) s e = ends status.Done s (cc) (end_blank new main_new to sink_new finds.0 finds.1 finds.2 idles.main idles.sink idles.drawn)
       by_turn o (idle (taken.Request asked over) finds is idles) s e = absurd is
-      by_turn o (idle taken.Long (inl line) is idles) s e = ends (status.Long (2 ^ 48 + 1)) s (cc) (end_long_line new main_new to sink_new line.0 line.1 idles.main idles.sink)
+      by_turn o (idle taken.Long (inl line) is idles) s e = ends (status.Long (2 ^ 48 + 1)) s (cc) (end_long_line new main_new to sink_new line.0 line.1 idles.main idles.sink idles.drawn)
       by_turn o (idle taken.Long (inr body) is idles) s e =
-          ends (status.Long (2 ^ 48 + 1)) s (cc) (end_long_body new main_new to sink_new body.0 body.1 body.2 body.3 body.4 body.5 idles.main idles.sink)
-      by_turn o (idle taken.Fault (inl part) is idles) s e = ends status.SourceFault s (cc) (end_broken_line main_new to sink_new part idles.main idles.sink)
-      by_turn o (idle taken.Fault (inr body) is idles) s e = ends status.SourceFault s (cc) (end_broken_body main_new to sink_new body.0 body.1 body.2 body.3 body.4 idles.main idles.sink)
-      by_turn o (idle taken.Memory finds is idles) s e = ends status.Memory s (cc) (end_early main_new to sink_new idles.main idles.sink)
+          ends (status.Long (2 ^ 48 + 1)) s (cc) (end_long_body new main_new to sink_new body.0 body.1 body.2 body.3 body.4 body.5 idles.main idles.sink idles.drawn)
+      by_turn o (idle taken.Fault (inl part) is idles) s e = ends status.SourceFault s (cc) (end_broken_line main_new to sink_new part idles.main idles.sink idles.drawn)
+      by_turn o (idle taken.Fault (inr body) is idles) s e = ends status.SourceFault s (cc) (end_broken_body main_new to sink_new body.0 body.1 body.2 body.3 body.4 idles.main idles.sink idles.drawn)
+      by_turn o (idle taken.Memory finds is idles) s e = ends status.Memory s (cc) (end_early main_new to sink_new idles.main idles.sink idles.drawn)
 
 -- a run over which nothing was read, whatever it comes to
-pub ends_at_once : (rose : ℕ → Bool) (found : Cat) (since : ℕ) (main : DiskState) (from : SourceState) (sink : SinkState) (server : Server) → IsTrue main.tells → main.last ≤ since → sink.last ≤ since → server.store.cat ≡ begun found → grid_of (begun found) ≡ grid_of found
-    → IsHeld main server → Serves rose found since main main from from sink sink status.Memory
-ends_at_once rose found since main from sink server told main_last sink_last cat grid held =
+pub ends_at_once : {B : Type 0} (plugin : B → StoreState) (stores : List B) (ambient : AmbientState) (found : Cat) (since : ℕ) (main : DiskState) (from : SourceState) (sink : SinkState) (server : Server) → IsTrue main.tells → main.last ≤ since → sink.last ≤ since → server.store.cat ≡ begun found → grid_of (begun found) ≡ grid_of found
+    → IsHeld main server → Serves plugin stores stores ambient ambient found since main main from from sink sink status.Memory
+ends_at_once plugin stores ambient found since main from sink server told main_last sink_last cat grid held =
     let stood : StandsFor main.holds (begun found) = (let P : Cat → Type 0 = λ c. StandsFor main.holds c in subst P cat (held_stands main server held told)) in
     record {
       asked = [];
@@ -633,9 +646,10 @@ ends_at_once rose found since main from sink server told main_last sink_last cat
       end = begins (grid_of found);
       after = nothing_done;
       shown = λ sink_told. shows_all sink.holds [] sink.holds (sym (append-nil sink.holds));
-      caused = tt;
+      caused = caused_none plugin 0 [] stores stores (λ slot. refl) tt (stores_same plugin 0 stores);
+      drawn = draws_none ambient;
       ends = record { cat = begun found; stands = stood; grid = grid };
       images = λ sink_told main_settled sink_settled t main_image sink_image late main_left sink_left.
           image_of found [] sink.holds main.holds (begun found) 0 main_image sink_image (main_settled t main_image (omega (arith, main_last, late)) main_left) stood
-          (sink_settled t sink_image (omega (arith, sink_last, late)) sink_left ∙ sym (append-nil sink.holds)) (inr (record { run = refl; within = omega arith; grid = grid })) refl;
+          (sink_settled t sink_image (omega (arith, sink_last, late)) sink_left ∙ sym (append-nil sink.holds)) (inr (record { run = refl; within = omega arith; near = omega arith; grid = grid })) refl;
     }

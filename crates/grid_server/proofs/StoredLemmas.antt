@@ -47,6 +47,8 @@ use Rattle.grid_server.specs.declared.decision.Storing.{Storing}
 use Rattle.grid_server.proofs.OpenedLemmas.{paths_made, vault_made}
 use Rattle.grid_server.proofs.DecidingLemmas.{sound_of}
 use Rattle.grid_server.proofs.KeepingLemmas.{made_more}
+use Rattle.grid_outside.specs.Files.{StoreState}
+use Rattle.grid_vault.specs.Vault.{RoseAt}
 
 -- ---- rows
 
@@ -61,10 +63,10 @@ none_so {X = X} p (x ∷ rows) fails = by_first (p x) refl (none_so p rows (λ y
 not_false : (b : Bool) → b ≡ false → not b ≡ true
 not_false b is = ap not is
 
-eqb-is : (a b : ℕ) → (a == b) ≡ true → a ≡ b
+pub eqb-is : (a b : ℕ) → (a == b) ≡ true → a ≡ b
 eqb-is a b e = grind arith
 
-eqb-so : (a b : ℕ) → a ≡ b → (a == b) ≡ true
+pub eqb-so : (a b : ℕ) → a ≡ b → (a == b) ≡ true
 eqb-so a b e = grind arith
 
 -- ---- where collections and objects are found, by their rows alone
@@ -92,7 +94,7 @@ module _ (c d : Cat) (collections : d.collections ≡ c.collections) (objects : 
 
 -- ---- the leaf
 
-record OpenLeaf (c : Cat) (id slot : ℕ) : Type 0 where
+pub record OpenLeaf (c : Cat) (id slot : ℕ) : Type 0 where
   pub row : ResourceRow
   pub found : resource c id ≡ Some row
   pub stores : is_storage row.kind ≡ true
@@ -118,7 +120,7 @@ module _ (c : Cat) (m : IsMade c) (st : Storing) (p : Path) (leaf body : Text) (
   abbrev drawn : Numbers
   drawn = record c.numbers { next_vault = v + 1 }
 
-  abbrev orphan : OrphanRow
+  abbrev pub orphan : OrphanRow
   orphan = record { vault = v; slot = st.slot }
 
   abbrev counted : Cat
@@ -127,20 +129,20 @@ module _ (c : Cat) (m : IsMade c) (st : Storing) (p : Path) (leaf body : Text) (
   abbrev pub begun : Cat
   begun = record counted { orphans = with_row orphan_cmp c.orphans orphan }
 
-  sound : IsSound c
+  pub sound : IsSound c
   sound = sound_of c m
 
   some_vault : 0 < v
   some_vault = vault_made m.0 c m.1
 
-  the_leaf : OpenLeaf c st.leaf st.slot
+  pub the_leaf : OpenLeaf c st.leaf st.slot
   the_leaf = open_leaf c st.leaf st.slot ok.leaf_open
 
   -- no row has the number
   no_orphan : list_any (λ o. o.vault == v) c.orphans ≡ false
   no_orphan = none_so (λ o. o.vault == v) c.orphans (λ o here e. omega (arith, (sound.vaults.orphans o here).1, eqb-is o.vault v e))
 
-  old_vault : (r : ReplicaRow) → IsIn c.replicas r → r.vault < v
+  pub old_vault : (r : ReplicaRow) → IsIn c.replicas r → r.vault < v
   old_vault r here = (in_from_all (ReplicaStands c) c.replicas sound.tied.replicas r here).3
 
   no_replica : list_any (λ r. r.vault == v) c.replicas ≡ false
@@ -184,10 +186,10 @@ module _ (c : Cat) (m : IsMade c) (st : Storing) (p : Path) (leaf body : Text) (
   -- ---- the file is the object's
 
   module _ (time n : ℕ) where
-    abbrev object_row : ObjectRow
+    abbrev pub object_row : ObjectRow
     object_row = record { id = st.object; collection = st.collection; name = st.name; size = length st.body; digest = sha256 st.body; time = time }
 
-    abbrev replica_row : ReplicaRow
+    abbrev pub replica_row : ReplicaRow
     replica_row = record { object = st.object; number = 0; leaf = st.leaf; good = true; size = length st.body; digest = sha256 st.body; vault = v }
 
     abbrev last : Numbers
@@ -274,15 +276,14 @@ module _ (c : Cat) (m : IsMade c) (st : Storing) (p : Path) (leaf body : Text) (
 
 -- ---- what comes of it
 
-pub comes_stored : (old : Server) (asked : Result Verb Refusal) (p : Path) (leaf body : Text) (st : Storing) → act (state_of old) asked ≡ writes p leaf st.slot body → st.body ≡ body → (word now : ℕ)
-    → Comes (state_of old) (act (state_of old) asked) (stored (state_of old) p leaf st.body word now)
-comes_stored old asked p leaf body st is same word now =
-    let P : Act → Type 0 = λ a. Comes (state_of old) a (stored (state_of old) p leaf st.body word now) in
-    let Q : Text → Type 0 = λ b. Comes (state_of old) (writes p leaf st.slot body) (stored (state_of old) p leaf b word now) in
+pub comes_stored : (old : Server) (asked : Result Verb Refusal) (p : Path) (leaf body : Text) (st : Storing) → act (state_of old) asked ≡ writes p leaf st.slot body → st.body ≡ body → (word now : ℕ) (known : ℕ → Type 0) → Comes known (state_of old) (act (state_of old) asked) (stored (state_of old) p leaf st.body word now)
+comes_stored old asked p leaf body st is same word now known =
+    let P : Act → Type 0 = λ a. Comes known (state_of old) a (stored (state_of old) p leaf st.body word now) in
+    let Q : Text → Type 0 = λ b. Comes known (state_of old) (writes p leaf st.slot body) (stored (state_of old) p leaf b word now) in
     subst P (sym is) (subst Q (sym same) (written word now))
 
-pub comes_failed : (old : Server) (asked : Result Verb Refusal) (p : Path) (leaf body : Text) (st : Storing) → act (state_of old) asked ≡ writes p leaf st.slot body → Comes (state_of old) (act (state_of old) asked) (failed (state_of old) st.slot [])
-comes_failed old asked p leaf body st is = let P : Act → Type 0 = λ a. Comes (state_of old) a (failed (state_of old) st.slot []) in subst P (sym is) not_written
+pub comes_failed : (old : Server) (asked : Result Verb Refusal) (p : Path) (leaf body : Text) (st : Storing) → act (state_of old) asked ≡ writes p leaf st.slot body → (known : ℕ → Type 0) → Comes known (state_of old) (act (state_of old) asked) (failed (state_of old) st.slot [])
+comes_failed old asked p leaf body st is known = let P : Act → Type 0 = λ a. Comes known (state_of old) a (failed (state_of old) st.slot []) in subst P (sym is) not_written
 
 -- a reply of a mark and the last line
 pub reply_is : (n : ℕ) (m : Mark) (e : End) → mark_line n m ++ end_line n e ≡ reply n (record { sent = []; marks = m ∷ []; end = e })
@@ -312,11 +313,11 @@ pub digest_fits : (d : List ℕ) → length d ≡ 32 → ((i : ℕ) → get_or d
 digest_fits d size below = and_from (length d == 32) (list_all is_byte d) (eqb-so (length d) 32 size) (all_bytes d below)
 
 -- what the writing of a file ended with
-module _ (rose : ℕ → Bool) (old : Server) (st : Storing) (p : Path) (leaf : Text) (n time from : ℕ) (main_old main_new : DiskState) (new : Server) where
-  pub stores_none : (o : Option Fault) → o ≡ None → Stores rose old st p leaf n time from main_old main_new (Ok o) new → (word : ℕ) → Carries old (stored (state_of old) p leaf st.body word time) n from main_old main_new (Ok tt) new
+module _ {B : Type 0} (plugin : B → StoreState) (stores_old stores_new : List B) (old : Server) (st : Storing) (p : Path) (leaf : Text) (n time from : ℕ) (main_old main_new : DiskState) (new : Server) where
+  pub stores_none : (o : Option Fault) → o ≡ None → Stores plugin stores_old stores_new old st p leaf n time from main_old main_new (Ok o) new → (word : ℕ) → Carries old (stored (state_of old) p leaf st.body word time) n from main_old main_new (Ok tt) new
   stores_none None e stores = stores
   stores_none (Some x) e stores = absurd (cc)
 
-  pub stores_some : (o : Option Fault) (fault : Fault) → o ≡ Some fault → Stores rose old st p leaf n time from main_old main_new (Ok o) new → (fault.slot ≡ st.slot) × IsTrue (rose st.slot) × Carries old (failed (state_of old) st.slot []) n from main_old main_new (Ok tt) new
+  pub stores_some : (o : Option Fault) (fault : Fault) → o ≡ Some fault → Stores plugin stores_old stores_new old st p leaf n time from main_old main_new (Ok o) new → (fault.slot ≡ st.slot) × RoseAt plugin st.slot stores_old stores_new × Carries old (failed (state_of old) st.slot []) n from main_old main_new (Ok tt) new
   stores_some None fault e stores = absurd (cc)
   stores_some (Some x) fault e stores = let same : x ≡ fault = cc in (ap (λ (f : Fault). f.slot) (sym same) ∙ stores.0, stores.1, stores.2)

@@ -5,7 +5,7 @@ use Rattle.std.proofs.lemmas.Bool.{cases_lt, ltb-true}
 use Rattle.grid_outside.specs.Device.{IsSettled}
 use Rattle.grid_outside.specs.Disk.{DiskState}
 use Rattle.grid_outside.specs.Files.{StoreState}
-use Rattle.grid_vault.specs.Vault.{HasSlot, WritesOnly}
+use Rattle.grid_vault.specs.Vault.{HasSlot, WritesAmong, WritesOnly}
 use Rattle.grid_model.specs.declared.plans.NewFile.{NewFile}
 use Rattle.grid_model.specs.Names.{Text, Path}
 use Rattle.grid_model.specs.Rows.{Cat}
@@ -25,7 +25,7 @@ use Rattle.grid_server.specs.declared.decision.Storing.{Storing}
 use Rattle.grid_server.specs.declared.server.Server.{Server}
 use Rattle.grid_server.specs.declared.server.Stop.{Stop}
 use Rattle.grid_server.specs.declared.server.Stop.TheVariants as stop
-use Rattle.grid_server.proofs.KeepingLemmas.{held_stands, closes_at, goes_nowhere, goes_more, rests_same, like_self, like_then, like_first, quiet_rest, quiet_more}
+use Rattle.grid_server.proofs.KeepingLemmas.{held_stands, closes_at, goes_nowhere, goes_more, goes_between, goes_since, rests_same, like_self, like_then, like_first, quiet_rest, quiet_more}
 use Rattle.grid_server.proofs.StoredLemmas as rows
 
 -- an error of one result, as that of another
@@ -34,8 +34,11 @@ err_as s e is = let same : s ≡ e = cc in ap Err same
 
 -- ---- stores
 
-pub stores_went : {B : Type 0} (state : B → StoreState) (from to : ℕ) (files : List NewFile) (old new : List B) → WritesOnly state from to files old new → StoresGo state old new
-stores_went state from to files old new span = record { count = span.count; later = λ k before after was is. (span.each k before after was is).faults }
+pub stores_went : {B : Type 0} (state : B → StoreState) (before from to : ℕ) (files : List NewFile) (old new : List B) → before ≤ from → WritesOnly state from to files old new → StoresGo state before old new
+stores_went state before from to files old new le span = record {
+  count = span.count;
+  later = λ k was_at is_at was is. goes_since before from (state was_at) (state is_at) le (goes_between from to (WritesAmong files k) (state was_at) (state is_at) (span.each k was_at is_at was is));
+}
 
 pub only_slot : (file : NewFile) (files : List NewFile) (slot : ℕ) → files ≡ file ∷ [] → HasSlot files slot → slot ≡ file.slot
 only_slot file files slot one has = by_place has.place (ap (λ (fs : List NewFile). slice_get fs has.place) (sym one) ∙ has.is)

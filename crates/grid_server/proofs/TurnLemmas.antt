@@ -1,5 +1,7 @@
 -- What each turn counts.
-use Rattle.std.proofs.Common.{◌≡◌, Bool, true, false, ℕ, ◌+◌, ◌^◌, ◌≤◌, ◌∷◌, length, Option, None, Some, IsTrue, Ok, Err, arith, subst, ap, sym, ◌∙◌, length-append}
+use Rattle.std.proofs.Common.{List, ◌≡◌, true, false, ℕ, ◌+◌, ◌^◌, ◌≤◌, ◌∷◌, length, Option, None, Some, IsTrue, Ok, Err, arith, subst, ap, sym, ◌∙◌, length-append}
+use Rattle.grid_outside.specs.Device.{IsSettled}
+use Rattle.grid_outside.specs.Ambient.{AmbientState}
 use Rattle.grid_outside.specs.Disk.{DiskState}
 use Rattle.grid_outside.specs.Sink.{SinkState}
 use Rattle.grid_outside.specs.Source.{SourceState}
@@ -20,6 +22,7 @@ use Rattle.grid_server.specs.Reading.{Reader}
 use Rattle.grid_server.specs.declared.serving.Taken.TheVariants as taken
 use Rattle.grid_server.specs.Turning.{Gets, with_body, Turns, answered, stopped, idle, status_of}
 use Rattle.grid_server.specs.Serving.{IsServing}
+use Rattle.grid_outside.specs.Files.{StoreState}
 
 -- a turn after which the run goes on
 pub record Counted (old new : Service) : Type 0 where
@@ -49,8 +52,8 @@ held_rests old new s rests held =
       made = held.made;
     }
 
-module _ (rose : ℕ → Bool) (old new : Service) (since : ℕ) (main_old main_new : DiskState) (from to : SourceState) (sink_old sink_new : SinkState) where
-  pub counted : (o : Option Status) → Turns rose old new since main_old main_new from to sink_old sink_new o → o ≡ None → Counted old new
+module _ {B : Type 0} (plugin : B → StoreState) (stores_old stores_new : List B) (ambient_old ambient_new : AmbientState) (old new : Service) (since : ℕ) (main_old main_new : DiskState) (from to : SourceState) (sink_old sink_new : SinkState) where
+  pub counted : (o : Option Status) → Turns plugin stores_old stores_new ambient_old ambient_new old new since main_old main_new from to sink_old sink_new o → o ≡ None → Counted old new
   counted o (answered asked true finds handles) e = absurd (cc)
   counted o (answered asked false finds handles) e =
       let got = got_one old.reader new.reader from to finds.0 finds.1 finds.2 in
@@ -80,7 +83,7 @@ module _ (rose : ℕ → Bool) (old new : Service) (since : ℕ) (main_old main_
   stop_serves stop.Memory = tt
   stop_serves (stop.Worn what place) = tt
 
-  pub serving_so : (o : Option Status) → Turns rose old new since main_old main_new from to sink_old sink_new o → (s : Status) → o ≡ Some s → IsServing s
+  pub serving_so : (o : Option Status) → Turns plugin stores_old stores_new ambient_old ambient_new old new since main_old main_new from to sink_old sink_new o → (s : Status) → o ≡ Some s → IsServing s
   serving_so o (answered asked true finds handles) s e = let same : status.Done ≡ s = cc in subst (λ (t : Status). IsServing t) same tt
   serving_so o (answered asked false finds handles) s e = absurd (cc)
   serving_so o (stopped asked over stop finds handles) s e = let same : status_of stop ≡ s = cc in subst (λ (t : Status). IsServing t) same (stop_serves stop)
@@ -91,40 +94,52 @@ module _ (rose : ℕ → Bool) (old new : Service) (since : ℕ) (main_old main_
   serving_so o (idle taken.Fault finds is idles) s e = let same : status.SourceFault ≡ s = cc in subst (λ (t : Status). IsServing t) same tt
   serving_so o (idle taken.Memory finds is idles) s e = let same : status.Memory ≡ s = cc in subst (λ (t : Status). IsServing t) same tt
 
-  goes_answers : (n : ℕ) (r : _) (asked : _) → Answers rose old.server asked n since main_old main_new sink_old sink_new r new.server → Goes since main_old main_new × Goes since sink_old sink_new
+  goes_answers : (n : ℕ) (r : _) (asked : _) → Answers plugin stores_old stores_new ambient_old ambient_new old.server asked n since main_old main_new sink_old sink_new r new.server → Goes since main_old main_new × Goes since sink_old sink_new
   goes_answers n r asked (worked w) = (w.main, w.sink)
-  goes_answers n r asked (not_begun e main sink) = (main.main, goes_rest since sink_old sink_new sink)
-  goes_answers n r asked (log_worn place d e comes changed far closes main sink) = (main.main, goes_rest since sink_old sink_new sink)
-  goes_answers n r asked (vaults_worn e puts far main sink) = (goes_rest since main_old main_new main, goes_rest since sink_old sink_new sink)
+  goes_answers n r asked (not_begun e main sink drawn) = (main.main, goes_rest since sink_old sink_new sink)
+  goes_answers n r asked (log_worn place d e comes changed far closes main sink drawn) = (main.main, goes_rest since sink_old sink_new sink)
+  goes_answers n r asked (vaults_worn e puts far main sink drawn) = (goes_rest since main_old main_new main, goes_rest since sink_old sink_new sink)
 
   -- what a stop before the turn may leave is as before
-  pub turn_goes : (o : Option Status) → Turns rose old new since main_old main_new from to sink_old sink_new o → Goes since main_old main_new × Goes since sink_old sink_new
+  pub turn_goes : (o : Option Status) → Turns plugin stores_old stores_new ambient_old ambient_new old new since main_old main_new from to sink_old sink_new o → Goes since main_old main_new × Goes since sink_old sink_new
   turn_goes o (answered asked over finds handles) = goes_answers (old.number + 1) (Ok tt) asked handles.answers
   turn_goes o (stopped asked over stop finds handles) = goes_answers (old.number + 1) (Err stop) asked handles.answers
   turn_goes o (idle taken finds is idles) = (goes_rest since main_old main_new idles.main, goes_rest since sink_old sink_new idles.sink)
 
   -- the rows are those of main again
-  pub turn_holds : (o : Option Status) → Turns rose old new since main_old main_new from to sink_old sink_new o → o ≡ None → IsHeld main_old old.server → IsHeld main_new new.server
+  pub turn_holds : (o : Option Status) → Turns plugin stores_old stores_new ambient_old ambient_new old new since main_old main_new from to sink_old sink_new o → o ≡ None → IsHeld main_old old.server → IsHeld main_new new.server
   turn_holds o (answered asked over finds handles) e held = by_answers handles.answers
     where
-      by_answers : Answers rose old.server asked (old.number + 1) since main_old main_new sink_old sink_new (Ok tt) new.server → IsHeld main_new new.server
+      by_answers : Answers plugin stores_old stores_new ambient_old ambient_new old.server asked (old.number + 1) since main_old main_new sink_old sink_new (Ok tt) new.server → IsHeld main_new new.server
       by_answers (worked w) = w.ends.0.held
-      by_answers (not_begun is main sink) = absurd (cc)
-      by_answers (log_worn place d is comes changed far closes main sink) = absurd (cc)
-      by_answers (vaults_worn is puts far main sink) = absurd (cc)
+      by_answers (not_begun is main sink drawn) = absurd (cc)
+      by_answers (log_worn place d is comes changed far closes main sink drawn) = absurd (cc)
+      by_answers (vaults_worn is puts far main sink drawn) = absurd (cc)
   turn_holds o (stopped asked over stop finds handles) e held = absurd (cc)
   turn_holds o (idle taken finds is idles) e held =
       let P : Server → Type 0 = λ s. IsHeld main_new s in
       subst P (sym idles.server) (held_rests main_old main_new old.server idles.main held)
 
   -- and the catalogue is of as many stores
-  pub turn_stores : (o : Option Status) → Turns rose old new since main_old main_new from to sink_old sink_new o → o ≡ None → new.server.store.cat.stores ≡ old.server.store.cat.stores
+  pub turn_stores : (o : Option Status) → Turns plugin stores_old stores_new ambient_old ambient_new old new since main_old main_new from to sink_old sink_new o → o ≡ None → new.server.store.cat.stores ≡ old.server.store.cat.stores
   turn_stores o (answered asked over finds handles) e = by_answers handles.answers
     where
-      by_answers : Answers rose old.server asked (old.number + 1) since main_old main_new sink_old sink_new (Ok tt) new.server → new.server.store.cat.stores ≡ old.server.store.cat.stores
+      by_answers : Answers plugin stores_old stores_new ambient_old ambient_new old.server asked (old.number + 1) since main_old main_new sink_old sink_new (Ok tt) new.server → new.server.store.cat.stores ≡ old.server.store.cat.stores
       by_answers (worked w) = ap (λ (c : Cat). c.stores) w.ends.0.cat ∙ w.follows.stores
-      by_answers (not_begun is main sink) = absurd (cc)
-      by_answers (log_worn place d is comes changed far closes main sink) = absurd (cc)
-      by_answers (vaults_worn is puts far main sink) = absurd (cc)
+      by_answers (not_begun is main sink drawn) = absurd (cc)
+      by_answers (log_worn place d is comes changed far closes main sink drawn) = absurd (cc)
+      by_answers (vaults_worn is puts far main sink drawn) = absurd (cc)
   turn_stores o (stopped asked over stop finds handles) e = absurd (cc)
   turn_stores o (idle taken finds is idles) e = ap (λ (s : Server). s.store.cat.stores) idles.server
+
+  -- and nothing is pending where nothing was
+  pub turn_settles : (o : Option Status) → Turns plugin stores_old stores_new ambient_old ambient_new old new since main_old main_new from to sink_old sink_new o → o ≡ None → IsTrue main_old.tells → IsSettled main_old → IsSettled main_new
+  turn_settles o (answered asked over finds handles) e = by_answers handles.answers
+    where
+      by_answers : Answers plugin stores_old stores_new ambient_old ambient_new old.server asked (old.number + 1) since main_old main_new sink_old sink_new (Ok tt) new.server → IsTrue main_old.tells → IsSettled main_old → IsSettled main_new
+      by_answers (worked w) = w.ends.0.settled
+      by_answers (not_begun is main sink drawn) = absurd (cc)
+      by_answers (log_worn place d is comes changed far closes main sink drawn) = absurd (cc)
+      by_answers (vaults_worn is puts far main sink drawn) = absurd (cc)
+  turn_settles o (stopped asked over stop finds handles) e = absurd (cc)
+  turn_settles o (idle taken finds is idles) e = λ told settled t image late left. settled t image (omega (arith, late, idles.main.last)) (idles.main.left t image left) ∙ sym (idles.main.stays told)

@@ -5,6 +5,7 @@ use Rattle.grid_server.specs.Tasks.{AsksFor, AsksNothing, init, serve}
 use Rattle.grid_server.specs.declared.words.Asked.{Asked}
 use Rattle.grid_server.specs.declared.words.Asked.TheVariants as asked
 
+-- the words ask for what is answered
 abbrev pub IsAsked : List Text → Asked → Type 0
 IsAsked words asked.Serve = AsksFor words serve
 IsAsked words (asked.Init zone admin) = AsksFor words (init zone.now admin.now)

@@ -1,14 +1,17 @@
 -- What a request is found to come to.
 use Rattle.std.specs.Prelude.{◌≡◌, ◌≢◌, ◌≤◌, ◌<◌, ℕ, Bool, true, false, not, ◌&&◌, [], ◌∷◌, ◌++◌, find, option_map, Option, None, Some, IsTrue, Result, Ok}
 use Rattle.grid_model.specs.Names.{Text, Path, is_name, parent, same_text}
-use Rattle.grid_model.specs.Rows.{Cat, user, resource, has_collection, has_object}
+use Rattle.grid_model.specs.Rows.{Cat, user, object, resource, has_collection, has_object}
 use Rattle.grid_model.specs.Applying.{is_group_kind, is_storage, is_replica}
 use Rattle.grid_model.specs.RowPaths.{collection_at, object_at}
 use Rattle.grid_model.specs.RowGrids.{grid_of}
 use Rattle.grid_model.specs.NewRows.{IsFreeAt, IsNewAt}
 use Rattle.grid_model.specs.Grid.{Object}
+use Rattle.grid_model.specs.Whole.{leaf_slot}
 use Rattle.grid_model.specs.Commands.{State, Act, does, writes, reads, act, make, made, put_at, refused, log_in}
 use Rattle.grid_model.specs.declared.deltas.CollectionRow.{CollectionRow}
+use Rattle.grid_model.specs.declared.deltas.ObjectRow.{ObjectRow}
+use Rattle.grid_model.specs.declared.deltas.ReplicaRow.{ReplicaRow}
 use Rattle.grid_model.specs.declared.plans.OldFile.{OldFile}
 use Rattle.grid_model.specs.declared.requests.Verb.{Verb}
 use Rattle.grid_model.specs.declared.requests.Verb.TheVariants.{Get}
@@ -99,12 +102,20 @@ DecidesPlain s a (plain.Refuse refusal) = a ≡ does (refused (state_of s) refus
 DecidesPlain s a plain.LogIn = a ≡ does (log_in (state_of s))
 DecidesPlain s a (plain.Make row) = (p : Path) × (a ≡ does (made (state_of s) p)) × IsNewAt s.store.cat row p
 
--- The file is that of the replica of this number of the object at this path, of which the object's size and digest are
--- recorded.
+-- The file is that of the replica of this number of the object at this path, which is good, in the slot of its leaf. The object's
+-- size and digest are recorded of it.
 pub record IsSending (c : Cat) (p : Path) (o : Object) (file : OldFile) : Type 0 where
   pub id : ℕ
   pub at : object_at c p ≡ Some id
-  pub name_is : option_map (λ r. r.vault) (find (λ r. is_replica id file.number r) c.replicas) ≡ Some file.name
+  pub object_row : ObjectRow
+  pub there : object c id ≡ Some object_row
+  pub size_row : file.size ≡ object_row.size
+  pub digest_row : file.digest ≡ object_row.digest
+  pub row : ReplicaRow
+  pub is_row : find (is_replica id file.number) c.replicas ≡ Some row
+  pub name_is : row.vault ≡ file.name
+  pub good : row.good ≡ true
+  pub leaf : leaf_slot c row.leaf ≡ Some file.slot
   pub size : file.size ≡ o.size
   pub digest : file.digest ≡ o.digest
   pub slot : file.slot < c.stores

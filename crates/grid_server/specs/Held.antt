@@ -12,6 +12,7 @@ use Rattle.grid_journal.specs.Journal.{Keeps}
 use Rattle.grid_journal.specs.Stands.{Stands}
 use Rattle.grid_server.specs.declared.server.Server.{Server}
 
+-- the grid of the rows in memory, and whether a user is logged in
 abbrev pub state_of : Server → State
 state_of s = record { grid = grid_of s.store.cat; logged_in = s.logged_in }
 
@@ -29,8 +30,8 @@ pub record ClosesAt (main : Text) (place : ℕ) : Type 0 where
 abbrev pub IsMade : Cat → Type 0
 IsMade c = (deltas : List Delta) × (apply_all empty_cat deltas ≡ Ok c)
 
--- The catalogue differs from the one before in nothing but orphans and the next vault number: it stands for the same grid
--- after the same commands.
+-- The catalogue is of the same run, stands for the same grid after the same commands, and has the same command that is not
+-- done. So orphans and the next vault number may be others, and so may ids and the text of the rules.
 pub record IsLike (before c : Cat) : Type 0 where
   pub grid : grid_of c ≡ grid_of before
   pub stores : c.stores ≡ before.stores

@@ -23,13 +23,15 @@ Adds text old new = IsTrue old.tells → new.holds ≡ old.holds ++ text
 abbrev pub Stays : DeviceState (List ℕ) → DeviceState (List ℕ) → Type 0
 Stays old new = IsTrue old.tells → new.holds ≡ old.holds
 
--- The calls of a device since so many moments were drawn: what a stop at one of these may leave is as before.
-pub record Goes (from : ℕ) (old new : DeviceState (List ℕ)) : Type 0 where
+-- The calls of a device since so many moments were drawn: a stop at one of these leaves nothing that it could not leave
+-- before.
+pub record Goes {C : Type 0} (from : ℕ) (old new : DeviceState C) : Type 0 where
   pub faults : old.faults ≤ new.faults
   pub tells : new.tells ≡ old.tells
-  pub earlier : (t : ℕ) (image : List ℕ) → t ≤ from → new.left t image → old.left t image
+  pub earlier : (t : ℕ) (image : C) → t ≤ from → new.left t image → old.left t image
 
--- nothing of the device was called but what changes nothing
+-- nothing of the device was called but what changes nothing: it holds what it held, and a stop leaves nothing that it could
+-- not leave before
 pub record Rests (old new : DeviceState (List ℕ)) : Type 0 where
   pub faults : old.faults ≤ new.faults
   pub tells : new.tells ≡ old.tells

@@ -1,6 +1,8 @@
 pub mod Answering
 pub mod Asking
+pub mod Causes
 pub mod Deciding
+pub mod Drawing
 pub mod Finding
 pub mod Held
 pub mod Keeping
@@ -10,11 +12,12 @@ pub mod Reading
 pub mod Replying
 pub mod Requests
 pub mod Running
+pub mod Safe
 pub mod Sending
 pub mod Serving
 pub mod Starting
+pub mod Stopping
 pub mod Stores
 pub mod Storing
-pub mod Stopping
 pub mod Tasks
 pub mod Turning

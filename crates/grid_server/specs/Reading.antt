@@ -9,6 +9,7 @@ use Rattle.grid_server.specs.declared.line_reader.Passed.TheVariants as passed
 use Rattle.grid_server.specs.declared.line_reader.Filled.{Filled}
 use Rattle.grid_server.specs.declared.line_reader.Filled.TheVariants as filled
 
+-- the byte that ends a line
 abbrev pub is_newline : ℕ → Bool
 is_newline byte = byte == 0x0A
 

@@ -8,10 +8,10 @@ use Rattle.grid_model.specs.declared.grid.Side.{Side}
 use Rattle.grid_journal.specs.Store.{IsNotEmpty}
 use Rattle.grid_server.specs.declared.status.Status.{Status}
 use Rattle.grid_server.specs.declared.status.Status.TheVariants as status
-use Rattle.grid_server.specs.Keeping.{Adds, Stays}
+use Rattle.grid_server.specs.Keeping.{Adds, Stays, Rests}
 use Rattle.grid_server.specs.Starting.{Started, ok_line, not_empty_line, not_a_catalogue_line, stores_line}
 
--- the sink got this line, or a first part of it and failed
+-- this status with this line on the sink, or the sink failed and has a first part of the line
 abbrev pub Says : Text → Status → SinkState → SinkState → Status → Type 0
 Says line wanted old new s = ((s ≡ wanted) × Adds line old new) ⊎ ((s ≡ status.SinkFault) × (IsTrue old.tells → AddsFirst line old.holds new.holds))
 
@@ -25,7 +25,7 @@ RefusesStores had given old new s = Says (stores_line had given) (status.Stores 
 
 -- a disk is not empty where a grid was to be begun
 abbrev pub RefusesStart : DiskState → DiskState → DiskState → SinkState → SinkState → Status → Type 0
-RefusesStart main_old main_new spare old new s = (side : Side) × (len : ℕ) × IsNotEmpty main_old spare len side × Stays main_old main_new × Says (not_empty_line side len) (status.NotEmpty side len) old new s
+RefusesStart main_old main_new spare old new s = (side : Side) × (len : ℕ) × IsNotEmpty main_old spare len side × Rests main_old main_new × Says (not_empty_line side len) (status.NotEmpty side len) old new s
 
 -- how `init` ends. Where a disk failed, main may hold anything if it was empty
 abbrev pub Inits : Text → Text → ℕ → DiskState → DiskState → DiskState → SinkState → SinkState → Status → Type 0
@@ -33,11 +33,18 @@ Inits zone admin stores main_old main_new spare old new s =
     (Started zone admin stores main_old main_new spare × Says ok_line status.Done old new s)
     ⊎ RefusesStart main_old main_new spare old new s
     ⊎ ((s ≡ status.DiskFault) × (IsTrue main_old.tells → main_old.holds ≢ [] → main_new.holds ≡ main_old.holds) × Stays old new)
-    ⊎ ((s ≡ status.Memory) × Stays main_old main_new × Stays old new)
+    ⊎ ((s ≡ status.Memory) × Rests main_old main_new × Stays old new)
 
--- a run over an open catalogue came to its end, or memory, the numbers of runs or the room of the log ran out
+-- a run over an open catalogue came to its end, or memory, the numbers of runs or of vault files or the room of the log ran
+-- out
 abbrev pub IsComplete : Status → Type 0
 IsComplete status.Done = Unit {0}
 IsComplete status.Memory = Unit {0}
 IsComplete (status.Worn what place) = Unit {0}
 IsComplete other = ⊥
+
+-- a status with which a run of `serve` may end, whatever the devices tell
+abbrev pub EndsServing : Status → Type 0
+EndsServing status.Usage = ⊥
+EndsServing (status.NotEmpty side len) = ⊥
+EndsServing other = Unit {0}

@@ -1,7 +1,9 @@
 -- What a run of `serve` did over a catalogue, and what it left.
-use Rattle.std.specs.Prelude.{◌≡◌, ◌≢◌, ◌⊎◌, ℕ, ◌+◌, ◌-◌, ◌^◌, ◌<◌, ◌≤◌, max, Bool, true, false, List, [], ◌∷◌, ◌++◌, length, take, slice_get, Some, Result, IsTrue}
+use Rattle.std.specs.Prelude.{◌≡◌, ◌≢◌, ◌⊎◌, ℕ, ◌+◌, ◌-◌, ◌^◌, ◌<◌, ◌≤◌, max, true, false, List, [], ◌∷◌, ◌++◌, length, take, slice_get, Some, Result, IsTrue}
+use Rattle.grid_outside.specs.Ambient.{AmbientState}
 use Rattle.grid_outside.specs.Device.{IsSettled}
 use Rattle.grid_outside.specs.Disk.{DiskState}
+use Rattle.grid_outside.specs.Files.{StoreState}
 use Rattle.grid_outside.specs.Sink.{SinkState}
 use Rattle.grid_outside.specs.Source.{SourceState}
 use Rattle.grid_outside.specs.declared.outside.Wear.{Wear}
@@ -19,7 +21,10 @@ use Rattle.grid_model.specs.Replies.{reply, replies}
 use Rattle.grid_server.specs.declared.status.Status.{Status}
 use Rattle.grid_server.specs.declared.status.Status.TheVariants as status
 use Rattle.grid_server.specs.Held.{StandsFor, ClosesAt}
-use Rattle.grid_server.specs.Answering.{AllCaused, AsksToPut, Did, last_vault}
+use Rattle.grid_server.specs.Causes.{AreCaused}
+use Rattle.grid_server.specs.Safe.{IsKnown}
+use Rattle.grid_server.specs.Drawing.{marks_of, DrawsIfTold}
+use Rattle.grid_server.specs.Answering.{AsksToPut, Did, last_vault}
 
 -- nobody is logged in
 abbrev pub begins : Grid → State
@@ -54,20 +59,22 @@ pub record AllButOne (done : List Done) (old new : Text) : Type 0 where
 
 -- ---- what a stop leaves
 
--- the run has changed nothing yet
+-- the catalogue is of no run after the one that was found, nothing of the grid is changed, and no reply is shown whole
 pub record IsBefore (found c : Cat) (whole : ℕ) : Type 0 where
   pub run : c.numbers.run ≡ found.numbers.run
   pub grid : grid_of c ≡ grid_of found
   pub none_shown : whole ≡ 0
 
--- the catalogue is that after so many requests: as many as are shown whole, or as the catalogue says if these are more
+-- the catalogue is of this run, and its grid is that after so many requests: as many as are shown whole, or as the
+-- catalogue says if these are more
 pub record IsAfter (found : Cat) (done : List Done) (c : Cat) (whole : ℕ) : Type 0 where
   pub run : c.numbers.run ≡ found.numbers.run + 1
   pub within : max whole c.numbers.last ≤ length done
+  pub near : c.numbers.last ≤ whole + 1
   pub grid : grid_of c ≡ (state_after (begins (grid_of found)) done (max whole c.numbers.last)).grid
 
 -- One image of main and of the sink. Main stands for the grid after the first requests, with every one whose reply
--- is shown whole among them.
+-- is shown whole among them, and at most one more. A command that was pending still is.
 pub record OneImage (found : Cat) (done : List Done) (shown main sink : Text) : Type 0 where
   pub cat : Cat
   pub stands : StandsFor main cat
@@ -84,9 +91,9 @@ pub record IsKept (main : Text) (g : Grid) : Type 0 where
   pub stands : StandsFor main cat
   pub grid : grid_of cat ≡ g
 
--- all replies were added, and each fault that they tell has its cause
-abbrev pub ShowsAll : (ℕ → Bool) → List Done → SinkState → SinkState → Type 0
-ShowsAll rose done old new = (IsTrue old.tells → new.holds ≡ old.holds ++ replies 1 done) × AllCaused rose done
+-- all replies were added
+abbrev pub ShowsAll : List Done → SinkState → SinkState → Type 0
+ShowsAll done old new = IsTrue old.tells → new.holds ≡ old.holds ++ replies 1 done
 
 -- all of the input was read
 pub record ReadAll (asked : List Asked) (from to : SourceState) : Type 0 where
@@ -116,7 +123,7 @@ pub record NextChanges (input : Text) (asked : List Asked) (end : State) : Type 
   pub request : Asked
   pub begins : Begins input (asked ++ request ∷ [])
   pub next : Done
-  pub did : Did end request.line request.body next
+  pub did : Did (λ slot. ⊥) end request.line request.body next
   pub changes : next.changed ≡ true
 
 -- the next request puts a body
@@ -138,33 +145,35 @@ pub record HasNextVault (main : Text) (number : ℕ) : Type 0 where
 abbrev pub WearsOut : Cat → Text → List Asked → State → DiskState → ℕ → Wear → Type 0
 WearsOut found input asked end main place wear.Runs = (asked ≡ []) × (place ≡ found.numbers.run) × (place ≡ 2 ^ 64 - 1)
 WearsOut found input asked end main place wear.Vaults = (last_vault < place) × HasNextVault main.holds place × NextPuts input asked end
-WearsOut found input asked end main place wear.Log = (2 ^ 62 < place) × ClosesAt main.holds place × ((asked ≡ []) ⊎ NextChanges input asked end)
+WearsOut found input asked end main place wear.Log = (2 ^ 62 < place) × ClosesAt main.holds place × (((asked ≡ []) × StandsFor main.holds found) ⊎ NextChanges input asked end)
 
--- what each status says
-abbrev pub Ends : (ℕ → Bool) → Cat → List Asked → List Done → State → DiskState → SourceState → SourceState → SinkState → SinkState → Status → Type 0
-Ends rose found asked done end main from to sink_old sink_new status.Done = ReadAll asked from to × ShowsAll rose done sink_old sink_new × IsKept main.holds end.grid
-Ends rose found asked done end main from to sink_old sink_new status.SourceFault = ReadPart asked from to × ShowsAll rose done sink_old sink_new × IsKept main.holds end.grid
-Ends rose found asked done end main from to sink_old sink_new (status.Long taken) = (taken ≡ 2 ^ 48 + 1) × ReadMost asked from to × ShowsAll rose done sink_old sink_new × IsKept main.holds end.grid
-Ends rose found asked done end main from to sink_old sink_new status.Memory = IsKept main.holds end.grid
-Ends rose found asked done end main from to sink_old sink_new (status.Worn what place) = WearsOut found from.left asked end main place what × ShowsAll rose done sink_old sink_new × IsKept main.holds end.grid
-Ends rose found asked done end main from to sink_old sink_new status.DiskFault = Unit {0}
-Ends rose found asked done end main from to sink_old sink_new status.SinkFault = IsKept main.holds end.grid
-Ends rose found asked done end main from to sink_old sink_new status.Usage = ⊥
-Ends rose found asked done end main from to sink_old sink_new (status.NotACatalogue side place) = ⊥
-Ends rose found asked done end main from to sink_old sink_new (status.NotEmpty side len) = ⊥
-Ends rose found asked done end main from to sink_old sink_new (status.Stores had given) = ⊥
+-- what each status says. After a fault of a disk it says nothing of main, and `images` below is all that does
+abbrev pub Ends : Cat → List Asked → List Done → State → DiskState → SourceState → SourceState → SinkState → SinkState → Status → Type 0
+Ends found asked done end main from to sink_old sink_new status.Done = ReadAll asked from to × ShowsAll done sink_old sink_new × IsKept main.holds end.grid
+Ends found asked done end main from to sink_old sink_new status.SourceFault = ReadPart asked from to × ShowsAll done sink_old sink_new × IsKept main.holds end.grid
+Ends found asked done end main from to sink_old sink_new (status.Long taken) = (taken ≡ 2 ^ 48 + 1) × ReadMost asked from to × ShowsAll done sink_old sink_new × IsKept main.holds end.grid
+Ends found asked done end main from to sink_old sink_new status.Memory = IsKept main.holds end.grid
+Ends found asked done end main from to sink_old sink_new (status.Worn what place) = WearsOut found from.left asked end main place what × ShowsAll done sink_old sink_new × IsKept main.holds end.grid
+Ends found asked done end main from to sink_old sink_new status.DiskFault = Unit {0}
+Ends found asked done end main from to sink_old sink_new status.SinkFault = IsKept main.holds end.grid
+Ends found asked done end main from to sink_old sink_new status.Usage = ⊥
+Ends found asked done end main from to sink_old sink_new (status.NotACatalogue side place) = ⊥
+Ends found asked done end main from to sink_old sink_new (status.NotEmpty side len) = ⊥
+Ends found asked done end main from to sink_old sink_new (status.Stores had given) = ⊥
 
 -- A run over this catalogue, from so many moments on: the requests that were begun, what each did, what is shown of
--- their replies, of which at most the last one is not shown whole, and what a stop at any moment leaves.
-pub record Serves (rose : ℕ → Bool) (found : Cat) (since : ℕ) (main_old main_new : DiskState) (from to : SourceState) (sink_old sink_new : SinkState) (s : Status) : Type 0 where
+-- their replies, of which at most the last one is not shown whole, and what a stop at any moment leaves. Each fault that the
+-- replies tell has its cause, and their words and times are some of those that the ambient gave in this run, in order.
+pub record Serves {B : Type 0} (plugin : B → StoreState) (stores_old stores_new : List B) (ambient_old ambient_new : AmbientState) (found : Cat) (since : ℕ) (main_old main_new : DiskState) (from to : SourceState) (sink_old sink_new : SinkState) (s : Status) : Type 0 where
   pub asked : List Asked
   pub first : Begins from.left asked
   pub done : List Done
   pub end : State
-  pub after : After (begins (grid_of found)) asked done end
+  pub after : After (IsKnown plugin since found main_old stores_old) (begins (grid_of found)) asked done end
   pub shown : IsTrue sink_old.tells → AllButOne done sink_old.holds sink_new.holds
-  pub caused : AllCaused rose (take (length done - 1) done)
-  pub ends : Ends rose found asked done end main_new from to sink_old sink_new s
+  pub caused : AreCaused plugin (marks_of done) stores_old stores_new
+  pub drawn : DrawsIfTold (marks_of done) ambient_old ambient_new
+  pub ends : Ends found asked done end main_new from to sink_old sink_new s
   pub images : IsTrue sink_old.tells → IsSettled main_old → IsSettled sink_old → (t : ℕ) (main sink : Text) → since < t → main_new.left t main → sink_new.left t sink
       → OneImage found done sink_old.holds main sink
 

@@ -12,6 +12,7 @@ use Rattle.grid_server.specs.Held.{StandsFor}
 
 -- ---- the lines
 
+-- which words ask for something, with those that are not built yet
 abbrev pub usage_line : Text
 usage_line = codes "usage: ird init <zone> <admin> | serve | check | gen <seed> <count>\n"
 
@@ -19,6 +20,7 @@ usage_line = codes "usage: ird init <zone> <admin> | serve | check | gen <seed> 
 abbrev pub ok_line : Text
 ok_line = codes "ok\n"
 
+-- a disk in a line, and a space
 abbrev pub side_name : Side → Text
 side_name Main = codes "main "
 side_name Spare = codes "spare "

@@ -12,6 +12,7 @@ IsOfCommit (journal.NotEmpty side len) = ⊥
 IsOfCommit (journal.NotACatalogue side place) = ⊥
 IsOfCommit other = Unit {0}
 
+-- how it stops a run that was begun
 abbrev pub stop_of : JournalError → Stop
 stop_of journal.Memory = Memory
 stop_of journal.DiskFault = Disk
@@ -19,6 +20,7 @@ stop_of (journal.Worn what place) = Worn what place
 stop_of (journal.NotEmpty side len) = Memory
 stop_of (journal.NotACatalogue side place) = Memory
 
+-- how it ends the beginning of a run
 abbrev pub begin_error_of : JournalError → BeginError
 begin_error_of journal.Memory = opening.Memory
 begin_error_of journal.DiskFault = opening.Disk

@@ -1,7 +1,8 @@
 -- What the writing of a body to its store does.
-use Rattle.std.specs.Prelude.{◌≡◌, ℕ, ◌+◌, Bool, IsTrue, true, [], ◌∷◌, ◌++◌, List, length, Option, None, Some, Result, Ok, Err}
+use Rattle.std.specs.Prelude.{◌≡◌, ℕ, ◌+◌, true, [], ◌∷◌, ◌++◌, List, length, Option, None, Some, Result, Ok, Err}
 use Rattle.sha2.specs.Sha256.{sha256}
 use Rattle.grid_outside.specs.Disk.{DiskState}
+use Rattle.grid_outside.specs.Files.{StoreState}
 use Rattle.grid_model.specs.Names.{Text, Path}
 use Rattle.grid_model.specs.Rows.{Cat}
 use Rattle.grid_model.specs.Commands.{stored, failed}
@@ -11,6 +12,7 @@ use Rattle.grid_model.specs.declared.replies.End.TheVariants as end
 use Rattle.grid_model.specs.declared.refusal.Refusal.TheVariants as refusal
 use Rattle.grid_model.specs.declared.deltas.Delta.{Delta}
 use Rattle.grid_model.specs.declared.deltas.Delta.TheVariants as delta
+use Rattle.grid_vault.specs.Vault.{RoseAt}
 use Rattle.grid_vault.specs.declared.fault.Fault.{Fault}
 use Rattle.grid_server.specs.declared.server.Server.{Server}
 use Rattle.grid_server.specs.declared.server.Stop.{Stop}
@@ -35,10 +37,10 @@ stored_deltas c s time n =
     ∷ []
 
 -- The body was written and its object is there, or a call of the slot failed and nothing is; or how far that came.
-abbrev pub Stores : (ℕ → Bool) → Server → Storing → Path → Text → ℕ → ℕ → ℕ → DiskState → DiskState → Result (Option Fault) Stop → Server → Type 0
-Stores rose old s p leaf n time from main_old main_new (Ok None) new = (word : ℕ) → Carries old (stored (state_of old) p leaf s.body word time) n from main_old main_new (Ok tt) new
-Stores rose old s p leaf n time from main_old main_new (Ok (Some fault)) new = (fault.slot ≡ s.slot) × IsTrue (rose s.slot) × Carries old (failed (state_of old) s.slot []) n from main_old main_new (Ok tt) new
-Stores rose old s p leaf n time from main_old main_new (Err stop) new = (word : ℕ) → Carries old (stored (state_of old) p leaf s.body word time) n from main_old main_new (Err stop) new
+abbrev pub Stores : {B : Type 0} → (B → StoreState) → List B → List B → Server → Storing → Path → Text → ℕ → ℕ → ℕ → DiskState → DiskState → Result (Option Fault) Stop → Server → Type 0
+Stores plugin stores_old stores_new old s p leaf n time from main_old main_new (Ok None) new = (word : ℕ) → Carries old (stored (state_of old) p leaf s.body word time) n from main_old main_new (Ok tt) new
+Stores plugin stores_old stores_new old s p leaf n time from main_old main_new (Ok (Some fault)) new = (fault.slot ≡ s.slot) × RoseAt plugin s.slot stores_old stores_new × Carries old (failed (state_of old) s.slot []) n from main_old main_new (Ok tt) new
+Stores plugin stores_old stores_new old s p leaf n time from main_old main_new (Err stop) new = (word : ℕ) → Carries old (stored (state_of old) p leaf s.body word time) n from main_old main_new (Err stop) new
 
 -- the reply to a body that was put
 abbrev pub stored_reply : ℕ → ℕ → ℕ → Text

@@ -1,9 +1,10 @@
--- What the words of the program ask for.
+-- What the words of the program ask for, which is this project's own.
 use Rattle.std.specs.Prelude.{◌≡◌, ◌≢◌, List, [], ◌∷◌, IsTrue, codes}
 use Rattle.std.specs.Str.{IsUtf8}
 use Rattle.grid_model.specs.Names.{Text, is_name}
 use Rattle.grid_model.specs.Grid.{everybody}
 
+-- what a run does
 pub data Task : Type 0 where
   -- to begin a grid with this zone and this administrator
   init : Text → Text → Task

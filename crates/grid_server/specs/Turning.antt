@@ -1,6 +1,8 @@
 -- What one turn of the serving loop does.
-use Rattle.std.specs.Prelude.{◌≡◌, ◌⊎◌, ℕ, ◌+◌, ◌^◌, true, false, Bool, [], length, Option, Some, None, Result, Ok, Err, ⊤}
+use Rattle.std.specs.Prelude.{List, ◌≡◌, ◌⊎◌, ℕ, ◌+◌, ◌^◌, true, false, Bool, [], length, Option, Some, None, Result, Ok, Err, ⊤}
+use Rattle.grid_outside.specs.Ambient.{AmbientState}
 use Rattle.grid_outside.specs.Disk.{DiskState}
+use Rattle.grid_outside.specs.Files.{StoreState}
 use Rattle.grid_outside.specs.Sink.{SinkState}
 use Rattle.grid_outside.specs.Source.{SourceState}
 use Rattle.grid_model.specs.Names.{Text}
@@ -20,9 +22,11 @@ use Rattle.grid_server.specs.declared.line_reader.Ended.TheVariants as ended
 use Rattle.grid_server.specs.declared.line_reader.Passed.{Passed}
 use Rattle.grid_server.specs.declared.line_reader.Passed.TheVariants as passed
 use Rattle.grid_server.specs.Reading.{Reader, ReadsLine, ReadsPart, Passes, PassesPart}
+use Rattle.grid_server.specs.Drawing.{DrawsIfTold}
 use Rattle.grid_server.specs.Keeping.{Rests}
 use Rattle.grid_server.specs.Answering.{Answers}
 
+-- how a run ends that stopped so
 abbrev pub status_of : Stop → Status
 status_of stop.Disk = status.DiskFault
 status_of stop.Sink = status.SinkFault
@@ -86,6 +90,7 @@ status_after taken.Long = Some (status.Long (2 ^ 48 + 1))
 status_after taken.Fault = Some status.SourceFault
 status_after taken.Memory = Some status.Memory
 
+-- no request was found
 abbrev pub IsIdle : Taken → Type 0
 IsIdle (taken.Request asked over) = ⊥
 IsIdle other = Unit {0}
@@ -96,21 +101,22 @@ after_answer true = Some status.Done
 after_answer false = None
 
 -- nothing changed but what is left of the input
-pub record Idles (old new : Service) (main_old main_new : DiskState) (sink_old sink_new : SinkState) : Type 0 where
+pub record Idles (ambient_old ambient_new : AmbientState) (old new : Service) (main_old main_new : DiskState) (sink_old sink_new : SinkState) : Type 0 where
   pub server : new.server ≡ old.server
   pub number : new.number ≡ old.number
   pub main : Rests main_old main_new
   pub sink : Rests sink_old sink_new
+  pub drawn : DrawsIfTold [] ambient_old ambient_new
 
 -- the next request was answered, from so many moments on
-pub record Handles (rose : ℕ → Bool) (old new : Service) (since : ℕ) (main_old main_new : DiskState) (sink_old sink_new : SinkState) (asked : Result Verb Refusal) (result : Result ⊤ Stop) : Type 0 where
-  pub answers : Answers rose old.server asked (old.number + 1) since main_old main_new sink_old sink_new result new.server
+pub record Handles {B : Type 0} (plugin : B → StoreState) (stores_old stores_new : List B) (ambient_old ambient_new : AmbientState) (old new : Service) (since : ℕ) (main_old main_new : DiskState) (sink_old sink_new : SinkState) (asked : Result Verb Refusal) (result : Result ⊤ Stop) : Type 0 where
+  pub answers : Answers plugin stores_old stores_new ambient_old ambient_new old.server asked (old.number + 1) since main_old main_new sink_old sink_new result new.server
   pub number : new.number ≡ old.number + 1
 
 -- what one turn does, by whether and how the run ends with it
-pub data Turns (rose : ℕ → Bool) (old new : Service) (since : ℕ) (main_old main_new : DiskState) (from to : SourceState) (sink_old sink_new : SinkState) : Option Status → Type 0 where
-  answered : (asked : Result Verb Refusal) (over : Bool) → Finds old.reader new.reader from to (taken.Request asked over) → Handles rose old new since main_old main_new sink_old sink_new asked (Ok tt)
-      → Turns rose old new since main_old main_new from to sink_old sink_new (after_answer over)
-  stopped : (asked : Result Verb Refusal) (over : Bool) (stop : Stop) → Finds old.reader new.reader from to (taken.Request asked over) → Handles rose old new since main_old main_new sink_old sink_new asked (Err stop)
-      → Turns rose old new since main_old main_new from to sink_old sink_new (Some (status_of stop))
-  idle : (taken : Taken) → Finds old.reader new.reader from to taken → IsIdle taken → Idles old new main_old main_new sink_old sink_new → Turns rose old new since main_old main_new from to sink_old sink_new (status_after taken)
+pub data Turns {B : Type 0} (plugin : B → StoreState) (stores_old stores_new : List B) (ambient_old ambient_new : AmbientState) (old new : Service) (since : ℕ) (main_old main_new : DiskState) (from to : SourceState) (sink_old sink_new : SinkState) : Option Status → Type 0 where
+  answered : (asked : Result Verb Refusal) (over : Bool) → Finds old.reader new.reader from to (taken.Request asked over) → Handles plugin stores_old stores_new ambient_old ambient_new old new since main_old main_new sink_old sink_new asked (Ok tt)
+      → Turns plugin stores_old stores_new ambient_old ambient_new old new since main_old main_new from to sink_old sink_new (after_answer over)
+  stopped : (asked : Result Verb Refusal) (over : Bool) (stop : Stop) → Finds old.reader new.reader from to (taken.Request asked over) → Handles plugin stores_old stores_new ambient_old ambient_new old new since main_old main_new sink_old sink_new asked (Err stop)
+      → Turns plugin stores_old stores_new ambient_old ambient_new old new since main_old main_new from to sink_old sink_new (Some (status_of stop))
+  idle : (taken : Taken) → Finds old.reader new.reader from to taken → IsIdle taken → Idles ambient_old ambient_new old new main_old main_new sink_old sink_new → Turns plugin stores_old stores_new ambient_old ambient_new old new since main_old main_new from to sink_old sink_new (status_after taken)

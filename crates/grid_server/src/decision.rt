@@ -1,4 +1,4 @@
-ghost use Rattle.std.specs.Prelude.{◌≡◌, ◌≢◌, ◌≤◌, ℕ, ◌==◌, [], false, IfOk, Some};
+ghost use Rattle.std.specs.Prelude.{◌≡◌, ◌≢◌, ◌≤◌, ◌<◌, ℕ, ◌==◌, [], true, false, IfOk, Some};
 ghost use Rattle.std.specs.List.{list_any};
 ghost use Rattle.std.specs.List.Sorted.{IsStrictlyIncreasing};
 ghost use Rattle.grid_model.specs.Names.{parent as parent_of};
@@ -240,6 +240,7 @@ fn free_id(ids: &[u64]) -> u64
     requires { IsStrictlyIncreasing ids.now }
     ensures some { result ≢ 0 }
     ensures fresh { list_any (λ id. id == result) ids.now ≡ false }
+    ensures least { (n : ℕ) → 0 < n → n < result → list_any (λ id. id == n) ids.now ≡ true }
 {
     let mut next = 1;
     for id in ids {

@@ -1,5 +1,4 @@
-ghost use Rattle.std.specs.Prelude.{◌≡◌, ◌||◌, Some, is_some, find, option_map};
-ghost use Rattle.std.specs.Option.{option_copied};
+ghost use Rattle.std.specs.Prelude.{◌≡◌, ◌||◌, Some, is_some, option_map};
 ghost use Rattle.grid_model.specs.Names.{Path as PathOf, same_text};
 ghost use Rattle.grid_model.specs.Requests.{any_resource};
 ghost use Rattle.grid_model.specs.Rows.{object as object_row, replicas_of};
@@ -64,25 +63,26 @@ fn file_to_read(tables: &Tables, object: &ObjectRow, leaf: Option<u32>) -> Optio
 fn file_on(tables: &Tables, object: &ObjectRow, only: Option<u32>) -> Option<OldFile>
     ensures { result ≡ option_map (file_of object.now) (first_to_read tables.now only (replicas_of tables.now object.now.id)) }
 {
-    let row = first_to_read(tables, object.id, only)?;
-    let slot = slot_to_read(tables, row, only)?;
-    Some(OldFile {
+    for row in tables.replicas_of(object.id) {
+        match slot_to_read(tables, row, only) {
+            Some(slot) => return Some(file_of(object, row, slot)),
+            None => {}
+        }
+    }
+    None
+}
+
+// The file of a replica of an object, in the store of this slot.
+fn file_of(object: &ObjectRow, row: &ReplicaRow, slot: u8) -> OldFile
+    ensures { result ≡ file_of object.now (row.now, slot) }
+{
+    OldFile {
         slot,
         name: row.vault,
         number: row.number,
         size: object.size,
         digest: object.digest,
-    })
-}
-
-// The row of that replica.
-fn first_to_read(tables: &Tables, object: u64, only: Option<u32>) -> Option<&ReplicaRow>
-    ensures { option_copied result ≡ find (λ x. is_some (slot_to_read tables.now only x)) (replicas_of tables.now object) }
-{
-    tables
-        .replicas_of(object)
-        .iter()
-        .find(|row| slot_to_read(tables, row, only).is_some())
+    }
 }
 
 // The slot in which a replica may be read: it is good, and its leaf is asked and up.

@@ -1,6 +1,7 @@
 ghost use Rattle.std.specs.Prelude.{◌≡◌, ℕ, ◌+◌, ◌-◌, ◌^◌, ◌<◌, ◌≤◌, List, [], ◌++◌, length, take, drop, min, IsTrue, IfOk, OnOk, OnErr, IsErrOf};
 ghost use Rattle.std.specs.Bool.{MatchBool};
 ghost use Rattle.grid_outside.specs.Fault.{HasCause, Rose};
+ghost use Rattle.grid_model.specs.Lines.{IsLine};
 ghost use Rattle.grid_server.specs.declared.line_reader.ReadError.TheVariants.{Memory as NoMemory, Source as Fault};
 ghost use Rattle.grid_server.specs.Reading.{TakesLine, TakesRest, Fills, ReadsLine, ReadsPart, Passes, PassesPart, Took, TookAll};
 
@@ -170,7 +171,8 @@ impl LineReader {
     }
 
     /// Reads to the next newline, to the end of the input, or to the last byte that is read, and leaves what is held
-    /// of the line. `Source` comes only where the source failed.
+    /// of the line. Where a newline is left of the block the source is not asked. `Source` comes only where the source
+    /// failed.
     pub(crate) fn read_line<S: Source>(
         &mut self,
         source: &mut S,
@@ -178,6 +180,7 @@ impl LineReader {
     ) -> Result<Ended, ReadError>
         requires { self.old.taken ≤ 2 ^ 48 }
         ensures reads { IfOk result (λ ended. ReadsLine self.old ended self.new (S.source source.old) (S.source source.new) line.new.items) }
+        ensures at_once { ¬ IsLine self.old.unread → source.new ≡ source.old }
         ensures failed { IsErrOf result ReadError.Source → ReadsPart self.old (S.source source.old) (S.source source.new) }
         ensures tells { (S.source source.new).tells ≡ (S.source source.old).tells }
         ensures later { (S.source source.old).faults ≤ (S.source source.new).faults }
@@ -196,7 +199,8 @@ impl LineReader {
         }
     }
 
-    /// Passes over so many bytes. `Source` comes only where the source failed.
+    /// Passes over so many bytes. Where all are left of the block the source is not asked. It fails only where the
+    /// source failed.
     pub(crate) fn pass<S: Source>(
         &mut self,
         source: &mut S,
@@ -204,6 +208,7 @@ impl LineReader {
     ) -> Result<Passed, SourceFault>
         requires { self.old.taken ≤ 2 ^ 48 }
         ensures passes { IfOk result (λ how. (body : List ℕ) × Passes self.old count how self.new (S.source source.old) (S.source source.new) body) }
+        ensures at_once { count ≤ length self.old.unread → source.new ≡ source.old }
         ensures failed { OnErr result (PassesPart self.old count (S.source source.old) (S.source source.new)) }
         ensures tells { (S.source source.new).tells ≡ (S.source source.old).tells }
         ensures cause { HasCause (S.source source.old).faults (S.source source.new).faults result }
@@ -223,8 +228,8 @@ impl LineReader {
         }
     }
 
-    /// Reads so many bytes, or those that there are, and leaves them in the body. Room for all is made at once.
-    /// `Source` comes only where the source failed.
+    /// Reads so many bytes, or those that there are, and leaves them in the body. Room for all is made at once. Where all
+    /// are left of the block the source is not asked. `Source` comes only where the source failed.
     pub(crate) fn read_body<S: Source>(
         &mut self,
         source: &mut S,
@@ -233,6 +238,7 @@ impl LineReader {
     ) -> Result<Passed, ReadError>
         requires { self.old.taken ≤ 2 ^ 48 }
         ensures reads { IfOk result (λ how. Passes self.old count how self.new (S.source source.old) (S.source source.new) body.new.items) }
+        ensures at_once { count ≤ length self.old.unread → source.new ≡ source.old }
         ensures failed { IsErrOf result ReadError.Source → PassesPart self.old count (S.source source.old) (S.source source.new) }
         ensures tells { (S.source source.new).tells ≡ (S.source source.old).tells }
         ensures later { (S.source source.old).faults ≤ (S.source source.new).faults }

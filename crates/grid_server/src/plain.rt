@@ -6,6 +6,7 @@ ghost use Rattle.grid_model.specs.NewRows.{IsNewAt};
 ghost use Rattle.grid_model.specs.Replies.{end_line};
 ghost use Rattle.grid_model.specs.Commands.{Done, Act, does, made, act};
 ghost use Rattle.grid_server.specs.Held.{state_of};
+ghost use Rattle.grid_server.specs.Safe.{KeepWhole};
 ghost use Rattle.grid_server.specs.Deciding.{DecidesPlain};
 ghost use Rattle.grid_server.specs.Plain.{end_of};
 
@@ -13,7 +14,7 @@ use crate::decision::Plain;
 use crate::replying::{end_text, put_text};
 use crate::server::{Server, Stop};
 use grid_model::{CollectionRow, Delta, Deltas, End, Numbers, Refusal, Text, Texts, Verb};
-use grid_outside::{Ambient, Disk, Outside, Sink};
+use grid_outside::{Ambient, Disk, Outside, Plugin, Sink};
 use std::alloc::{AllocError, Global};
 
 impl Server {
@@ -22,10 +23,10 @@ impl Server {
     ghost use Rattle.grid_server.specs.Answering.{Answers};
 
     /// Does what needs no store, keeps what it changes, and then writes the reply.
-    pub(crate) fn answer_plain<D: Disk, K: Sink, A: Ambient>(
+    pub(crate) fn answer_plain<D: Disk, K: Sink, A: Ambient, P: Plugin>(
         &mut self,
         alloc: Global,
-        outside: &mut Outside<D, A>,
+        outside: &mut Outside<D, A, P>,
         sink: &mut K,
         number: u64,
         plain: Plain,
@@ -35,8 +36,8 @@ impl Server {
         requires main_last { (D.disk outside.old.main).last ≤ outside.old.moments }
         requires sink_last { (K.sink sink.old).last ≤ outside.old.moments }
         requires room { outside.old.moments + 5 < 2 ^ 128 }
-        ensures answers { (rose : _ → Bool) (asked : ResultOf Verb Refusal) → DecidesPlain self.old (act (state_of self.old) asked) plain →
-            Answers rose self.old asked number outside.old.moments (D.disk outside.old.main) (D.disk outside.new.main) (K.sink sink.old) (K.sink sink.new) result self.new }
+        ensures answers { (asked : ResultOf Verb Refusal) → DecidesPlain self.old (act (state_of self.old) asked) plain →
+            Answers P.plugin outside.old.stores.items outside.new.stores.items (A.ambient outside.old.ambient) (A.ambient outside.new.ambient) self.old asked number outside.old.moments (D.disk outside.old.main) (D.disk outside.new.main) (K.sink sink.old) (K.sink sink.new) result self.new }
         ensures main_last { (D.disk outside.new.main).last ≤ outside.new.moments }
         ensures sink_last { (K.sink sink.new).last ≤ outside.new.moments }
         ensures disk { IsErrOf result Stop.Disk → Rose (D.disk outside.old.main).faults (D.disk outside.new.main).faults }
@@ -45,6 +46,7 @@ impl Server {
         ensures drawn { outside.new.moments ≤ outside.old.moments + 5 }
         ensures spare { outside.new.spare ≡ outside.old.spare }
         ensures stores { outside.new.stores ≡ outside.old.stores }
+        ensures whole { KeepWhole P.plugin outside.old.moments self.old.store.cat (D.disk outside.old.main) (D.disk outside.new.main) outside.old.stores.items outside.new.stores.items }
     {
         let Ok(text) = end_text(alloc, number, end_of(alloc, &plain)) else {
             return Err(Stop::Memory);
@@ -56,10 +58,10 @@ impl Server {
     }
 
     // Does it and keeps what it changes.
-    fn carry_out<D: Disk, A: Ambient>(
+    fn carry_out<D: Disk, A: Ambient, P: Plugin>(
         &mut self,
         alloc: Global,
-        outside: &mut Outside<D, A>,
+        outside: &mut Outside<D, A, P>,
         number: u64,
         plain: Plain,
     ) -> Result<(), Stop>
@@ -75,6 +77,8 @@ impl Server {
         ensures drawn { outside.new.moments ≤ outside.old.moments + 4 }
         ensures spare { outside.new.spare ≡ outside.old.spare }
         ensures stores { outside.new.stores ≡ outside.old.stores }
+        ensures whole { KeepWhole P.plugin outside.old.moments self.old.store.cat (D.disk outside.old.main) (D.disk outside.new.main) outside.old.stores.items outside.new.stores.items }
+        ensures ambient { outside.new.ambient ≡ outside.old.ambient }
     {
         match plain {
             Plain::Refuse(_) => Ok(()),
@@ -87,10 +91,10 @@ impl Server {
     }
 
     // Makes a collection: its row and the number of the request are committed.
-    fn make<D: Disk, A: Ambient>(
+    fn make<D: Disk, A: Ambient, P: Plugin>(
         &mut self,
         alloc: Global,
-        outside: &mut Outside<D, A>,
+        outside: &mut Outside<D, A, P>,
         number: u64,
         row: CollectionRow,
     ) -> Result<(), Stop>
@@ -107,6 +111,8 @@ impl Server {
         ensures drawn { outside.new.moments ≤ outside.old.moments + 4 }
         ensures spare { outside.new.spare ≡ outside.old.spare }
         ensures stores { outside.new.stores ≡ outside.old.stores }
+        ensures whole { KeepWhole P.plugin outside.old.moments self.old.store.cat (D.disk outside.old.main) (D.disk outside.new.main) outside.old.stores.items outside.new.stores.items }
+        ensures ambient { outside.new.ambient ≡ outside.old.ambient }
     {
         let numbers = Numbers {
             last: number,

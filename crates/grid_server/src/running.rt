@@ -7,11 +7,13 @@ ghost use Rattle.grid_model.specs.Grid.{everybody};
 ghost use Rattle.grid_model.specs.Rows.{Cat};
 ghost use Rattle.grid_server.specs.Held.{IsMade};
 ghost use Rattle.grid_journal.specs.Journal.{Keeps};
+ghost use Rattle.grid_journal.specs.Start.{start};
 ghost use Rattle.grid_journal.specs.Stands.{Stands};
 ghost use Rattle.grid_server.specs.Keeping.{Stays, Rests};
+ghost use Rattle.grid_server.specs.Safe.{AreWhole, HaveNoFiles, KeepWhole};
 ghost use Rattle.grid_server.specs.Stores.{StoresGo};
 ghost use Rattle.grid_server.specs.Starting.{usage_line as usage_text, not_empty_line as not_empty_text, not_a_catalogue_line as not_a_catalogue_text, stores_line as stores_text, side_name as side_text};
-ghost use Rattle.grid_server.specs.Running.{Says, Refuses, RefusesStores, Inits, IsComplete};
+ghost use Rattle.grid_server.specs.Running.{Says, Refuses, RefusesStores, Inits, IsComplete, EndsServing};
 ghost use Rattle.grid_server.specs.Serving.{Serves, IsServing};
 ghost use Rattle.grid_server.specs.Tasks as task;
 ghost use Rattle.grid_server.specs.Tasks.{AsksFor, AsksNothing};
@@ -29,16 +31,16 @@ use std::alloc::{AllocError, Global};
 ///
 /// `init <zone> <admin>` begins a grid on two empty disks, and `serve` answers the requests of the source over the
 /// catalogue on the main disk. Any other words are `Usage`.
-pub fn run<D: Disk, S: Source, K: Sink, A: Ambient>(
+pub fn run<D: Disk, S: Source, K: Sink, A: Ambient, P: Plugin>(
     alloc: Global,
     words: &[Text],
-    outside: &mut Outside<D, A>,
+    outside: &mut Outside<D, A, P>,
     source: &mut S,
     sink: &mut K,
 ) -> Status
     requires main_last { (D.disk outside.old.main).last ≤ outside.old.moments }
     requires sink_last { (K.sink sink.old).last ≤ outside.old.moments }
-    requires stores_last { EachMember (λ k store. (⟦<Box<dyn Plugin> as Plugin>⟧.plugin store).last ≤ outside.old.moments) outside.old.stores.items }
+    requires stores_last { EachMember (λ k store. (P.plugin store).last ≤ outside.old.moments) outside.old.stores.items }
     requires room { outside.old.moments + 2 ^ 101 < 2 ^ 128 }
     requires stores { (0 < vec_len outside.old.stores) × (vec_len outside.old.stores ≤ 16) }
 
@@ -47,27 +49,42 @@ pub fn run<D: Disk, S: Source, K: Sink, A: Ambient>(
     ensures usage_only { result ≡ Status.Usage → AsksNothing words.now }
     ensures usage_main { AsksNothing words.now → outside.new.main ≡ outside.old.main }
     ensures usage_source { AsksNothing words.now → source.new ≡ source.old }
+    ensures usage_others { AsksNothing words.now → (outside.new.spare ≡ outside.old.spare) × (outside.new.stores ≡ outside.old.stores) × (outside.new.ambient ≡ outside.old.ambient) }
 
     // To begin a grid.
     ensures init { (zone admin : List ℕ) → AsksFor words.now (task.init zone admin) →
         Inits zone admin (vec_len outside.old.stores) (D.disk outside.old.main) (D.disk outside.new.main) (D.disk outside.old.spare) (K.sink sink.old) (K.sink sink.new) result }
+    ensures init_stores { (zone admin : List ℕ) → AsksFor words.now (task.init zone admin) → outside.new.stores ≡ outside.old.stores }
     ensures init_source { (zone admin : List ℕ) → AsksFor words.now (task.init zone admin) → source.new ≡ source.old }
 
-    // To answer requests: what was answered and shown, and what a stop at any moment leaves of main and the sink.
-    ensures serve { (rose : ℕ → Bool) → ((slot : ℕ) → RoseAt ⟦<Box<dyn Plugin> as Plugin>⟧.plugin slot outside.old.stores.items outside.new.stores.items → IsTrue (rose slot)) → (found : Cat) → AsksFor words.now task.serve → IsTrue (D.disk outside.old.main).tells → IsTrue (S.source source.old).tells →
+    // Where the stores have no files the catalogue of a new grid says so.
+    ensures init_whole { (zone admin : List ℕ) (t : ℕ) → AsksFor words.now (task.init zone admin) → HaveNoFiles P.plugin t outside.old.stores.items →
+        AreWhole P.plugin t (start zone admin (vec_len outside.old.stores)) outside.new.stores.items }
+
+    // To answer requests: how that may end, whatever the devices tell.
+    ensures serving { AsksFor words.now task.serve → EndsServing result }
+
+    // What was answered and shown, and what a stop at any moment leaves of main and the sink.
+    ensures serve { (found : Cat) → AsksFor words.now task.serve → IsTrue (D.disk outside.old.main).tells → IsTrue (S.source source.old).tells →
         Stands (D.disk outside.old.main).holds (D.disk outside.old.spare).holds (Ok found) → found.stores ≡ vec_len outside.old.stores →
-        Serves rose found outside.old.moments (D.disk outside.old.main) (D.disk outside.new.main) (S.source source.old) (S.source source.new) (K.sink sink.old) (K.sink sink.new) result }
+        Serves P.plugin outside.old.stores.items outside.new.stores.items (A.ambient outside.old.ambient) (A.ambient outside.new.ambient) found outside.old.moments (D.disk outside.old.main) (D.disk outside.new.main) (S.source source.old) (S.source source.new) (K.sink sink.old) (K.sink sink.new) result }
+
+    // Where every file of the stores that tell was named, and each good replica had its file, a stop at any moment leaves
+    // them so.
+    ensures whole { (found : Cat) → AsksFor words.now task.serve → Stands (D.disk outside.old.main).holds (D.disk outside.old.spare).holds (Ok found) →
+        KeepWhole P.plugin outside.old.moments found (D.disk outside.old.main) (D.disk outside.new.main) outside.old.stores.items outside.new.stores.items }
 
     // The catalogue is of another number of stores.
     ensures stores { (found : Cat) → AsksFor words.now task.serve → IsTrue (D.disk outside.old.main).tells →
         Stands (D.disk outside.old.main).holds (D.disk outside.old.spare).holds (Ok found) → found.stores ≢ vec_len outside.old.stores →
-        RefusesStores found.stores (vec_len outside.old.stores) (K.sink sink.old) (K.sink sink.new) result × Rests (D.disk outside.old.main) (D.disk outside.new.main) × (source.new ≡ source.old) }
-    ensures stores_only { (had given : ℕ) → result ≡ Status.Stores had given → (had ≢ given) × (given ≡ vec_len outside.old.stores) }
+        RefusesStores found.stores (vec_len outside.old.stores) (K.sink sink.old) (K.sink sink.new) result × Rests (D.disk outside.old.main) (D.disk outside.new.main) × (source.new ≡ source.old) × (outside.new.stores ≡ outside.old.stores) }
+    ensures stores_only { (had given : ℕ) → result ≡ Status.Stores had given → (had ≢ given) × (given ≡ vec_len outside.old.stores) ×
+        ((found : Cat) → IsTrue (D.disk outside.old.main).tells → Stands (D.disk outside.old.main).holds (D.disk outside.old.spare).holds (Ok found) → had ≡ found.stores) }
 
     // The disks hold none.
     ensures refuses { (side : Side) (place : ℕ) → AsksFor words.now task.serve → IsTrue (D.disk outside.old.main).tells →
         Stands (D.disk outside.old.main).holds (D.disk outside.old.spare).holds (Err (side, place)) →
-        Refuses side place (K.sink sink.old) (K.sink sink.new) result × Rests (D.disk outside.old.main) (D.disk outside.new.main) × (source.new ≡ source.old) }
+        Refuses side place (K.sink sink.old) (K.sink sink.new) result × Rests (D.disk outside.old.main) (D.disk outside.new.main) × (source.new ≡ source.old) × (outside.new.stores ≡ outside.old.stores) }
     ensures not_a_catalogue { (side : Side) (place : ℕ) → result ≡ Status.NotACatalogue side place → IsTrue (D.disk outside.old.main).tells →
         Stands (D.disk outside.old.main).holds (D.disk outside.old.spare).holds (Err (side, place)) }
 
@@ -87,10 +104,11 @@ pub fn run<D: Disk, S: Source, K: Sink, A: Ambient>(
         length (S.source source.old).left ≤ 2 ^ 48 → ¬ Rose (D.disk outside.old.main).faults (D.disk outside.new.main).faults →
         ¬ Rose (D.disk outside.old.spare).faults (D.disk outside.new.spare).faults → ¬ Rose (S.source source.old).faults (S.source source.new).faults → ¬ Rose (K.sink sink.old).faults (K.sink sink.new).faults → IsComplete result }
 
-    // Spare is only looked at, and there are as many stores as before.
+    // Spare is only looked at, and not even that to answer requests. There are as many stores as before.
     ensures spare { Looks (D.disk outside.old.spare) (D.disk outside.new.spare) }
-    ensures stores_last { EachMember (λ k store. (⟦<Box<dyn Plugin> as Plugin>⟧.plugin store).last ≤ outside.new.moments) outside.new.stores.items }
-    ensures stores_go { StoresGo ⟦<Box<dyn Plugin> as Plugin>⟧.plugin outside.old.stores.items outside.new.stores.items }
+    ensures serve_spare { AsksFor words.now task.serve → outside.new.spare ≡ outside.old.spare }
+    ensures stores_last { EachMember (λ k store. (P.plugin store).last ≤ outside.new.moments) outside.new.stores.items }
+    ensures stores_go { StoresGo P.plugin outside.old.moments outside.old.stores.items outside.new.stores.items }
 {
     match read_words(words) {
         Asked::Serve => serve(alloc, outside, source, sink),
@@ -119,36 +137,38 @@ fn say<K: Sink>(moments: &mut Moments, sink: &mut K, line: &[u8], status: Status
 }
 
 // Answers the requests of the source over the catalogue on the disks.
-fn serve<D: Disk, S: Source, K: Sink, A: Ambient>(
+fn serve<D: Disk, S: Source, K: Sink, A: Ambient, P: Plugin>(
     alloc: Global,
-    outside: &mut Outside<D, A>,
+    outside: &mut Outside<D, A, P>,
     source: &mut S,
     sink: &mut K,
 ) -> Status
     requires main_last { (D.disk outside.old.main).last ≤ outside.old.moments }
     requires sink_last { (K.sink sink.old).last ≤ outside.old.moments }
-    requires stores_last { EachMember (λ k store. (⟦<Box<dyn Plugin> as Plugin>⟧.plugin store).last ≤ outside.old.moments) outside.old.stores.items }
+    requires stores_last { EachMember (λ k store. (P.plugin store).last ≤ outside.old.moments) outside.old.stores.items }
     requires room { outside.old.moments + 2 ^ 101 < 2 ^ 128 }
     requires stores { (0 < vec_len outside.old.stores) × (vec_len outside.old.stores ≤ 16) }
-    ensures serve { (rose : ℕ → Bool) → ((slot : ℕ) → RoseAt ⟦<Box<dyn Plugin> as Plugin>⟧.plugin slot outside.old.stores.items outside.new.stores.items → IsTrue (rose slot)) → (found : Cat) → IsTrue (D.disk outside.old.main).tells → IsTrue (S.source source.old).tells →
+    ensures serve { (found : Cat) → IsTrue (D.disk outside.old.main).tells → IsTrue (S.source source.old).tells →
         Stands (D.disk outside.old.main).holds (D.disk outside.old.spare).holds (Ok found) → found.stores ≡ vec_len outside.old.stores →
-        Serves rose found outside.old.moments (D.disk outside.old.main) (D.disk outside.new.main) (S.source source.old) (S.source source.new) (K.sink sink.old) (K.sink sink.new) result }
+        Serves P.plugin outside.old.stores.items outside.new.stores.items (A.ambient outside.old.ambient) (A.ambient outside.new.ambient) found outside.old.moments (D.disk outside.old.main) (D.disk outside.new.main) (S.source source.old) (S.source source.new) (K.sink sink.old) (K.sink sink.new) result }
     ensures stores { (found : Cat) → IsTrue (D.disk outside.old.main).tells →
         Stands (D.disk outside.old.main).holds (D.disk outside.old.spare).holds (Ok found) → found.stores ≢ vec_len outside.old.stores →
-        RefusesStores found.stores (vec_len outside.old.stores) (K.sink sink.old) (K.sink sink.new) result × Rests (D.disk outside.old.main) (D.disk outside.new.main) × (source.new ≡ source.old) }
-    ensures stores_only { (had given : ℕ) → result ≡ Status.Stores had given → (had ≢ given) × (given ≡ vec_len outside.old.stores) }
+        RefusesStores found.stores (vec_len outside.old.stores) (K.sink sink.old) (K.sink sink.new) result × Rests (D.disk outside.old.main) (D.disk outside.new.main) × (source.new ≡ source.old) × (outside.new.stores ≡ outside.old.stores) }
+    ensures stores_only { (had given : ℕ) → result ≡ Status.Stores had given → (had ≢ given) × (given ≡ vec_len outside.old.stores) ×
+        ((found : Cat) → IsTrue (D.disk outside.old.main).tells → Stands (D.disk outside.old.main).holds (D.disk outside.old.spare).holds (Ok found) → had ≡ found.stores) }
     ensures refuses { (side : Side) (place : ℕ) → IsTrue (D.disk outside.old.main).tells →
         Stands (D.disk outside.old.main).holds (D.disk outside.old.spare).holds (Err (side, place)) →
-        Refuses side place (K.sink sink.old) (K.sink sink.new) result × Rests (D.disk outside.old.main) (D.disk outside.new.main) × (source.new ≡ source.old) }
+        Refuses side place (K.sink sink.old) (K.sink sink.new) result × Rests (D.disk outside.old.main) (D.disk outside.new.main) × (source.new ≡ source.old) × (outside.new.stores ≡ outside.old.stores) }
     ensures not_a_catalogue { (side : Side) (place : ℕ) → result ≡ Status.NotACatalogue side place → IsTrue (D.disk outside.old.main).tells →
         Stands (D.disk outside.old.main).holds (D.disk outside.old.spare).holds (Err (side, place)) }
     ensures disk { result ≡ Status.DiskFault → Rose (D.disk outside.old.main).faults (D.disk outside.new.main).faults }
     ensures source { result ≡ Status.SourceFault → Rose (S.source source.old).faults (S.source source.new).faults }
     ensures sink { result ≡ Status.SinkFault → Rose (K.sink sink.old).faults (K.sink sink.new).faults }
-    ensures words { (result ≡ Status.Usage) → ⊥ }
+    ensures ends { EndsServing result }
     ensures spare { outside.new.spare ≡ outside.old.spare }
-    ensures stores_last { EachMember (λ k store. (⟦<Box<dyn Plugin> as Plugin>⟧.plugin store).last ≤ outside.new.moments) outside.new.stores.items }
-    ensures stores_go { StoresGo ⟦<Box<dyn Plugin> as Plugin>⟧.plugin outside.old.stores.items outside.new.stores.items }
+    ensures stores_last { EachMember (λ k store. (P.plugin store).last ≤ outside.new.moments) outside.new.stores.items }
+    ensures stores_go { StoresGo P.plugin outside.old.moments outside.old.stores.items outside.new.stores.items }
+    ensures whole { (found : Cat) → Stands (D.disk outside.old.main).holds (D.disk outside.old.spare).holds (Ok found) → KeepWhole P.plugin outside.old.moments found (D.disk outside.old.main) (D.disk outside.new.main) outside.old.stores.items outside.new.stores.items }
 {
     match Store::open(alloc, &mut outside.main, &mut outside.spare) {
         Ok(store) => serve_over(alloc, store, outside, source, sink),
@@ -163,10 +183,10 @@ fn serve<D: Disk, S: Source, K: Sink, A: Ambient>(
 }
 
 // Answers the requests of the source over a catalogue that was read.
-fn serve_over<D: Disk, S: Source, K: Sink, A: Ambient>(
+fn serve_over<D: Disk, S: Source, K: Sink, A: Ambient, P: Plugin>(
     alloc: Global,
     store: Store,
-    outside: &mut Outside<D, A>,
+    outside: &mut Outside<D, A, P>,
     source: &mut S,
     sink: &mut K,
 ) -> Status
@@ -176,22 +196,23 @@ fn serve_over<D: Disk, S: Source, K: Sink, A: Ambient>(
     requires made { IsMade store.cat }
     requires main_last { (D.disk outside.old.main).last ≤ outside.old.moments }
     requires sink_last { (K.sink sink.old).last ≤ outside.old.moments }
-    requires stores_last { EachMember (λ k store. (⟦<Box<dyn Plugin> as Plugin>⟧.plugin store).last ≤ outside.old.moments) outside.old.stores.items }
+    requires stores_last { EachMember (λ k store. (P.plugin store).last ≤ outside.old.moments) outside.old.stores.items }
     requires room { outside.old.moments + 2 ^ 101 < 2 ^ 128 }
     requires stores { (0 < vec_len outside.old.stores) × (vec_len outside.old.stores ≤ 16) }
-    ensures serve { (rose : ℕ → Bool) → ((slot : ℕ) → RoseAt ⟦<Box<dyn Plugin> as Plugin>⟧.plugin slot outside.old.stores.items outside.new.stores.items → IsTrue (rose slot)) → IsTrue (D.disk outside.old.main).tells → IsTrue (S.source source.old).tells → store.cat.stores ≡ vec_len outside.old.stores →
-        Serves rose store.cat outside.old.moments (D.disk outside.old.main) (D.disk outside.new.main) (S.source source.old) (S.source source.new) (K.sink sink.old) (K.sink sink.new) result }
+    ensures serve { IsTrue (D.disk outside.old.main).tells → IsTrue (S.source source.old).tells → store.cat.stores ≡ vec_len outside.old.stores →
+        Serves P.plugin outside.old.stores.items outside.new.stores.items (A.ambient outside.old.ambient) (A.ambient outside.new.ambient) store.cat outside.old.moments (D.disk outside.old.main) (D.disk outside.new.main) (S.source source.old) (S.source source.new) (K.sink sink.old) (K.sink sink.new) result }
     ensures stores { store.cat.stores ≢ vec_len outside.old.stores →
-        RefusesStores store.cat.stores (vec_len outside.old.stores) (K.sink sink.old) (K.sink sink.new) result × (outside.new.main ≡ outside.old.main) × (source.new ≡ source.old) }
-    ensures stores_only { (had given : ℕ) → result ≡ Status.Stores had given → (had ≢ given) × (given ≡ vec_len outside.old.stores) }
+        RefusesStores store.cat.stores (vec_len outside.old.stores) (K.sink sink.old) (K.sink sink.new) result × (outside.new.main ≡ outside.old.main) × (source.new ≡ source.old) × (outside.new.stores ≡ outside.old.stores) }
+    ensures stores_only { (had given : ℕ) → result ≡ Status.Stores had given → (had ≢ given) × (given ≡ vec_len outside.old.stores) × (had ≡ store.cat.stores) }
     ensures disk { result ≡ Status.DiskFault → Rose (D.disk outside.old.main).faults (D.disk outside.new.main).faults }
     ensures source { result ≡ Status.SourceFault → Rose (S.source source.old).faults (S.source source.new).faults }
     ensures sink { result ≡ Status.SinkFault → Rose (K.sink sink.old).faults (K.sink sink.new).faults }
-    ensures words { (result ≡ Status.Usage) → ⊥ }
+    ensures ends { EndsServing result }
     ensures not_a_catalogue { (side : Side) (place : ℕ) → ¬ (result ≡ Status.NotACatalogue side place) }
     ensures spare { outside.new.spare ≡ outside.old.spare }
-    ensures stores_last { EachMember (λ k store. (⟦<Box<dyn Plugin> as Plugin>⟧.plugin store).last ≤ outside.new.moments) outside.new.stores.items }
-    ensures stores_go { StoresGo ⟦<Box<dyn Plugin> as Plugin>⟧.plugin outside.old.stores.items outside.new.stores.items }
+    ensures stores_last { EachMember (λ k store. (P.plugin store).last ≤ outside.new.moments) outside.new.stores.items }
+    ensures stores_go { StoresGo P.plugin outside.old.moments outside.old.stores.items outside.new.stores.items }
+    ensures whole { KeepWhole P.plugin outside.old.moments store.cat (D.disk outside.old.main) (D.disk outside.new.main) outside.old.stores.items outside.new.stores.items }
 {
     let kept = store.tables().stores();
     let given = outside.stores.len() as u8;
@@ -262,11 +283,11 @@ fn refuse_stores<K: Sink>(
 }
 
 // Begins a grid and says so, or why not.
-fn init<D: Disk, K: Sink, A: Ambient>(
+fn init<D: Disk, K: Sink, A: Ambient, P: Plugin>(
     alloc: Global,
     zone: &Text,
     admin: &Text,
-    outside: &mut Outside<D, A>,
+    outside: &mut Outside<D, A, P>,
     sink: &mut K,
 ) -> Status
     requires zone { IsTrue (is_name zone.now) }
@@ -274,7 +295,7 @@ fn init<D: Disk, K: Sink, A: Ambient>(
     requires not_public { admin.now ≢ everybody }
     requires main_last { (D.disk outside.old.main).last ≤ outside.old.moments }
     requires sink_last { (K.sink sink.old).last ≤ outside.old.moments }
-    requires stores_last { EachMember (λ k store. (⟦<Box<dyn Plugin> as Plugin>⟧.plugin store).last ≤ outside.old.moments) outside.old.stores.items }
+    requires stores_last { EachMember (λ k store. (P.plugin store).last ≤ outside.old.moments) outside.old.stores.items }
     requires room { outside.old.moments + 3 < 2 ^ 128 }
     requires stores { (0 < vec_len outside.old.stores) × (vec_len outside.old.stores ≤ 16) }
     ensures inits { Inits zone.now admin.now (vec_len outside.old.stores) (D.disk outside.old.main) (D.disk outside.new.main) (D.disk outside.old.spare) (K.sink sink.old) (K.sink sink.new) result }
@@ -287,7 +308,7 @@ fn init<D: Disk, K: Sink, A: Ambient>(
     ensures no_stores { (had given : ℕ) → ¬ (result ≡ Status.Stores had given) }
     ensures other_stores { outside.new.stores ≡ outside.old.stores }
     ensures ambient { outside.new.ambient ≡ outside.old.ambient }
-    ensures stores_last { EachMember (λ k store. (⟦<Box<dyn Plugin> as Plugin>⟧.plugin store).last ≤ outside.new.moments) outside.new.stores.items }
+    ensures stores_last { EachMember (λ k store. (P.plugin store).last ≤ outside.new.moments) outside.new.stores.items }
 {
     let stores = outside.stores.len() as u8;
     match Store::init(

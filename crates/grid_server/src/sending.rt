@@ -10,6 +10,7 @@ ghost use Rattle.grid_model.specs.Commands.{act, reads};
 ghost use Rattle.grid_model.specs.DataLines.{parts};
 ghost use Rattle.grid_model.specs.Writable.{is_word};
 ghost use Rattle.grid_server.specs.Held.{state_of};
+ghost use Rattle.grid_server.specs.Safe.{KeepWhole};
 ghost use Rattle.grid_server.specs.Stores.{StoresGo};
 ghost use Rattle.grid_server.specs.Deciding.{IsSending};
 ghost use Rattle.grid_server.specs.Sending.{IsReplied, whole_reply, damaged_reply, sending_reply};
@@ -26,10 +27,10 @@ impl Server {
     ghost use Rattle.grid_server.specs.Answering.{Answers};
 
     /// Gets a file: its bytes are written as they are read, and then the end of the reply.
-    pub(crate) fn answer_get<D: Disk, K: Sink, A: Ambient>(
+    pub(crate) fn answer_get<D: Disk, K: Sink, A: Ambient, P: Plugin>(
         &self,
         alloc: Global,
-        outside: &mut Outside<D, A>,
+        outside: &mut Outside<D, A, P>,
         sink: &mut K,
         number: u64,
         file: OldFile,
@@ -38,20 +39,20 @@ impl Server {
         requires decided { (p : PathOf) × (o : Object) × IsSending self.now.store.cat p o file }
         requires main_last { (D.disk outside.old.main).last ≤ outside.old.moments }
         requires sink_last { (K.sink sink.old).last ≤ outside.old.moments }
-        requires stores_last { EachMember (λ k store. (⟦<Box<dyn Plugin> as Plugin>⟧.plugin store).last ≤ outside.old.moments) outside.old.stores.items }
+        requires stores_last { EachMember (λ k store. (P.plugin store).last ≤ outside.old.moments) outside.old.stores.items }
         requires slots { self.now.store.cat.stores ≡ vec_len outside.old.stores }
         requires room { outside.old.moments + 2 ^ 50 < 2 ^ 128 }
-        ensures answers { (rose : ℕ → Bool) → ((slot : ℕ) → RoseAt ⟦<Box<dyn Plugin> as Plugin>⟧.plugin slot outside.old.stores.items outside.new.stores.items → IsTrue (rose slot)) →
-            (asked : ResultOf Verb Refusal) (p : PathOf) (o : Object) → act (state_of self.now) asked ≡ reads o file.number file.slot → IsSending self.now.store.cat p o file → Answers rose self.now asked number outside.old.moments
+        ensures answers { (asked : ResultOf Verb Refusal) (p : PathOf) (o : Object) → act (state_of self.now) asked ≡ reads o file.number file.slot → IsSending self.now.store.cat p o file → Answers P.plugin outside.old.stores.items outside.new.stores.items (A.ambient outside.old.ambient) (A.ambient outside.new.ambient) self.now asked number outside.old.moments
             (D.disk outside.old.main) (D.disk outside.new.main) (K.sink sink.old) (K.sink sink.new) result self.now }
-        ensures replied { IsOk result → IsTrue (K.sink sink.old).tells → AtSlot ⟦<Box<dyn Plugin> as Plugin>⟧.plugin file.slot outside.old.stores.items (λ store.
+        ensures replied { IsOk result → IsTrue (K.sink sink.old).tells → AtSlot P.plugin file.slot outside.old.stores.items (λ store.
             IsReplied store file number (K.sink sink.old).holds (K.sink sink.new).holds) }
         ensures main { outside.new.main ≡ outside.old.main }
         ensures main_last { (D.disk outside.new.main).last ≤ outside.new.moments }
         ensures sink_last { (K.sink sink.new).last ≤ outside.new.moments }
-        ensures stores_last { EachMember (λ k store. (⟦<Box<dyn Plugin> as Plugin>⟧.plugin store).last ≤ outside.new.moments) outside.new.stores.items }
-        ensures stores_go { StoresGo ⟦<Box<dyn Plugin> as Plugin>⟧.plugin outside.old.stores.items outside.new.stores.items }
-        ensures stores_keep { EachPair (λ k before after. Looks (⟦<Box<dyn Plugin> as Plugin>⟧.plugin before) (⟦<Box<dyn Plugin> as Plugin>⟧.plugin after)) outside.old.stores.items outside.new.stores.items }
+        ensures stores_last { EachMember (λ k store. (P.plugin store).last ≤ outside.new.moments) outside.new.stores.items }
+        ensures stores_go { StoresGo P.plugin outside.old.moments outside.old.stores.items outside.new.stores.items }
+        ensures whole { KeepWhole P.plugin outside.old.moments self.now.store.cat (D.disk outside.old.main) (D.disk outside.new.main) outside.old.stores.items outside.new.stores.items }
+        ensures stores_keep { EachPair (λ k before after. Looks (P.plugin before) (P.plugin after)) outside.old.stores.items outside.new.stores.items }
         ensures disk { (IsErrOf result Stop.Disk) → ⊥ }
         ensures sink { IsErrOf result Stop.Sink → Rose (K.sink sink.old).faults (K.sink sink.new).faults }
         ensures drawn_from { outside.old.moments ≤ outside.new.moments }

@@ -6,6 +6,7 @@ ghost use Rattle.grid_vault.specs.Vault.{RoseAt};
 ghost use Rattle.grid_model.specs.Rows.{Cat};
 ghost use Rattle.grid_model.specs.Applying.{apply_all};
 ghost use Rattle.grid_journal.specs.Journal.{can_be_kept};
+ghost use Rattle.grid_server.specs.Safe.{KeepWhole};
 ghost use Rattle.grid_server.specs.Stores.{StoresGo};
 ghost use Rattle.grid_server.specs.Stopping.{IsOfCommit, stop_of};
 
@@ -39,10 +40,10 @@ impl Server {
 
     /// Answers a request: it is decided, what it changes is kept, and then the reply is written.
     /// `Disk` and `Sink` come only where that device failed.
-    pub(crate) fn answer<D: Disk, K: Sink, A: Ambient>(
+    pub(crate) fn answer<D: Disk, K: Sink, A: Ambient, P: Plugin>(
         &mut self,
         alloc: Global,
-        outside: &mut Outside<D, A>,
+        outside: &mut Outside<D, A, P>,
         sink: &mut K,
         number: u64,
         asked: Result<Verb, Refusal>,
@@ -50,15 +51,16 @@ impl Server {
         requires held { IsHeld (D.disk outside.old.main) self.old }
         requires main_last { (D.disk outside.old.main).last ≤ outside.old.moments }
         requires sink_last { (K.sink sink.old).last ≤ outside.old.moments }
-        requires stores_last { EachMember (λ k store. (⟦<Box<dyn Plugin> as Plugin>⟧.plugin store).last ≤ outside.old.moments) outside.old.stores.items }
+        requires stores_last { EachMember (λ k store. (P.plugin store).last ≤ outside.old.moments) outside.old.stores.items }
         requires slots { self.old.store.cat.stores ≡ vec_len outside.old.stores }
         requires room { outside.old.moments + 2 ^ 50 < 2 ^ 128 }
-        ensures answers { (rose : ℕ → Bool) → ((slot : ℕ) → RoseAt ⟦<Box<dyn Plugin> as Plugin>⟧.plugin slot outside.old.stores.items outside.new.stores.items → IsTrue (rose slot)) → Answers rose self.old asked number outside.old.moments
+        ensures answers { Answers P.plugin outside.old.stores.items outside.new.stores.items (A.ambient outside.old.ambient) (A.ambient outside.new.ambient) self.old asked number outside.old.moments
             (D.disk outside.old.main) (D.disk outside.new.main) (K.sink sink.old) (K.sink sink.new) result self.new }
         ensures main_last { (D.disk outside.new.main).last ≤ outside.new.moments }
         ensures sink_last { (K.sink sink.new).last ≤ outside.new.moments }
-        ensures stores_last { EachMember (λ k store. (⟦<Box<dyn Plugin> as Plugin>⟧.plugin store).last ≤ outside.new.moments) outside.new.stores.items }
-        ensures stores_go { StoresGo ⟦<Box<dyn Plugin> as Plugin>⟧.plugin outside.old.stores.items outside.new.stores.items }
+        ensures stores_last { EachMember (λ k store. (P.plugin store).last ≤ outside.new.moments) outside.new.stores.items }
+        ensures stores_go { StoresGo P.plugin outside.old.moments outside.old.stores.items outside.new.stores.items }
+        ensures whole { KeepWhole P.plugin outside.old.moments self.old.store.cat (D.disk outside.old.main) (D.disk outside.new.main) outside.old.stores.items outside.new.stores.items }
         ensures disk { IsErrOf result Stop.Disk → Rose (D.disk outside.old.main).faults (D.disk outside.new.main).faults }
         ensures sink { IsErrOf result Stop.Sink → Rose (K.sink sink.old).faults (K.sink sink.new).faults }
         ensures drawn_from { outside.old.moments ≤ outside.new.moments }

@@ -9,6 +9,7 @@ ghost use Rattle.grid_model.specs.Inputs.{HasBody};
 ghost use Rattle.grid_model.specs.Requests.{Asks};
 ghost use Rattle.grid_server.specs.Held.{IsHeld};
 ghost use Rattle.grid_server.specs.Keeping.{Goes};
+ghost use Rattle.grid_server.specs.Safe.{KeepWhole};
 ghost use Rattle.grid_server.specs.Stores.{StoresGo};
 ghost use Rattle.grid_server.specs.Opening.{begun};
 ghost use Rattle.grid_server.specs.Serving.{Serves, IsServing};
@@ -55,10 +56,10 @@ impl Service {
     ghost use Rattle.grid_server.specs.Turning.{Finds, FindsBehind, Turns};
 
     // Reads and answers one request, or reads a line that is none. With no status the run goes on.
-    fn turn<D: Disk, S: Source, K: Sink, A: Ambient>(
+    fn turn<D: Disk, S: Source, K: Sink, A: Ambient, P: Plugin>(
         &mut self,
         alloc: Global,
-        outside: &mut Outside<D, A>,
+        outside: &mut Outside<D, A, P>,
         source: &mut S,
         sink: &mut K,
     ) -> Option<Status>
@@ -67,10 +68,10 @@ impl Service {
         requires held { IsHeld (D.disk outside.old.main) self.old.server }
         requires main_last { (D.disk outside.old.main).last ≤ outside.old.moments }
         requires sink_last { (K.sink sink.old).last ≤ outside.old.moments }
-        requires stores_last { EachMember (λ k store. (⟦<Box<dyn Plugin> as Plugin>⟧.plugin store).last ≤ outside.old.moments) outside.old.stores.items }
+        requires stores_last { EachMember (λ k store. (P.plugin store).last ≤ outside.old.moments) outside.old.stores.items }
         requires slots { self.old.server.store.cat.stores ≡ vec_len outside.old.stores }
         requires room { outside.old.moments + 2 ^ 50 < 2 ^ 128 }
-        ensures turns { (rose : ℕ → Bool) → ((slot : ℕ) → RoseAt ⟦<Box<dyn Plugin> as Plugin>⟧.plugin slot outside.old.stores.items outside.new.stores.items → IsTrue (rose slot)) → Turns rose self.old self.new outside.old.moments (D.disk outside.old.main) (D.disk outside.new.main) (S.source source.old) (S.source source.new) (K.sink sink.old) (K.sink sink.new) result }
+        ensures turns { Turns P.plugin outside.old.stores.items outside.new.stores.items (A.ambient outside.old.ambient) (A.ambient outside.new.ambient) self.old self.new outside.old.moments (D.disk outside.old.main) (D.disk outside.new.main) (S.source source.old) (S.source source.new) (K.sink sink.old) (K.sink sink.new) result }
         ensures source_tells { (S.source source.new).tells ≡ (S.source source.old).tells }
         ensures main_last { (D.disk outside.new.main).last ≤ outside.new.moments }
         ensures sink_last { (K.sink sink.new).last ≤ outside.new.moments }
@@ -80,8 +81,9 @@ impl Service {
         ensures sink { result ≡ Some Status.SinkFault → Rose (K.sink sink.old).faults (K.sink sink.new).faults }
         ensures drawn_from { outside.old.moments ≤ outside.new.moments }
         ensures drawn { outside.new.moments ≤ outside.old.moments + 2 ^ 50 }
-        ensures stores_last { EachMember (λ k store. (⟦<Box<dyn Plugin> as Plugin>⟧.plugin store).last ≤ outside.new.moments) outside.new.stores.items }
-        ensures stores_go { StoresGo ⟦<Box<dyn Plugin> as Plugin>⟧.plugin outside.old.stores.items outside.new.stores.items }
+        ensures stores_last { EachMember (λ k store. (P.plugin store).last ≤ outside.new.moments) outside.new.stores.items }
+        ensures stores_go { StoresGo P.plugin outside.old.moments outside.old.stores.items outside.new.stores.items }
+        ensures whole { KeepWhole P.plugin outside.old.moments self.old.server.store.cat (D.disk outside.old.main) (D.disk outside.new.main) outside.old.stores.items outside.new.stores.items }
         ensures spare { outside.new.spare ≡ outside.old.spare }
     {
         match self.take(alloc, source) {
@@ -240,10 +242,10 @@ fn status_of(stop: Stop) -> Status
 
 /// Answers the requests of the source over a catalogue for which a run was begun, in order, until the input ends or
 /// something fails. `DiskFault`, `SourceFault` and `SinkFault` come only where that device failed.
-pub(crate) fn serve_all<D: Disk, S: Source, K: Sink, A: Ambient>(
+pub(crate) fn serve_all<D: Disk, S: Source, K: Sink, A: Ambient, P: Plugin>(
     alloc: Global,
     server: Server,
-    outside: &mut Outside<D, A>,
+    outside: &mut Outside<D, A, P>,
     source: &mut S,
     sink: &mut K,
 ) -> Status
@@ -252,11 +254,11 @@ pub(crate) fn serve_all<D: Disk, S: Source, K: Sink, A: Ambient>(
     requires fresh { server.store.cat.numbers.last ≡ 0 }
     requires main_last { (D.disk outside.old.main).last ≤ outside.old.moments }
     requires sink_last { (K.sink sink.old).last ≤ outside.old.moments }
-    requires stores_last { EachMember (λ k store. (⟦<Box<dyn Plugin> as Plugin>⟧.plugin store).last ≤ outside.old.moments) outside.old.stores.items }
+    requires stores_last { EachMember (λ k store. (P.plugin store).last ≤ outside.old.moments) outside.old.stores.items }
     requires slots { server.store.cat.stores ≡ vec_len outside.old.stores }
     requires room { outside.old.moments + 2 ^ 100 < 2 ^ 128 }
-    ensures serves { (rose : ℕ → Bool) → ((slot : ℕ) → RoseAt ⟦<Box<dyn Plugin> as Plugin>⟧.plugin slot outside.old.stores.items outside.new.stores.items → IsTrue (rose slot)) → (found : Cat) → server.store.cat ≡ begun found → grid_of (begun found) ≡ grid_of found → IsTrue (D.disk outside.old.main).tells → IsTrue (S.source source.old).tells →
-        Serves rose found outside.old.moments (D.disk outside.old.main) (D.disk outside.new.main) (S.source source.old) (S.source source.new) (K.sink sink.old) (K.sink sink.new) result }
+    ensures serves { (found : Cat) → server.store.cat ≡ begun found → grid_of (begun found) ≡ grid_of found → IsTrue (D.disk outside.old.main).tells → IsTrue (S.source source.old).tells →
+        Serves P.plugin outside.old.stores.items outside.new.stores.items (A.ambient outside.old.ambient) (A.ambient outside.new.ambient) found outside.old.moments (D.disk outside.old.main) (D.disk outside.new.main) (S.source source.old) (S.source source.new) (K.sink sink.old) (K.sink sink.new) result }
     ensures main_goes { Goes outside.old.moments (D.disk outside.old.main) (D.disk outside.new.main) }
     ensures sink_goes { Goes outside.old.moments (K.sink sink.old) (K.sink sink.new) }
     ensures disk { result ≡ Status.DiskFault → Rose (D.disk outside.old.main).faults (D.disk outside.new.main).faults }
@@ -264,8 +266,9 @@ pub(crate) fn serve_all<D: Disk, S: Source, K: Sink, A: Ambient>(
     ensures sink { result ≡ Status.SinkFault → Rose (K.sink sink.old).faults (K.sink sink.new).faults }
     ensures ends { IsServing result }
     ensures source_later { (S.source source.old).faults ≤ (S.source source.new).faults }
-    ensures stores_last { EachMember (λ k store. (⟦<Box<dyn Plugin> as Plugin>⟧.plugin store).last ≤ outside.new.moments) outside.new.stores.items }
-    ensures stores_go { StoresGo ⟦<Box<dyn Plugin> as Plugin>⟧.plugin outside.old.stores.items outside.new.stores.items }
+    ensures stores_last { EachMember (λ k store. (P.plugin store).last ≤ outside.new.moments) outside.new.stores.items }
+    ensures stores_go { StoresGo P.plugin outside.old.moments outside.old.stores.items outside.new.stores.items }
+    ensures whole { KeepWhole P.plugin outside.old.moments server.store.cat (D.disk outside.old.main) (D.disk outside.new.main) outside.old.stores.items outside.new.stores.items }
     ensures spare { outside.new.spare ≡ outside.old.spare }
 {
     let Ok(mut service) = begin(alloc, server) else {

@@ -10,6 +10,7 @@ ghost use Rattle.std.specs.List.{list_all};
 ghost use Rattle.grid_model.specs.Rows.{Cat};
 ghost use Rattle.grid_model.specs.Commands.{act, writes};
 ghost use Rattle.grid_server.specs.Held.{state_of};
+ghost use Rattle.grid_server.specs.Safe.{KeepWhole};
 ghost use Rattle.grid_server.specs.Stores.{StoresGo};
 ghost use Rattle.grid_server.specs.Deciding.{IsStoring};
 ghost use Rattle.grid_server.specs.Storing.{Stores, begun_deltas as begun_changes, stored_deltas as stored_changes, stored_reply, failed_reply};
@@ -32,10 +33,10 @@ impl Server {
     ghost use Rattle.grid_server.specs.Answering.{Answers};
 
     /// Puts a body: its file is written, its object kept, and then the reply is written.
-    pub(crate) fn answer_put<D: Disk, K: Sink, A: Ambient>(
+    pub(crate) fn answer_put<D: Disk, K: Sink, A: Ambient, P: Plugin>(
         &mut self,
         alloc: Global,
-        outside: &mut Outside<D, A>,
+        outside: &mut Outside<D, A, P>,
         sink: &mut K,
         number: u64,
         storing: Storing,
@@ -44,16 +45,17 @@ impl Server {
         requires decided { (p : PathOf) × (leaf : TextOf) × (body : TextOf) × IsStoring self.old.store.cat p leaf body storing }
         requires main_last { (D.disk outside.old.main).last ≤ outside.old.moments }
         requires sink_last { (K.sink sink.old).last ≤ outside.old.moments }
-        requires stores_last { EachMember (λ k store. (⟦<Box<dyn Plugin> as Plugin>⟧.plugin store).last ≤ outside.old.moments) outside.old.stores.items }
+        requires stores_last { EachMember (λ k store. (P.plugin store).last ≤ outside.old.moments) outside.old.stores.items }
         requires slots { self.old.store.cat.stores ≡ vec_len outside.old.stores }
         requires room { outside.old.moments + 2 ^ 50 < 2 ^ 128 }
-        ensures answers { (rose : ℕ → Bool) → ((slot : ℕ) → RoseAt ⟦<Box<dyn Plugin> as Plugin>⟧.plugin slot outside.old.stores.items outside.new.stores.items → IsTrue (rose slot)) → (asked : ResultOf Verb Refusal) (p : PathOf) (leaf body : TextOf) → act (state_of self.old) asked ≡ writes p leaf storing.slot body → IsStoring self.old.store.cat p leaf body storing →
-            Answers rose self.old asked number outside.old.moments
+        ensures answers { (asked : ResultOf Verb Refusal) (p : PathOf) (leaf body : TextOf) → act (state_of self.old) asked ≡ writes p leaf storing.slot body → IsStoring self.old.store.cat p leaf body storing →
+            Answers P.plugin outside.old.stores.items outside.new.stores.items (A.ambient outside.old.ambient) (A.ambient outside.new.ambient) self.old asked number outside.old.moments
             (D.disk outside.old.main) (D.disk outside.new.main) (K.sink sink.old) (K.sink sink.new) result self.new }
         ensures main_last { (D.disk outside.new.main).last ≤ outside.new.moments }
         ensures sink_last { (K.sink sink.new).last ≤ outside.new.moments }
-        ensures stores_last { EachMember (λ k store. (⟦<Box<dyn Plugin> as Plugin>⟧.plugin store).last ≤ outside.new.moments) outside.new.stores.items }
-        ensures stores_go { StoresGo ⟦<Box<dyn Plugin> as Plugin>⟧.plugin outside.old.stores.items outside.new.stores.items }
+        ensures stores_last { EachMember (λ k store. (P.plugin store).last ≤ outside.new.moments) outside.new.stores.items }
+        ensures stores_go { StoresGo P.plugin outside.old.moments outside.old.stores.items outside.new.stores.items }
+        ensures whole { KeepWhole P.plugin outside.old.moments self.old.store.cat (D.disk outside.old.main) (D.disk outside.new.main) outside.old.stores.items outside.new.stores.items }
         ensures disk { IsErrOf result Stop.Disk → Rose (D.disk outside.old.main).faults (D.disk outside.new.main).faults }
         ensures sink { IsErrOf result Stop.Sink → Rose (K.sink sink.old).faults (K.sink sink.new).faults }
         ensures drawn_from { outside.old.moments ≤ outside.new.moments }
@@ -78,10 +80,10 @@ impl Server {
     }
 
     // Writes the file and keeps its object. While the file is written it is an orphan, and so it stays after a fault.
-    fn write<D: Disk, A: Ambient>(
+    fn write<D: Disk, A: Ambient, P: Plugin>(
         &mut self,
         alloc: Global,
-        outside: &mut Outside<D, A>,
+        outside: &mut Outside<D, A, P>,
         number: u64,
         storing: Storing,
         now: u64,
@@ -89,20 +91,22 @@ impl Server {
         requires held { IsHeld (D.disk outside.old.main) self.old }
         requires decided { (p : PathOf) × (leaf : TextOf) × (body : TextOf) × IsStoring self.old.store.cat p leaf body storing }
         requires main_last { (D.disk outside.old.main).last ≤ outside.old.moments }
-        requires stores_last { EachMember (λ k store. (⟦<Box<dyn Plugin> as Plugin>⟧.plugin store).last ≤ outside.old.moments) outside.old.stores.items }
+        requires stores_last { EachMember (λ k store. (P.plugin store).last ≤ outside.old.moments) outside.old.stores.items }
         requires slots { self.old.store.cat.stores ≡ vec_len outside.old.stores }
         requires room { outside.old.moments + 2 ^ 50 < 2 ^ 128 }
-        ensures stores { (rose : ℕ → Bool) → ((slot : ℕ) → RoseAt ⟦<Box<dyn Plugin> as Plugin>⟧.plugin slot outside.old.stores.items outside.new.stores.items → IsTrue (rose slot)) → (p : PathOf) (leaf body : TextOf) → IsStoring self.old.store.cat p leaf body storing →
-            Stores rose self.old storing p leaf number now outside.old.moments
+        ensures stores { (p : PathOf) (leaf body : TextOf) → IsStoring self.old.store.cat p leaf body storing →
+            Stores P.plugin outside.old.stores.items outside.new.stores.items self.old storing p leaf number now outside.old.moments
             (D.disk outside.old.main) (D.disk outside.new.main) result self.new }
         ensures main_last { (D.disk outside.new.main).last ≤ outside.new.moments }
-        ensures stores_last { EachMember (λ k store. (⟦<Box<dyn Plugin> as Plugin>⟧.plugin store).last ≤ outside.new.moments) outside.new.stores.items }
-        ensures stores_go { StoresGo ⟦<Box<dyn Plugin> as Plugin>⟧.plugin outside.old.stores.items outside.new.stores.items }
+        ensures stores_last { EachMember (λ k store. (P.plugin store).last ≤ outside.new.moments) outside.new.stores.items }
+        ensures stores_go { StoresGo P.plugin outside.old.moments outside.old.stores.items outside.new.stores.items }
+        ensures whole { KeepWhole P.plugin outside.old.moments self.old.store.cat (D.disk outside.old.main) (D.disk outside.new.main) outside.old.stores.items outside.new.stores.items }
         ensures disk { IsErrOf result Stop.Disk → Rose (D.disk outside.old.main).faults (D.disk outside.new.main).faults }
         ensures no_sink { (IsErrOf result Stop.Sink) → ⊥ }
         ensures drawn_from { outside.old.moments ≤ outside.new.moments }
         ensures drawn { outside.new.moments + 1 ≤ outside.old.moments + 2 ^ 50 }
         ensures spare { outside.new.spare ≡ outside.old.spare }
+        ensures ambient { outside.new.ambient ≡ outside.old.ambient }
     {
         let numbers = self.store.tables().numbers();
         let slot = storing.slot;

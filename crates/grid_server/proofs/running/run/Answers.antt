@@ -1,5 +1,6 @@
-use Rattle.std.proofs.Common.{arith, inl, inr, true, refl}
+use Rattle.std.proofs.Common.{arith, inl, inr}
 use Rattle.grid_server.proofs.RunLemmas.{serve_or_init, inits_so, complete, complete_init, asked_names, usage_says_none, usage_says_no_stores}
+use Rattle.grid_server.proofs.WholeLemmas.{start_whole_as}
 use Rattle.grid_server.proofs.running.run.Goals as goal
 
 pub init-requires-clause-zone : goal.init-requires-clause-zone
@@ -16,8 +17,8 @@ returns-in-Serve-clause-init_all g c = λ zone admin asks. absurd (serve_or_init
 
 pub returns-in-Serve-clause-serve_all : goal.returns-in-Serve-clause-serve_all
 returns-in-Serve-clause-serve_all g c = λ found asks told source_told stood stores fits main spare source sink.
-    complete (λ slot. true) found c.args.outside.now.moments (g.D.Disk.disk c.args.outside.now.main) (g.D.Disk.disk c.serve.new.outside.main) (g.S.Source.source c.args.source.now) (g.S.Source.source c.serve.new.source) (g.K.Sink.sink c.args.sink.now)
-    (g.K.Sink.sink c.serve.new.sink) c.serve.result (c.serve.ensures.serve (λ slot. true) (λ slot h. refl) found told source_told stood stores) fits (λ e. main (c.serve.ensures.disk e)) (λ e. source (c.serve.ensures.source e)) (λ e. sink (c.serve.ensures.sink e))
+    complete g.P.Plugin.plugin c.args.outside.now.stores.items c.serve.new.outside.stores.items (g.A.Ambient.ambient c.args.outside.now.ambient) (g.A.Ambient.ambient c.serve.new.outside.ambient) found c.args.outside.now.moments (g.D.Disk.disk c.args.outside.now.main) (g.D.Disk.disk c.serve.new.outside.main) (g.S.Source.source c.args.source.now) (g.S.Source.source c.serve.new.source) (g.K.Sink.sink c.args.sink.now)
+    (g.K.Sink.sink c.serve.new.sink) c.serve.result (c.serve.ensures.serve found told source_told stood stores) fits (λ e. main (c.serve.ensures.disk e)) (λ e. source (c.serve.ensures.source e)) (λ e. sink (c.serve.ensures.sink e))
 
 pub returns-in-Init-clause-init : goal.returns-in-Init-clause-init
 returns-in-Init-clause-init g c = λ zone admin asks.
@@ -30,7 +31,7 @@ returns-in-Init-clause-init_all g c = λ zone admin asks main_told spare_told ma
     c.init.result c.init.ensures.inits main_told spare_told main_empty spare_empty (λ e. elim (c.init.ensures.disk e) [ inl rose ↦ main rose | inr rose ↦ spare rose ]) (λ e. sink (c.init.ensures.sink e))
 
 pub returns-in-Init-clause-serve : goal.returns-in-Init-clause-serve
-returns-in-Init-clause-serve g c = λ rose so found asks. absurd (serve_or_init asks c.in-Init.ensures)
+returns-in-Init-clause-serve g c = λ found asks. absurd (serve_or_init asks c.in-Init.ensures)
 
 pub returns-in-Init-clause-stores : goal.returns-in-Init-clause-stores
 returns-in-Init-clause-stores g c = λ found asks. absurd (serve_or_init asks c.in-Init.ensures)
@@ -49,3 +50,19 @@ returns-in-Nothing-clause-stores_only g c = λ had given is. absurd (usage_says_
 
 pub returns-in-Nothing-clause-stores_last : goal.returns-in-Nothing-clause-stores_last
 returns-in-Nothing-clause-stores_last g c = λ k store at. omega (arith, c.requires.stores_last k store at, c.say.ensures.drawn_from)
+
+pub returns-in-Serve-clause-whole : goal.returns-in-Serve-clause-whole
+returns-in-Serve-clause-whole g c = λ found asks. c.serve.ensures.whole found
+
+pub returns-in-Init-clause-whole : goal.returns-in-Init-clause-whole
+returns-in-Init-clause-whole g c = λ found asks. absurd (serve_or_init asks c.in-Init.ensures)
+
+pub returns-in-Serve-clause-init_whole : goal.returns-in-Serve-clause-init_whole
+returns-in-Serve-clause-init_whole g c = λ zone admin t asks. absurd (serve_or_init c.in-Serve.ensures asks)
+
+pub returns-in-Init-clause-init_whole : goal.returns-in-Init-clause-init_whole
+returns-in-Init-clause-init_whole g c = λ zone admin t asks none.
+    start_whole_as g.P.Plugin.plugin (λ v. v.items) c.args.outside.now.stores c.init.new.outside.stores c.init.ensures.other_stores zone admin _ t none
+
+pub returns-in-Init-clause-serve_spare : goal.returns-in-Init-clause-serve_spare
+returns-in-Init-clause-serve_spare g c = λ asks. absurd (serve_or_init asks c.in-Init.ensures)

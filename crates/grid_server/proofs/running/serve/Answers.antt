@@ -3,6 +3,8 @@ use Rattle.grid_model.specs.Rows.{Cat}
 use Rattle.grid_outside.specs.declared.outside.Wear.TheVariants.{Log}
 use Rattle.grid_model.specs.declared.grid.Side.TheVariants.{Main}
 use Rattle.grid_server.proofs.RunLemmas.{one_cat, no_both, stands_for, serves_found, unread_fault, unread_memory, refuses_there, refused_at, looked_rests, rests_then, other_stores}
+use Rattle.grid_server.specs.Safe.{KeepWhole}
+use Rattle.grid_server.proofs.WholeLemmas.{same_stores, keep_rest}
 use Rattle.grid_server.proofs.running.serve.Goals as goal
 
 pub serve_over-requires-clause-made : goal.serve_over-requires-clause-made
@@ -17,14 +19,14 @@ unreachable-requires-in-Err-Worn g c = (c.in-Err-Worn.ensures.no_other Main _ _)
 -- the catalogue was opened
 
 pub returns-in-Ok-clause-serve : goal.returns-in-Ok-clause-serve
-returns-in-Ok-clause-serve g c rose so = λ found told source_told stood stores.
+returns-in-Ok-clause-serve g c = λ found told source_told stood stores.
     let main_old = g.D.Disk.disk c.args.outside.now.main in
     let spare = (g.D.Disk.disk c.args.outside.now.spare).holds in
     let held = c.in-Ok.ensures.stands told spare in
     let same : c.in-Ok.store.cat ≡ found = one_cat main_old.holds spare c.in-Ok.store.cat found held stood in
-    serves_found rose c.in-Ok.store.cat found c.args.outside.now.moments main_old (g.D.Disk.disk c.open.new.main) (g.D.Disk.disk c.serve_over.new.outside.main) spare (g.S.Source.source c.args.source.now) (g.S.Source.source c.serve_over.new.source)
+    serves_found g.P.Plugin.plugin c.args.outside.now.stores.items c.serve_over.new.outside.stores.items (g.A.Ambient.ambient c.args.outside.now.ambient) (g.A.Ambient.ambient c.serve_over.new.outside.ambient) c.in-Ok.store.cat found c.args.outside.now.moments main_old (g.D.Disk.disk c.open.new.main) (g.D.Disk.disk c.serve_over.new.outside.main) spare (g.S.Source.source c.args.source.now) (g.S.Source.source c.serve_over.new.source)
     (g.K.Sink.sink c.args.sink.now) (g.K.Sink.sink c.serve_over.new.sink) c.serve_over.result held stood (c.open.ensures.settled told)
-    (c.serve_over.ensures.serve rose so (subst IsTrue (sym c.open.ensures.looks.tells) told) source_told (ap (λ (c : Cat). c.stores) same ∙ stores))
+    (c.serve_over.ensures.serve (subst IsTrue (sym c.open.ensures.looks.tells) told) source_told (ap (λ (c : Cat). c.stores) same ∙ stores))
 
 pub returns-in-Ok-clause-stores : goal.returns-in-Ok-clause-stores
 returns-in-Ok-clause-stores g c = λ found told stood other.
@@ -36,6 +38,7 @@ returns-in-Ok-clause-stores g c = λ found told stood other.
       other_stores main_old.holds spare c.in-Ok.store.cat found _ (g.K.Sink.sink c.args.sink.now) (g.K.Sink.sink c.serve_over.new.sink) c.serve_over.result held stood refused.0,
       rests_then g.D.Disk.disk main_old c.open.new.main c.serve_over.new.outside.main refused.1 (looked_rests main_old (g.D.Disk.disk c.open.new.main) c.open.ensures.looks c.open.ensures.later),
       refused.2,
+      refused.3,
     )
 
 pub returns-in-Ok-clause-refuses : goal.returns-in-Ok-clause-refuses
@@ -46,7 +49,7 @@ returns-in-Ok-clause-refuses g c = λ side place told stood.
 -- there is no catalogue
 
 pub returns-in-Err-NotACatalogue-clause-serve : goal.returns-in-Err-NotACatalogue-clause-serve
-returns-in-Err-NotACatalogue-clause-serve g c rose so = λ found told source_told stood.
+returns-in-Err-NotACatalogue-clause-serve g c = λ found told source_told stood.
     let spare = (g.D.Disk.disk c.args.outside.now.spare).holds in
     absurd (no_both (g.D.Disk.disk c.args.outside.now.main).holds spare found c.in-Err-NotACatalogue.side c.in-Err-NotACatalogue.at stood (c.in-Err-NotACatalogue.ensures.not_a_catalogue c.in-Err-NotACatalogue.side c.in-Err-NotACatalogue.at (ap Err c.in-Err-NotACatalogue.field-0-is) told spare))
 
@@ -63,6 +66,7 @@ returns-in-Err-NotACatalogue-clause-refuses g c = λ side place told stood.
           (c.in-Err-NotACatalogue.ensures.not_a_catalogue c.in-Err-NotACatalogue.side c.in-Err-NotACatalogue.at (ap Err c.in-Err-NotACatalogue.field-0-is) told spare) stood c.refuse.ensures.refuses,
       looked_rests main_old (g.D.Disk.disk c.open.new.main) c.open.ensures.looks c.open.ensures.later,
       refl,
+      refl,
     )
 
 pub returns-in-Err-NotACatalogue-clause-not_a_catalogue : goal.returns-in-Err-NotACatalogue-clause-not_a_catalogue
@@ -73,14 +77,51 @@ returns-in-Err-NotACatalogue-clause-not_a_catalogue g c = λ side place is told.
 -- it was not read
 
 pub returns-in-Err-DiskFault-clause-serve : goal.returns-in-Err-DiskFault-clause-serve
-returns-in-Err-DiskFault-clause-serve g c rose so = λ found told source_told stood stores.
-    unread_fault rose found c.args.outside.now.moments (g.D.Disk.disk c.args.outside.now.main) (g.D.Disk.disk c.open.new.main) (g.S.Source.source c.args.source.now) (g.K.Sink.sink c.args.sink.now) told c.requires.main_last c.requires.sink_last
+returns-in-Err-DiskFault-clause-serve g c = λ found told source_told stood stores.
+    unread_fault g.P.Plugin.plugin c.args.outside.now.stores.items (g.A.Ambient.ambient c.args.outside.now.ambient) found c.args.outside.now.moments (g.D.Disk.disk c.args.outside.now.main) (g.D.Disk.disk c.open.new.main) (g.S.Source.source c.args.source.now) (g.K.Sink.sink c.args.sink.now) told c.requires.main_last c.requires.sink_last
     c.open.ensures.looks (stands_for (g.D.Disk.disk c.args.outside.now.main).holds (g.D.Disk.disk c.args.outside.now.spare).holds found stood)
 
 pub returns-in-Err-Memory-clause-serve : goal.returns-in-Err-Memory-clause-serve
-returns-in-Err-Memory-clause-serve g c rose so = λ found told source_told stood stores.
-    unread_memory rose found c.args.outside.now.moments (g.D.Disk.disk c.args.outside.now.main) (g.D.Disk.disk c.open.new.main) (g.S.Source.source c.args.source.now) (g.K.Sink.sink c.args.sink.now) told c.requires.main_last c.requires.sink_last
+returns-in-Err-Memory-clause-serve g c = λ found told source_told stood stores.
+    unread_memory g.P.Plugin.plugin c.args.outside.now.stores.items (g.A.Ambient.ambient c.args.outside.now.ambient) found c.args.outside.now.moments (g.D.Disk.disk c.args.outside.now.main) (g.D.Disk.disk c.open.new.main) (g.S.Source.source c.args.source.now) (g.K.Sink.sink c.args.sink.now) told c.requires.main_last c.requires.sink_last
     c.open.ensures.looks (stands_for (g.D.Disk.disk c.args.outside.now.main).holds (g.D.Disk.disk c.args.outside.now.spare).holds found stood)
 
 pub returns-in-Err-NotACatalogue-clause-stores_last : goal.returns-in-Err-NotACatalogue-clause-stores_last
 returns-in-Err-NotACatalogue-clause-stores_last g c = λ k store at. omega (arith, c.requires.stores_last k store at, c.refuse.ensures.drawn_from)
+
+-- the stores
+
+pub returns-in-Ok-clause-whole : goal.returns-in-Ok-clause-whole
+returns-in-Ok-clause-whole g c = λ found stood told settled.
+    let main_old = g.D.Disk.disk c.args.outside.now.main in
+    let spare = (g.D.Disk.disk c.args.outside.now.spare).holds in
+    let same : c.in-Ok.store.cat ≡ found = one_cat main_old.holds spare c.in-Ok.store.cat found (c.in-Ok.ensures.stands told spare) stood in
+    let P : Cat → Type 0 = λ x. KeepWhole g.P.Plugin.plugin c.args.outside.now.moments x (g.D.Disk.disk c.open.new.main) (g.D.Disk.disk c.serve_over.new.outside.main) c.args.outside.now.stores.items c.serve_over.new.outside.stores.items in
+    (subst P same c.serve_over.ensures.whole) (subst IsTrue (sym c.open.ensures.looks.tells) told) (c.open.ensures.settled told settled)
+
+pub returns-in-Err-NotACatalogue-clause-whole : goal.returns-in-Err-NotACatalogue-clause-whole
+returns-in-Err-NotACatalogue-clause-whole g c = λ found stood told.
+    let spare = (g.D.Disk.disk c.args.outside.now.spare).holds in
+    absurd (no_both (g.D.Disk.disk c.args.outside.now.main).holds spare found c.in-Err-NotACatalogue.side c.in-Err-NotACatalogue.at stood (c.in-Err-NotACatalogue.ensures.not_a_catalogue c.in-Err-NotACatalogue.side c.in-Err-NotACatalogue.at (ap Err c.in-Err-NotACatalogue.field-0-is) told spare))
+
+pub returns-in-Err-DiskFault-clause-whole : goal.returns-in-Err-DiskFault-clause-whole
+returns-in-Err-DiskFault-clause-whole g c = λ found stood.
+    let main_old = g.D.Disk.disk c.args.outside.now.main in
+    keep_rest g.P.Plugin.plugin c.args.outside.now.moments found main_old (g.D.Disk.disk c.open.new.main) c.args.outside.now.stores.items c.args.outside.now.stores.items (λ told. ((g.D.Disk.disk c.args.outside.now.spare).holds, stood)) c.requires.main_last
+    (looked_rests main_old (g.D.Disk.disk c.open.new.main) c.open.ensures.looks c.open.ensures.later) (λ t. same_stores g.P.Plugin.plugin t c.args.outside.now.stores.items)
+
+pub returns-in-Err-Memory-clause-whole : goal.returns-in-Err-Memory-clause-whole
+returns-in-Err-Memory-clause-whole g c = λ found stood.
+    let main_old = g.D.Disk.disk c.args.outside.now.main in
+    keep_rest g.P.Plugin.plugin c.args.outside.now.moments found main_old (g.D.Disk.disk c.open.new.main) c.args.outside.now.stores.items c.args.outside.now.stores.items (λ told. ((g.D.Disk.disk c.args.outside.now.spare).holds, stood)) c.requires.main_last
+    (looked_rests main_old (g.D.Disk.disk c.open.new.main) c.open.ensures.looks c.open.ensures.later) (λ t. same_stores g.P.Plugin.plugin t c.args.outside.now.stores.items)
+
+pub returns-in-Ok-clause-stores_only : goal.returns-in-Ok-clause-stores_only
+returns-in-Ok-clause-stores_only g c = λ had given is.
+    let only = c.serve_over.ensures.stores_only had given is in
+    let main_old = g.D.Disk.disk c.args.outside.now.main in
+    let spare = (g.D.Disk.disk c.args.outside.now.spare).holds in (
+      only.0,
+      only.1,
+      λ found told stood. only.2 ∙ ap (λ (c : Cat). c.stores) (one_cat main_old.holds spare c.in-Ok.store.cat found (c.in-Ok.ensures.stands told spare) stood),
+    )

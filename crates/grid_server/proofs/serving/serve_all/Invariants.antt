@@ -1,12 +1,12 @@
-use Rattle.std.proofs.Common.{◌≡◌, ℕ, Bool, ◌+◌, ◌-◌, ◌*◌, ◌^◌, ◌≤◌, length, IsTrue}
+use Rattle.std.proofs.Common.{◌≡◌, ◌+◌, ◌-◌, ◌*◌, ◌^◌, ◌≤◌, length, IsTrue}
 use Rattle.std.specs.Prelude.{vec_len}
-use Rattle.grid_outside.specs.Device.{EachMember}
-use Rattle.grid_vault.specs.Vault.{RoseAt}
+use Rattle.grid_outside.specs.Device.{IsSettled, EachMember}
 use Rattle.grid_model.specs.Rows.{Cat}
 use Rattle.grid_model.specs.RowGrids.{grid_of}
 use Rattle.grid_server.specs.Held.{IsHeld}
 use Rattle.grid_server.specs.Keeping.{Goes}
 use Rattle.grid_server.specs.Stores.{StoresGo}
+use Rattle.grid_server.specs.Safe.{KeepWhole}
 use Rattle.grid_server.specs.Opening.{begun}
 use Rattle.grid_server.proofs.ServedLemmas.{Served}
 use Rattle.grid_server.proofs.serving.serve_all.Given as goal
@@ -21,7 +21,7 @@ invariant-lines g l =
     let sink_now = g.K.Sink.sink l.sink in
     let since = l.fn.outside.moments in
     record {
-      served : (rose : ℕ → Bool) → ((slot : ℕ) → RoseAt (λ b. (goal.Plugin-dyn g (b.vtable, b.value)).plugin b.value) slot l.fn.outside.stores.items l.outside.stores.items → IsTrue (rose slot)) → (found : Cat) → l.fn.server.store.cat ≡ begun found → grid_of (begun found) ≡ grid_of found → IsTrue main_old.tells → IsTrue from.tells → Served rose found since main_old main_now from now sink_old sink_now l.service;
+      served : (found : Cat) → l.fn.server.store.cat ≡ begun found → grid_of (begun found) ≡ grid_of found → IsTrue main_old.tells → IsTrue from.tells → Served g.P.Plugin.plugin l.fn.outside.stores.items l.outside.stores.items (g.A.Ambient.ambient l.fn.outside.ambient) (g.A.Ambient.ambient l.outside.ambient) found since main_old main_now from now sink_old sink_now l.service;
       held : IsHeld main_now l.service.server;
       main_goes : Goes since main_old main_now;
       sink_goes : Goes since sink_old sink_now;
@@ -35,8 +35,10 @@ invariant-lines g l =
       few : l.service.number + length l.service.reader.unread ≤ l.service.reader.taken;
       room : l.outside.moments + 2 ^ 50 * length l.service.reader.unread ≤ since + 2 ^ 50 * l.service.reader.taken;
       spare : l.outside.spare ≡ l.fn.outside.spare;
-      stores_last : EachMember (λ k store. ((goal.Plugin-dyn g (store.vtable, store.value)).plugin store.value).last ≤ l.outside.moments) l.outside.stores.items;
-      stores_go : StoresGo (λ b. (goal.Plugin-dyn g (b.vtable, b.value)).plugin b.value) l.fn.outside.stores.items l.outside.stores.items;
+      stores_last : EachMember (λ k store. (g.P.Plugin.plugin store).last ≤ l.outside.moments) l.outside.stores.items;
+      stores_go : StoresGo g.P.Plugin.plugin since l.fn.outside.stores.items l.outside.stores.items;
+      settled : IsTrue main_old.tells → IsSettled main_old → IsSettled main_now;
+      whole : KeepWhole g.P.Plugin.plugin since l.fn.server.store.cat main_old main_now l.fn.outside.stores.items l.outside.stores.items;
       slots : l.service.server.store.cat.stores ≡ vec_len l.outside.stores;
     }
 

@@ -3,7 +3,7 @@ use Rattle.grid_server.proofs.LineLemmas.{none_passed, held_passed, block_passed
 use Rattle.grid_server.proofs.line_reader.LineReader.pass.Goals as goal
 
 pub parts-init : goal.parts-init
-parts-init g c = record { so_far = none_passed c.args.self.now _ c.args.count c.requires; tells = refl; later = omega arith }
+parts-init g c = record { so_far = none_passed c.args.self.now _ c.args.count c.requires; tells = refl; later = omega arith; at_once = λ fits. (refl, fits) }
 
 pub returns-then-left-eq0-clause-passes : goal.returns-then-left-eq0-clause-passes
 returns-then-left-eq0-clause-passes g c =
@@ -19,6 +19,7 @@ parts-preserved g c =
       so_far = block_passed _ _ _ _ _ _ held c.fill.new.self _ empty c.parts.invariant.tells filled.1 filled.2 filled.3;
       tells = c.in_ok-fill.ensures.tells ∙ c.parts.invariant.tells;
       later = omega (arith, c.parts.invariant.later, c.in_ok-fill.ensures.cause.later);
+      at_once = λ fits. let no : ⊥ = omega (arith, c.if-left-eq0.false, c.pass_held-left.ensures.left, (c.parts.invariant.at_once fits).1) in absurd no;
     }
 
 pub returns-in-End-clause-passes : goal.returns-in-End-clause-passes

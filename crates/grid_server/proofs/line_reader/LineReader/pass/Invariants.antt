@@ -1,4 +1,4 @@
-use Rattle.std.proofs.Common.{◌≡◌, ◌+◌, ◌-◌, ◌^◌, ◌≤◌}
+use Rattle.std.proofs.Common.{◌≡◌, ◌+◌, ◌-◌, ◌^◌, ◌≤◌, length}
 use Rattle.grid_server.proofs.LineLemmas.{PartPassed}
 use Rattle.grid_server.proofs.line_reader.LineReader.pass.Given as goal
 
@@ -10,6 +10,7 @@ invariant-parts g l =
       so_far : PartPassed l.fn.self l.self old now l.fn.count l.left;
       tells : now.tells ≡ old.tells;
       later : old.faults ≤ now.faults;
+      at_once : l.fn.count ≤ length l.fn.self.unread → (l.source ≡ l.fn.source) × (l.left ≤ length l.self.unread);
     }
 
 abbrev pub decreases-parts : goal.decreases-parts

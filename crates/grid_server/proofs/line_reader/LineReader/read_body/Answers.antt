@@ -3,7 +3,7 @@ use Rattle.grid_server.proofs.LineLemmas.{none_passed, held_passed, block_passed
 use Rattle.grid_server.proofs.line_reader.LineReader.read_body.Goals as goal
 
 pub parts-init : goal.parts-init
-parts-init g c = record { so_far = none_passed c.args.self.now _ c.args.count c.requires; body = c.in_ok-reserve.ensures.items ∙ c.clear.ensures.items; tells = refl; later = omega arith }
+parts-init g c = record { so_far = none_passed c.args.self.now _ c.args.count c.requires; body = c.in_ok-reserve.ensures.items ∙ c.clear.ensures.items; tells = refl; later = omega arith; at_once = λ fits. (refl, fits) }
 
 pub parts-preserved : goal.parts-preserved
 parts-preserved g c =
@@ -17,4 +17,5 @@ parts-preserved g c =
       body = is;
       tells = c.in_ok-fill.ensures.tells ∙ c.parts.invariant.tells;
       later = omega (arith, c.parts.invariant.later, c.in_ok-fill.ensures.cause.later);
+      at_once = λ fits. let no : ⊥ = omega (arith, c.if-left-eq0.false, c.in_ok-left.ensures.left, (c.parts.invariant.at_once fits).1) in absurd no;
     }

@@ -1,4 +1,5 @@
-use Rattle.std.proofs.Common.{arith, ap, ◌∙◌, length-take, length}
+use Rattle.std.proofs.Common.{arith, ap, subst, ◌∙◌, length-take, length}
+use Rattle.grid_model.specs.Lines.{IsLine}
 use Rattle.grid_server.proofs.LineLemmas.{more_read, line_read, end_read, past_read, part_read}
 use Rattle.grid_server.proofs.line_reader.LineReader.read_line.Goals as goal
 
@@ -23,6 +24,7 @@ parts-preserved g c =
       so_far = more_read _ _ _ _ _ c.parts.invariant.so_far c.take_line.new.self _ _ _ c.parts.invariant.tells found.is found.added c.in_ok-take_line.ensures.taken filled.1 filled.2 filled.3;
       tells = c.in_ok-fill.ensures.tells ∙ c.parts.invariant.tells;
       later = omega (arith, c.parts.invariant.later, c.in_ok-fill.ensures.cause.later);
+      at_once = λ no. absurd (no (subst IsLine (c.parts.invariant.at_once no).1 found.is));
     }
 
 pub returns-in-End-clause-reads : goal.returns-in-End-clause-reads

@@ -1,4 +1,5 @@
 use Rattle.std.proofs.Common.{◌≡◌, ◌+◌, ◌-◌, ◌^◌, ◌≤◌}
+use Rattle.grid_model.specs.Lines.{IsLine}
 use Rattle.grid_server.proofs.LineLemmas.{PartRead}
 use Rattle.grid_server.proofs.line_reader.LineReader.read_line.Given as goal
 
@@ -10,6 +11,7 @@ invariant-parts g l =
       so_far : PartRead l.fn.self l.self old now l.line.items;
       tells : now.tells ≡ old.tells;
       later : old.faults ≤ now.faults;
+      at_once : ¬ IsLine l.fn.self.unread → (l.source ≡ l.fn.source) × (l.self.unread ≡ l.fn.self.unread);
     }
 
 abbrev pub decreases-parts : goal.decreases-parts

@@ -7,6 +7,7 @@ use Rattle.grid_server.specs.declared.decision.Plain.{Plain}
 use Rattle.grid_server.specs.declared.decision.Plain.TheVariants as plain
 use Rattle.grid_server.proofs.CarryingLemmas.{carries_none}
 use Rattle.grid_server.proofs.MakingLemmas.{done_same}
+use Rattle.grid_server.proofs.WholeLemmas.{keep_still}
 use Rattle.grid_server.proofs.server.Server.carry_out.Goals as goal
 
 pub make-requires-clause-row : goal.make-requires-clause-row
@@ -42,3 +43,12 @@ returns-in-Make-clause-carries g c a d decides is =
     let e : DecidesPlain old a (plain.Make c.in-Make.row) = subst P c.in-Make.is decides in
     let D : Done → Type 0 = λ x. Carries old x c.args.number c.args.outside.now.moments (g.D.Disk.disk c.args.outside.now.main) (g.D.Disk.disk c.make.new.outside.main) c.make.result c.make.new.self in
     subst D (sym (done_same d (made (state_of old) e.0) (sym is ∙ e.1))) (c.make.ensures.carries e.0 e.2)
+
+pub returns-in-Refuse-clause-whole : goal.returns-in-Refuse-clause-whole
+returns-in-Refuse-clause-whole g c = keep_still g.P.Plugin.plugin c.args.outside.now.moments c.args.self.now (g.D.Disk.disk c.args.outside.now.main) c.args.outside.now.stores.items c.requires.held c.requires.main_last
+
+pub returns-in-LogIn-clause-whole : goal.returns-in-LogIn-clause-whole
+returns-in-LogIn-clause-whole g c = keep_still g.P.Plugin.plugin c.args.outside.now.moments c.args.self.now (g.D.Disk.disk c.args.outside.now.main) c.args.outside.now.stores.items c.requires.held c.requires.main_last
+
+pub returns-in-Make-clause-whole : goal.returns-in-Make-clause-whole
+returns-in-Make-clause-whole g c = c.make.ensures.whole
