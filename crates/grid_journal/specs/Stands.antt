@@ -83,6 +83,10 @@ pub data Stands (main spare : Text) : Result Cat (Side × ℕ) → Type 0 where
   stands : (records : List Text) (c : Cat) → HasHead main → IsLog 16 records main
       → Replays empty_cat (placed 16 records) (Ok c) → IsSome c.zone → Stands main spare (Ok c)
 
--- with every spare, main stands for the one catalogue, or with every spare for the other
+-- with every spare, main stands for this catalogue
+abbrev pub StandsFor : Text → Cat → Type 0
+StandsFor main c = (spare : Text) → Stands main spare (Ok c)
+
+-- main stands for the one catalogue or for the other
 abbrev pub StandsEither : Cat → Cat → Text → Type 0
-StandsEither before after main = ((spare : Text) → Stands main spare (Ok before)) ⊎ ((spare : Text) → Stands main spare (Ok after))
+StandsEither before after main = StandsFor main before ⊎ StandsFor main after

@@ -1,5 +1,5 @@
 -- What files are to a catalogue, on worked examples.
-use Rattle.std.proofs.Common.{◌≡◌, ℕ, zero, suc, true, false, List, [], ◌∷◌, length, Option, Some, None, slice_index_or, refl, sym, ap, ◌∙◌, ◌<◌, arith}
+use Rattle.std.proofs.Common.{◌≡◌, ℕ, zero, suc, true, false, List, [], ◌∷◌, length, Option, Some, slice_index_or, refl, sym, ap, ◌∙◌, ◌<◌, arith}
 use Rattle.std.specs.List.{Contains}
 use Rattle.sha2.specs.Sha256.{sha256}
 use Rattle.grid_outside.specs.Files.{File, Files, file_at, begun, finished}
@@ -45,7 +45,7 @@ one_of r x has = by_place has.0 has.1 has.2
 -- the first store has the file of the replica, finished
 a_whole_store : (files : Files) → file_at files 1 ≡ finished abc → ((name : ℕ) (file : File) → file_at files name ≡ Some file → name ≡ 1) → IsWhole cat 0 files
 a_whole_store files there only = record {
-  good = ((λ good at. record { bytes = abc; is = there; size_is = refl; digest_is = refl }), tt);
+  good = ((λ good at. record { bytes = abc; is = there; has = record { size = refl; digest = refl } }), tt);
   accounted = λ name file is. record {
     row = by_replica replica_row;
     names = ((0, omega arith, refl), sym (only name file is), refl);
@@ -75,7 +75,7 @@ a_file_with_other_bytes files there whole =
     let its = whole.good.0 refl refl in
     let both : finished [] ≡ finished its.bytes = sym there ∙ its.is in
     let none : [] ≡ its.bytes = ap (λ (f : File). f.bytes) (of_some (record { bytes = []; finished = true }) (record { bytes = its.bytes; finished = true }) both) in
-    absurd (omega (arith, ap length none, its.size_is))
+    absurd (omega (arith, ap length none, its.has.size))
 
 -- it has a file that no row names: that of the orphan belongs to the second store
 a_file_that_nothing_names : (files : Files) (file : File) → file_at files 2 ≡ Some file → ¬ IsWhole cat 0 files

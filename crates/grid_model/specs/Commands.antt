@@ -1,12 +1,13 @@
 -- What requests do, one after another. Each refused request leaves the grid as it was. The verbs, and the order in
 -- which their refusals are tested, are this project's own; a put records the SHA-256 (FIPS 180-4) of its body.
-use Rattle.std.specs.Prelude.{◌≡◌, ◌≤◌, ℕ, zero, suc, ◌+◌, ◌*◌, min, Bool, true, false, not, ◌||◌, ◌&&◌, nat_le, find, List, [], ◌∷◌, ◌++◌, length, take, Option, Some, None, Result, Ok, Err, decimal}
+use Rattle.std.specs.Prelude.{◌≡◌, ◌≤◌, ℕ, zero, suc, ◌+◌, ◌*◌, min, Bool, true, false, not, ◌||◌, ◌&&◌, nat_le, List, [], ◌∷◌, ◌++◌, length, take, Option, Some, None, Result, Ok, Err, decimal}
 use Rattle.sha2.specs.Sha256.{sha256}
 use Rattle.grid_model.specs.Maps.{get, has, put, from_list}
 use Rattle.grid_model.specs.Names.{Text, Path, parent, same_text}
 use Rattle.grid_model.specs.Grid.{Grid, Object, Replica, Resource}
 use Rattle.grid_model.specs.Limits.{object_size, part_size}
 use Rattle.grid_model.specs.DataLines.{parts}
+use Rattle.grid_model.specs.Digests.{HasDigest}
 use Rattle.grid_model.specs.Applying.{is_group_kind, is_storage}
 use Rattle.grid_model.specs.Inputs.{Asked}
 use Rattle.grid_model.specs.Requests.{Asks, any_resource}
@@ -199,7 +200,7 @@ damaged s o slot bytes len found = record {
 -- are told, and there is at most one more of them than is recorded.
 pub record IsOther (o : Object) (len : ℕ) (found bytes : List ℕ) : Type 0 where
   pub read : List ℕ
-  pub not_recorded : ¬ ((length read ≡ o.size) × (sha256 read ≡ o.digest))
+  pub not_recorded : ¬ HasDigest o.size o.digest read
   pub len_is : len ≡ length read
   pub found_is : found ≡ sha256 read
   pub one_more : len ≤ o.size + 1
@@ -208,8 +209,7 @@ pub record IsOther (o : Object) (len : ℕ) (found bytes : List ℕ) : Type 0 wh
 -- these are the first bytes of some that have the size and digest of the object
 pub record IsFrontOf (o : Object) (bytes : List ℕ) : Type 0 where
   pub rest : List ℕ
-  pub size : length (bytes ++ rest) ≡ o.size
-  pub digest : sha256 (bytes ++ rest) ≡ o.digest
+  pub is : HasDigest o.size o.digest (bytes ++ rest)
 
 -- What may come of a request, by what it comes to, where the files of some slots are known to be those that the grid says. A
 -- body is written or a call of the store fails. What is sent has the recorded size and digest, or a call of the store failed
@@ -220,7 +220,7 @@ pub data Comes (known : ℕ → Type 0) (s : State) : Act → Done → Type 0 wh
   at_once : {d : Done} → Comes known s (does d) d
   written : {p : Path} {leaf : Text} {slot : ℕ} {body : List ℕ} (word now : ℕ) → Comes known s (writes p leaf slot body) (stored s p leaf body word now)
   not_written : {p : Path} {leaf : Text} {slot : ℕ} {body : List ℕ} → Comes known s (writes p leaf slot body) (failed s slot [])
-  read : {o : Object} {number slot : ℕ} {bytes : List ℕ} (word now : ℕ) → length bytes ≡ o.size → sha256 bytes ≡ o.digest → Comes known s (reads o number slot) (sent s bytes number word now)
+  read : {o : Object} {number slot : ℕ} {bytes : List ℕ} (word now : ℕ) → HasDigest o.size o.digest bytes → Comes known s (reads o number slot) (sent s bytes number word now)
   not_read : {o : Object} {number slot : ℕ} {bytes : List ℕ} (count : ℕ) → length bytes ≡ min (count * part_size) o.size → (known slot → IsFrontOf o bytes) → Comes known s (reads o number slot) (failed s slot bytes)
   other_read : {o : Object} {number slot len : ℕ} {bytes found : List ℕ} → ¬ known slot → IsOther o len found bytes → Comes known s (reads o number slot) (damaged s o slot bytes len found)
 

@@ -1,5 +1,5 @@
 -- Where a text stops being one that is accepted. Places count from 0, and are this project's own.
-use Rattle.std.specs.Prelude.{ℕ, ◌<◌, ◌≤◌, List, ◌++◌, length, take, Result, Ok, Err}
+use Rattle.std.specs.Prelude.{ℕ, ◌<◌, ◌≤◌, List, ◌++◌, length, take}
 
 module _ {X A : Type 0} (Spells : List X → A → Type 0) where
   -- the text begins one that spells something
@@ -14,8 +14,3 @@ module _ {X A : Type 0} (Spells : List X → A → Type 0) where
     pub within : place ≤ length text
     pub begins : Begins (take place text)
     pub longest : (n : ℕ) → place < n → n ≤ length text → ¬ Begins (take n text)
-
-  -- what reading a text by this spelling gives: the value, or the place
-  abbrev pub Reads : List X → Result A ℕ → Type 0
-  Reads text (Ok a) = Spells text a
-  Reads text (Err place) = IsRefusedAt text place

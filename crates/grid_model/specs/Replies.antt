@@ -1,5 +1,5 @@
 -- The lines of replies. The format is this project's own.
-use Rattle.std.specs.Prelude.{◌≡◌, ℕ, ◌+◌, List, [], ◌∷◌, ◌++◌, codes, decimal, map, flat_map}
+use Rattle.std.specs.Prelude.{ℕ, ◌+◌, List, [], ◌∷◌, ◌++◌, codes, decimal, map, flat_map}
 use Rattle.grid_model.specs.Names.{Text}
 use Rattle.grid_model.specs.Words.{quoted_word}
 use Rattle.grid_model.specs.Digests.{checksum}
@@ -9,7 +9,6 @@ use Rattle.grid_model.specs.DataLines.{data_lines}
 use Rattle.grid_model.specs.declared.marks.BadReplica.{BadReplica}
 use Rattle.grid_model.specs.declared.marks.Mark.{Mark}
 use Rattle.grid_model.specs.declared.marks.Mark.TheVariants.{Ran, Fault, Bad, Stop}
-use Rattle.grid_model.specs.declared.refusal.Refusal.{Refusal}
 use Rattle.grid_model.specs.declared.replies.Passed.{Passed}
 use Rattle.grid_model.specs.declared.replies.End.{End}
 use Rattle.grid_model.specs.declared.replies.End.TheVariants as end
@@ -63,10 +62,3 @@ reply n a = data_lines n a.sent ++ flat_map (mark_line n) a.marks ++ end_line n 
 abbrev pub replies : ℕ → List Done → Text
 replies n [] = []
 replies n (d ∷ ds) = reply n d.answer ++ replies (n + 1) ds
-
--- some first part of the text was added
-pub record AddsFirst (text old new : Text) : Type 0 where
-  pub front : Text
-  pub rest : Text
-  pub split : text ≡ front ++ rest
-  pub is : new ≡ old ++ front

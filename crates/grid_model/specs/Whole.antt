@@ -1,9 +1,9 @@
 -- What the files of a store are to a catalogue: each good replica has its file, and no file is lost track of. Both
 -- rules are this project's own; a checksum is the SHA-256 of FIPS 180-4.
-use Rattle.std.specs.Prelude.{◌≡◌, ℕ, List, length, Option, Some, option_map, IsTrue}
+use Rattle.std.specs.Prelude.{◌≡◌, ℕ, List, Option, Some, option_map, IsTrue}
 use Rattle.std.specs.List.{AllByRecursion, Contains}
-use Rattle.sha2.specs.Sha256.{sha256}
 use Rattle.grid_outside.specs.Files.{File, Files, file_at, finished}
+use Rattle.grid_model.specs.Digests.{HasDigest}
 use Rattle.grid_model.specs.Rows.{Cat, object, resource}
 use Rattle.grid_model.specs.declared.deltas.ObjectRow.{ObjectRow}
 use Rattle.grid_model.specs.declared.deltas.ReplicaRow.{ReplicaRow}
@@ -28,8 +28,7 @@ HasGoodRows c = AllByRecursion (λ r. IsTrue r.good → IsLikeObject c r) c.repl
 pub record IsFinishedAs (size : ℕ) (digest : List ℕ) (file : Option File) : Type 0 where
   pub bytes : List ℕ
   pub is : file ≡ finished bytes
-  pub size_is : length bytes ≡ size
-  pub digest_is : sha256 bytes ≡ digest
+  pub has : HasDigest size digest bytes
 
 -- a row that may name a file
 pub data Naming : Type 0 where

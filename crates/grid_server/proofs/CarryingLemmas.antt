@@ -1,5 +1,5 @@
 -- What the keeping and answering of a request leaves.
-use Rattle.std.proofs.Common.{◌≡◌, ◌⊎◌, inl, inr, ℕ, ◌+◌, ◌<◌, ◌≤◌, true, false, List, [], ◌++◌, take, drop, Result, Ok, Err, IsTrue, refl, sym, ap, ◌∙◌, subst, arith, take-append-drop}
+use Rattle.std.proofs.Common.{◌≡◌, ◌⊎◌, inl, inr, ℕ, ◌+◌, ◌<◌, ◌≤◌, true, false, List, [], ◌++◌, Result, Ok, Err, IsTrue, refl, sym, ap, ◌∙◌, subst, arith}
 use Rattle.std.specs.Prelude.{⊤, OnOk, IsErrOf}
 use Rattle.std.proofs.lemmas.List.{append-nil}
 use Rattle.std.proofs.lemmas.Bool.{cases_lt}
@@ -12,11 +12,12 @@ use Rattle.grid_model.specs.Names.{Text}
 use Rattle.grid_model.specs.Rows.{Cat}
 use Rattle.grid_model.specs.RowGrids.{grid_of}
 use Rattle.grid_model.specs.Commands.{Done, State, Comes, act}
-use Rattle.grid_model.specs.Replies.{reply, AddsFirst}
+use Rattle.grid_model.specs.Replies.{reply}
 use Rattle.grid_model.specs.declared.requests.Verb.{Verb}
 use Rattle.grid_model.specs.declared.refusal.Refusal.{Refusal}
 use Rattle.grid_journal.specs.Journal.{Journal, Keeps}
-use Rattle.grid_server.specs.Held.{state_of, StandsFor, ClosesAt, IsMade, IsLike, IsHeld}
+use Rattle.grid_journal.specs.Stands.{StandsFor}
+use Rattle.grid_server.specs.Held.{state_of, ClosesAt, IsMade, IsLike, IsHeld}
 use Rattle.grid_server.specs.Keeping.{Adds, Stays, Goes, Rests, Follows, last_of, CommitEnds, IsCommitted, Quiet, KeptOrNot, Does, CarryEnds, Carries}
 use Rattle.grid_server.specs.Keeping as keeping
 use Rattle.grid_server.specs.Drawing.{DrawsIfTold}
@@ -99,16 +100,11 @@ module _ (old : Server) (d : Done) (n from : ℕ) (main_old main_new : DiskState
 
 -- ---- answering
 
-pub adds_first : (bytes text old new : List ℕ) → bytes ≡ text → AddsPart bytes old new → AddsFirst text old new
-adds_first bytes text old new same part = record {
-  front = take part.count bytes;
-  rest = drop part.count bytes;
-  split = sym same ∙ sym (take-append-drop part.count bytes);
-  is = part.is;
-}
+pub adds_first : (bytes text old new : List ℕ) → bytes ≡ text → AddsPart bytes old new → AddsPart text old new
+adds_first bytes text old new same part = let P : List ℕ → Type 0 = λ b. AddsPart b old new in subst P same part
 
-pub adds_none : (text shown : Text) → AddsFirst text shown shown
-adds_none text shown = record { front = []; rest = text; split = refl; is = sym (append-nil shown) }
+pub adds_none : (text shown : Text) → AddsPart text shown shown
+adds_none text shown = record { count = 0; within = omega arith; is = sym (append-nil shown) }
 
 module _ {B : Type 0} (plugin : B → StoreState) (stores_old stores_new : List B) (ambient_old ambient_new : AmbientState) (old mid : Server) (asked : Result Verb Refusal) (d : Done) (comes : (known : ℕ → Type 0) → Comes known (state_of old) (act (state_of old) asked) d) (caused : AreCaused plugin d.answer.marks stores_old stores_new) (drawn : DrawsIfTold d.answer.marks ambient_old ambient_new) (n from : ℕ) (main_old main_new : DiskState) (sink_old : SinkState) (sink_last : sink_old.last ≤ from) where
   abbrev text : Text
@@ -120,7 +116,7 @@ module _ {B : Type 0} (plugin : B → StoreState) (stores_old stores_new : List 
   -- one of two, where the sink was not called
   either_quiet : (after : Cat) (main sink : Text) → KeptOrNot old.store.cat after main → sink ≡ sink_old.holds → OneOf old.store.cat after text sink_old.holds main sink
   either_quiet after main sink (keeping.not_kept c like s) same = not_kept c like s same
-  either_quiet after main sink (keeping.kept s) same = kept s (let P : Text → Type 0 = λ t. AddsFirst text sink_old.holds t in subst P (sym same) (adds_none text sink_old.holds))
+  either_quiet after main sink (keeping.kept s) same = kept s (let P : Text → Type 0 = λ t. AddsPart text sink_old.holds t in subst P (sym same) (adds_none text sink_old.holds))
 
   -- it was not kept, so nothing is put on the sink
   pub answers_stopped : (s : Stop) → Carries old d n from main_old main_new (Err s) mid → Answers plugin stores_old stores_new ambient_old ambient_new old asked n from main_old main_new sink_old sink_old (Err s) mid

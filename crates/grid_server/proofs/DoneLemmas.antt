@@ -1,5 +1,5 @@
 -- Requests that were done, one more, and what is shown and kept of them.
-use Rattle.std.proofs.Common.{◌≡◌, ◌⊎◌, inl, inr, ℕ, zero, suc, ◌+◌, ◌≤◌, Bool, true, false, List, [], ◌∷◌, ◌++◌, length, take, slice_get, Some, Result, arith, refl, sym, subst, ap, ◌∙◌, append_assoc, length-append}
+use Rattle.std.proofs.Common.{◌≡◌, ◌⊎◌, inl, inr, ℕ, zero, suc, ◌+◌, ◌≤◌, Bool, true, false, List, [], ◌∷◌, ◌++◌, length, take, drop, slice_get, Some, Result, arith, refl, sym, subst, ap, ◌∙◌, append_assoc, length-append, take-append-drop}
 use Rattle.std.specs.Prelude.{max}
 use Rattle.std.proofs.lemmas.List.{append-nil, take_all, take-append-le, take_at}
 use Rattle.grid_model.specs.Names.{Text}
@@ -8,10 +8,12 @@ use Rattle.grid_model.specs.RowGrids.{grid_of}
 use Rattle.grid_model.specs.Inputs.{Asked}
 use Rattle.grid_model.specs.Requests.{Asks}
 use Rattle.grid_model.specs.Commands.{State, Done, Act, Comes, at_once, written, not_written, reads, read, not_read, other_read, act, After, none, next, state_after}
-use Rattle.grid_model.specs.Replies.{reply, replies, AddsFirst}
+use Rattle.grid_outside.specs.Sink.{AddsPart}
+use Rattle.grid_model.specs.Replies.{reply, replies}
 use Rattle.grid_model.specs.declared.requests.Verb.{Verb}
 use Rattle.grid_model.specs.declared.refusal.Refusal.{Refusal}
-use Rattle.grid_server.specs.Held.{StandsFor, IsLike}
+use Rattle.grid_journal.specs.Stands.{StandsFor}
+use Rattle.grid_server.specs.Held.{IsLike}
 use Rattle.grid_server.specs.Keeping.{Follows, last_of}
 use Rattle.grid_server.specs.Answering.{Did, OneOf, not_kept, kept}
 use Rattle.grid_server.specs.Serving.{begins, Shows, IsCut, AllButOne, IsBefore, IsAfter, OneImage}
@@ -23,7 +25,7 @@ pub comes_less : (p q : ℕ → Type 0) → ((slot : ℕ) → q slot → p slot)
 comes_less p q less s a d at_once = at_once
 comes_less p q less s a d (written word now) = written word now
 comes_less p q less s a d not_written = not_written
-comes_less p q less s a d (read word now size digest) = read word now size digest
+comes_less p q less s a d (read word now has) = read word now has
 comes_less p q less s (reads o number slot) d (not_read count whole front) = not_read count whole (λ k. front (less slot k))
 comes_less p q less s (reads o number slot) d (other_read never other) = other_read (λ k. never (less slot k)) other
 
@@ -113,18 +115,18 @@ pub record Shown (old : Text) (done : List Done) (d : Done) (new : Text) : Type 
   pub shows : Shows old (done ++ d ∷ []) whole new
   pub whole_is : (whole ≡ length done) ⊎ (whole ≡ length done + 1)
 
-pub shows_part : (old before : Text) (done : List Done) (d : Done) (n : ℕ) (new : Text) → n ≡ length done + 1 → before ≡ old ++ replies 1 done → AddsFirst (reply n d.answer) before new → Shown old done d new
-shows_part old before done d n new n_is before_is adds = by_rest adds.rest refl
+pub shows_part : (old before : Text) (done : List Done) (d : Done) (n : ℕ) (new : Text) → n ≡ length done + 1 → before ≡ old ++ replies 1 done → AddsPart (reply n d.answer) before new → Shown old done d new
+shows_part old before done d n new n_is before_is adds = by_rest (drop adds.count (reply n d.answer)) refl
   where
     number : 1 + length done ≡ n
     number = omega (arith, n_is)
 
-    new_is : new ≡ (old ++ replies 1 done) ++ adds.front
-    new_is = adds.is ∙ ap (λ (t : Text). t ++ adds.front) before_is
+    new_is : new ≡ (old ++ replies 1 done) ++ take adds.count (reply n d.answer)
+    new_is = adds.is ∙ ap (λ (t : Text). t ++ take adds.count (reply n d.answer)) before_is
 
-    by_rest : (rest : Text) → adds.rest ≡ rest → Shown old done d new
+    by_rest : (rest : Text) → drop adds.count (reply n d.answer) ≡ rest → Shown old done d new
     by_rest [] e =
-        let front_is : adds.front ≡ reply n d.answer = sym (append-nil adds.front) ∙ ap (λ (t : Text). adds.front ++ t) (sym e) ∙ sym adds.split in
+        let front_is : take adds.count (reply n d.answer) ≡ reply n d.answer = sym (append-nil (take adds.count (reply n d.answer))) ∙ ap (λ (t : Text). take adds.count (reply n d.answer) ++ t) (sym e) ∙ take-append-drop adds.count (reply n d.answer) in
         record {
           whole = length done + 1;
           shows =
@@ -139,14 +141,14 @@ shows_part old before done d n new n_is before_is adds = by_rest adds.rest refl
       whole = length done;
       shows = record {
         within = omega (arith, length-append done (d ∷ []));
-        part = adds.front;
-        is = new_is ∙ ap (λ (ds : List Done). (old ++ replies 1 ds) ++ adds.front) (sym (take_at done (d ∷ []) (length done) refl));
+        part = take adds.count (reply n d.answer);
+        is = new_is ∙ ap (λ (ds : List Done). (old ++ replies 1 ds) ++ take adds.count (reply n d.answer)) (sym (take_at done (d ∷ []) (length done) refl));
         part_is = inr (record {
           next = d;
           is_next = slice_get-last done d;
           more = b ∷ rest;
           some = λ z. (cc);
-          split = ap (λ (k : ℕ). reply k d.answer) (sym n_is) ∙ adds.split ∙ ap (λ (t : Text). adds.front ++ t) e;
+          split = ap (λ (k : ℕ). reply k d.answer) (sym n_is) ∙ sym (take-append-drop adds.count (reply n d.answer)) ∙ ap (λ (t : Text). take adds.count (reply n d.answer) ++ t) e;
         });
       };
       whole_is = inl refl;

@@ -22,7 +22,8 @@ use Rattle.grid_journal.proofs.DeltaLemmas.{then_all}
 use Rattle.tables_laws.proofs.Grids.{grid-unseen}
 use Rattle.tables_laws.proofs.Places.{place_is}
 use Rattle.tables_laws.proofs.NewCollections.{grid-new_collection}
-use Rattle.grid_server.specs.Held.{state_of, StandsFor, IsMade, IsHeld}
+use Rattle.grid_journal.specs.Stands.{StandsFor}
+use Rattle.grid_server.specs.Held.{state_of, IsMade, IsHeld}
 use Rattle.grid_server.specs.Keeping.{Follows, IsCommitted, Carries, not_kept}
 use Rattle.grid_server.specs.declared.server.Server.{Server}
 use Rattle.grid_server.specs.declared.server.Stop.{Stop}

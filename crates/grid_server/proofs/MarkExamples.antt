@@ -1,5 +1,5 @@
 -- What marks tell, on worked examples.
-use Rattle.std.proofs.Common.{◌≡◌, List, ℕ, [], ◌∷◌, refl, arith}
+use Rattle.std.proofs.Common.{◌≡◌, List, [], ◌∷◌, refl}
 use Rattle.grid_model.specs.declared.marks.Mark.{Mark}
 use Rattle.grid_model.specs.declared.marks.Mark.TheVariants.{Ran, Fault}
 use Rattle.grid_server.specs.Causes.{faults_told}

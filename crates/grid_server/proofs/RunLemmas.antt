@@ -15,7 +15,7 @@ use Rattle.grid_model.specs.Inputs.{none_taken}
 use Rattle.grid_model.specs.Commands.{State, Done, none as nothing_done, state_after}
 use Rattle.grid_model.specs.declared.grid.Side.{Side}
 use Rattle.grid_model.specs.declared.grid.Side.TheVariants.{Main, Spare}
-use Rattle.grid_journal.specs.Stands.{Stands, stands, StandsEither}
+use Rattle.grid_journal.specs.Stands.{Stands, stands, StandsEither, StandsFor}
 use Rattle.grid_journal.specs.Store.{IsNotEmpty}
 use Rattle.grid_journal.proofs.StandsLemmas.{Stands-same}
 use Rattle.grid_server.specs.declared.server.Server.{Server}
@@ -23,7 +23,7 @@ use Rattle.grid_server.specs.declared.opening.BeginError.{BeginError}
 use Rattle.grid_server.specs.declared.opening.BeginError.TheVariants as opening
 use Rattle.grid_server.specs.declared.status.Status.{Status}
 use Rattle.grid_server.specs.declared.status.Status.TheVariants as status
-use Rattle.grid_server.specs.Held.{StandsFor, ClosesAt}
+use Rattle.grid_server.specs.Held.{ClosesAt}
 use Rattle.grid_server.specs.Keeping.{Goes, Rests}
 use Rattle.grid_server.specs.Opening.{begun, BeginEnds, Begun}
 use Rattle.grid_server.specs.Serving.{begins, Shows, OneImage, IsKept, Ends, Serves}
@@ -297,6 +297,11 @@ pub other_stores : (main spare : Text) (held found : Cat) (given : ℕ) (sink_ol
 other_stores main spare held found given sink_old sink_new s one other refused =
     let P : Cat → Type 0 = λ c. RefusesStores c.stores given sink_old sink_new s in
     subst P (one_cat main spare held found one other) refused
+
+-- ---- lines
+
+pub says_as : (line text : Text) → line ≡ text → (wanted : Status) (old new : SinkState) (s : Status) → Says line wanted old new s → Says text wanted old new s
+says_as line text same wanted old new s said = let P : Text → Type 0 = λ t. Says t wanted old new s in subst P same said
 
 -- ---- words that ask for nothing
 

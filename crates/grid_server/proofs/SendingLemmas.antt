@@ -1,11 +1,12 @@
 -- What the sending of a file leaves: its data lines, and then the end of the reply.
-use Rattle.std.proofs.Common.{Bool, ◌≡◌, ◌⊎◌, inl, inr, ℕ, ◌+◌, ◌*◌, ◌^◌, ◌<◌, ◌≤◌, min, true, false, List, [], ◌∷◌, ◌++◌, length, take, drop, Result, Ok, Err, IsTrue, refl, sym, ap, ◌∙◌, subst, arith, take-append-drop, append_assoc}
+use Rattle.std.proofs.Common.{length-append, Bool, ◌≡◌, ◌⊎◌, inl, inr, ℕ, ◌+◌, ◌*◌, ◌^◌, ◌<◌, ◌≤◌, min, true, false, List, [], ◌∷◌, ◌++◌, length, take, drop, Result, Ok, Err, IsTrue, refl, sym, ap, ◌∙◌, subst, arith, append_assoc}
 use Rattle.std.specs.Prelude.{⊤, OnOk, IsOk, IsErrOf, flat_map, decimal, ◌==◌}
 use Rattle.std.specs.Bool.{Decides}
 use Rattle.std.specs.Str.{bytes_eq}
 use Rattle.std.proofs.lemmas.Bool.Decides.{Decides-eqb}
 use Rattle.std.proofs.lemmas.Slice.Eq.{bytes_eq-Decides}
-use Rattle.std.proofs.lemmas.List.{append-nil, take_all}
+use Rattle.std.proofs.Math.Seq.{take-append-add}
+use Rattle.std.proofs.lemmas.List.{append-nil, take_all, take-append-le}
 use Rattle.sha2.specs.Sha256.{sha256}
 use Rattle.std.specs.Char.{is_ascii_digit}
 use Rattle.std.specs.Str.{all_ascii_digits}
@@ -26,7 +27,7 @@ use Rattle.grid_model.specs.DataLines.{data_lines, parts}
 use Rattle.grid_model.specs.Limits.{part_size}
 use Rattle.grid_model.specs.Commands.{Done, State, Act, Comes, act, reads, sent, failed, damaged, IsOther, IsFrontOf}
 use Rattle.grid_model.specs.Commands as comes
-use Rattle.grid_model.specs.Replies.{reply, mark_line, end_line, AddsFirst}
+use Rattle.grid_model.specs.Replies.{reply, mark_line, end_line}
 use Rattle.grid_model.specs.declared.marks.Mark.{Mark}
 use Rattle.grid_model.specs.declared.marks.Mark.TheVariants as mark
 use Rattle.grid_model.specs.declared.replies.End.{End}
@@ -40,7 +41,8 @@ use Rattle.grid_vault.specs.Sending as vault
 use Rattle.grid_vault.specs.Reading.{IsAsRecorded}
 use Rattle.grid_vault.specs.declared.sent.Sent.{Sent}
 use Rattle.grid_vault.specs.declared.sent.Sent.TheVariants.{Whole, Fault, Bad}
-use Rattle.grid_server.specs.Held.{state_of, StandsFor, IsHeld}
+use Rattle.grid_journal.specs.Stands.{StandsFor}
+use Rattle.grid_server.specs.Held.{state_of, IsHeld}
 use Rattle.grid_server.specs.Keeping.{Adds, Goes, Rests, Carries}
 use Rattle.grid_server.specs.Answering.{kept, LeavesOneOf, AnswerEnds, Answers, worked, not_begun}
 use Rattle.grid_server.specs.Drawing.{words_of, times_of, DrawsIfTold}
@@ -67,25 +69,24 @@ use Rattle.std.proofs.lemmas.List.{nil_from_length}
 pub record AddsSince (from : ℕ) (text : Text) (old new : SinkState) : Type 0 where
   pub goes : Goes from old new
   pub settled : IsTrue old.tells → IsSettled old → IsSettled new
-  pub holds : IsTrue old.tells → AddsFirst text old.holds new.holds
-  pub leaves : IsTrue old.tells → IsSettled old → Leaves from (AddsFirst text old.holds) new
+  pub holds : IsTrue old.tells → AddsPart text old.holds new.holds
+  pub leaves : IsTrue old.tells → IsSettled old → Leaves from (AddsPart text old.holds) new
 
 -- a part of the front of a text
-front_part : (front rest text old new : List ℕ) → text ≡ front ++ rest → AddsPart front old new → AddsFirst text old new
+front_part : (front rest text old new : List ℕ) → text ≡ front ++ rest → AddsPart front old new → AddsPart text old new
 front_part front rest text old new split part = record {
-  front = take part.count front;
-  rest = drop part.count front ++ rest;
-  split = split ∙ ap (λ (t : List ℕ). t ++ rest) (sym (take-append-drop part.count front)) ∙ append_assoc (take part.count front) (drop part.count front) rest;
-  is = part.is;
+  count = part.count;
+  within = omega (arith, part.within, ap length split, length-append front rest);
+  is = part.is ∙ ap (λ (t : List ℕ). old ++ t) (sym (take-append-le part.count front rest part.within) ∙ ap (take part.count) (sym split));
 }
 
 -- the front of a text, and then a part of the rest
-then_part : (front rest text old mid new : List ℕ) → text ≡ front ++ rest → mid ≡ old ++ front → AddsPart rest mid new → AddsFirst text old new
+then_part : (front rest text old mid new : List ℕ) → text ≡ front ++ rest → mid ≡ old ++ front → AddsPart rest mid new → AddsPart text old new
 then_part front rest text old mid new split all part = record {
-  front = front ++ take part.count rest;
-  rest = drop part.count rest;
-  split = split ∙ ap (λ (t : List ℕ). front ++ t) (sym (take-append-drop part.count rest)) ∙ sym (append_assoc front (take part.count rest) (drop part.count rest));
-  is = part.is ∙ ap (λ (t : List ℕ). t ++ take part.count rest) all ∙ append_assoc old front (take part.count rest);
+  count = length front + part.count;
+  within = omega (arith, part.within, ap length split, length-append front rest);
+  is = part.is ∙ ap (λ (t : List ℕ). t ++ take part.count rest) all ∙ append_assoc old front (take part.count rest)
+      ∙ ap (λ (t : List ℕ). old ++ t) (sym (take-append-add front rest part.count) ∙ ap (take (length front + part.count)) (sym split));
 }
 
 -- the front alone, or a part of it
@@ -109,7 +110,7 @@ adds_then from to front rest text old mid new split le lines put = record {
     mid_tells : IsTrue old.tells → IsTrue mid.tells
     mid_tells told = subst IsTrue (sym lines.puts.span.tells) told
 
-    by_moment : IsTrue old.tells → IsSettled old → (t : ℕ) (image : Text) → from < t → new.left t image → (t < to + 1) ⊎ (to + 1 ≤ t) → AddsFirst text old.holds image
+    by_moment : IsTrue old.tells → IsSettled old → (t : ℕ) (image : Text) → from < t → new.left t image → (t < to + 1) ⊎ (to + 1 ≤ t) → AddsPart text old.holds image
     by_moment told was t image late left (inl earlier) = front_part front rest text old.holds image split (lines.puts.any_moment told was t image late ((put.acts.earlier t image earlier).0 left))
     by_moment told was t image late left (inr now) =
         let step = put.acts.images (mid_tells told) t image now left in
@@ -145,7 +146,7 @@ module _ (known : ℕ → Type 0) {B : Type 0} (plugin : B → StoreState) (word
   said_whole : (bytes : Text) → IsAsRecorded file bytes → Said known plugin stores_old stores_new ambient_old ambient_new s asked n bytes (whole_reply n word now file.number)
   said_whole bytes same = record {
     d = sent (state_of s) bytes file.number word now;
-    comes = comes_so (sent (state_of s) bytes file.number word now) (comes.read word now (same.size ∙ sending.size) (same.digest ∙ sending.digest));
+    comes = comes_so (sent (state_of s) bytes file.number word now) (comes.read word now (record { size = same.size ∙ sending.size; digest = same.digest ∙ sending.digest }));
     state = refl;
     unchanged = refl;
     reply_is = one_mark n bytes (mark.Ran word now []) (end.Done (decimal file.number ∷ []));
@@ -177,7 +178,7 @@ module _ (known : ℕ → Type 0) {B : Type 0} (plugin : B → StoreState) (word
         d = damaged (state_of s) o file.slot bytes len found;
         comes = comes_so (damaged (state_of s) o file.slot bytes len found) (comes.other_read never (record {
           read = read;
-          not_recorded = λ both. not_recorded (record { size = both.0 ∙ sym sending.size; digest = both.1 ∙ sym sending.digest });
+          not_recorded = λ both. not_recorded (record { size = both.size ∙ sym sending.size; digest = both.digest ∙ sym sending.digest });
           len_is = refl;
           found_is = refl;
           one_more = omega (arith, one_more, sending.size);
@@ -202,7 +203,7 @@ module _ (known : ℕ → Type 0) {B : Type 0} (plugin : B → StoreState) (word
         f = (text k).0
 
         by_front : f.text ≡ bytes ++ drop (length bytes) f.text → IsFrontOf o bytes
-        by_front split = record { rest = drop (length bytes) f.text; size = sym (ap length split) ∙ f.size; digest = sym (ap sha256 split) ∙ f.digest }
+        by_front split = record { rest = drop (length bytes) f.text; is = record { size = sym (ap length split) ∙ f.size; digest = sym (ap sha256 split) ∙ f.digest } }
 
         by_count : (0 < count) ⊎ (count ≤ 0) → IsFrontOf o bytes
         by_count (inl some) = by_front (front_of_text o file store.holds f bytes (faulty.of_file (text k).1 some))
@@ -298,8 +299,8 @@ module _ {B : Type 0} (plugin : B → StoreState) (stores_old stores_new : List 
     stays : Carries s said.d n from main main (Ok tt) s
     stays = carries_none s said.d n from main main held main_last s (ap (λ (x : State). x.grid) said.state) said.unchanged refl (sym said.state)
 
-    first : (text : Text) → AddsFirst (data_lines n bytes ++ rest) sink_old.holds text → AddsFirst (reply n said.d.answer) sink_old.holds text
-    first text adds = let P : Text → Type 0 = λ t. AddsFirst t sink_old.holds text in subst P (sym said.reply_is) adds
+    first : (text : Text) → AddsPart (data_lines n bytes ++ rest) sink_old.holds text → AddsPart (reply n said.d.answer) sink_old.holds text
+    first text adds = let P : Text → Type 0 = λ t. AddsPart t sink_old.holds text in subst P (sym said.reply_is) adds
 
     leaves_so : IsTrue main.tells → IsTrue sink_old.tells → IsSettled main → IsSettled sink_old → LeavesOneOf from s.store.cat stays.after (reply n said.d.answer) sink_old.holds main sink_new
     leaves_so main_told sink_told main_settled sink_settled t disk sink late main_left sink_left =

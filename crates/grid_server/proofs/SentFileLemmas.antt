@@ -46,8 +46,8 @@ sent_file c p o file files s rows whole =
     let id_is : s.row.object ≡ s.id = eqb-true s.row.object s.id (and_parts (s.row.object == s.id) (s.row.number == file.number) its.1).0 in
     let both : Some like.row ≡ Some s.object_row = sym like.there ∙ ap (object c) id_is ∙ s.there in
     let same : like.row ≡ s.object_row = cc in
-    let size : length held.bytes ≡ file.size = held.size_is ∙ like.size ∙ ap (λ (r : ObjectRow). r.size) same ∙ sym s.size_row in
-    let digest : sha256 held.bytes ≡ file.digest = held.digest_is ∙ like.digest ∙ ap (λ (r : ObjectRow). r.digest) same ∙ sym s.digest_row in
+    let size : length held.bytes ≡ file.size = held.has.size ∙ like.size ∙ ap (λ (r : ObjectRow). r.size) same ∙ sym s.size_row in
+    let digest : sha256 held.bytes ≡ file.digest = held.has.digest ∙ like.digest ∙ ap (λ (r : ObjectRow). r.digest) same ∙ sym s.digest_row in
     record {
       text = held.bytes;
       is = ap (file_at files) (sym s.name_is) ∙ held.is;

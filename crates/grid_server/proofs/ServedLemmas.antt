@@ -6,7 +6,7 @@ use Rattle.std.proofs.lemmas.Bool.{cases_lt}
 use Rattle.grid_outside.specs.Ambient.{AmbientState}
 use Rattle.grid_outside.specs.Device.{IsSettled}
 use Rattle.grid_outside.specs.Disk.{DiskState}
-use Rattle.grid_outside.specs.Sink.{SinkState}
+use Rattle.grid_outside.specs.Sink.{SinkState, AddsPart}
 use Rattle.grid_outside.specs.Source.{SourceState}
 use Rattle.grid_model.specs.Names.{Text}
 use Rattle.grid_model.specs.Grid.{Grid}
@@ -16,7 +16,7 @@ use Rattle.grid_model.specs.Lines.{is_request}
 use Rattle.grid_model.specs.Inputs.{Asked, HasBody, Takes, none_taken, AreRequests, ends_blank, ends_in_line, ends_in_body, IsPart, of_line, of_body}
 use Rattle.grid_model.specs.Requests.{Asks}
 use Rattle.grid_model.specs.Commands.{State, Done, Comes, act, After, none as nothing_done, state_after}
-use Rattle.grid_model.specs.Replies.{reply, replies, AddsFirst}
+use Rattle.grid_model.specs.Replies.{reply, replies}
 use Rattle.grid_model.specs.declared.requests.Verb.{Verb}
 use Rattle.grid_model.specs.declared.refusal.Refusal.{Refusal}
 use Rattle.grid_server.specs.declared.status.Status.{Status}
@@ -28,7 +28,8 @@ use Rattle.grid_server.specs.declared.serving.Service.{Service}
 use Rattle.grid_server.specs.declared.serving.Taken.TheVariants as taken
 use Rattle.grid_server.specs.declared.line_reader.Ended.TheVariants as ended
 use Rattle.grid_server.specs.declared.line_reader.Passed.TheVariants as passed
-use Rattle.grid_server.specs.Held.{state_of, StandsFor, IsHeld}
+use Rattle.grid_journal.specs.Stands.{StandsFor}
+use Rattle.grid_server.specs.Held.{state_of, IsHeld}
 use Rattle.grid_server.specs.Keeping.{Rests, Quiet, last_of}
 use Rattle.grid_outside.specs.declared.outside.Wear.TheVariants as wear
 use Rattle.grid_server.specs.Reading.{Reader, ReadsLine, ReadsPart, Passes, PassesPart}
@@ -207,7 +208,7 @@ module _ {B : Type 0} (plugin : B → StoreState) (stores_old stores_mid stores_
           record { cat = new.store.cat; stands = held_stands main_new new works_held (subst IsTrue (sym works.main.tells) main_told); grid = ap (λ (s : State). s.grid) state }
 
       -- the run ends with it, of whose reply a first part is shown
-      cut : (to : SourceState) (s : Status) → Begins from.left (served.asked ++ request ∷ []) → (IsTrue sink_mid.tells → AddsFirst (reply (old.number + 1) works.d.answer) sink_mid.holds sink_new.holds)
+      cut : (to : SourceState) (s : Status) → Begins from.left (served.asked ++ request ∷ []) → (IsTrue sink_mid.tells → AddsPart (reply (old.number + 1) works.d.answer) sink_mid.holds sink_new.holds)
           → Ends found (served.asked ++ request ∷ []) (served.done ++ works.d ∷ []) works.d.state main_new from to sink_old sink_new s → Serves plugin stores_old stores_new ambient_old ambient_new found since main_old main_new from to sink_old sink_new s
       cut to s begins_more adds ends = record {
         asked = served.asked ++ request ∷ [];
@@ -256,7 +257,7 @@ module _ {B : Type 0} (plugin : B → StoreState) (stores_old stores_mid stores_
     stops : (new : Server) (main_new : DiskState) (to : SourceState) (sink_new : SinkState) (s : Stop) → Begins from.left served.asked → Begins from.left (served.asked ++ request ∷ [])
         → Answers plugin stores_mid stores_new ambient_mid ambient_new old.server asked (old.number + 1) since_now main_mid main_new sink_mid sink_new (Err s) new → Serves plugin stores_old stores_new ambient_old ambient_new found since main_old main_new from to sink_old sink_new (status_of s)
     stops new main_new to sink_new stop.Disk first begins_more (worked w) = cut main_new sink_new (Err stop.Disk) new w to status.DiskFault begins_more (λ told. (
-        let P : Text → Type 0 = λ t. AddsFirst (reply (old.number + 1) w.d.answer) sink_mid.holds t in subst P (sym (w.ends told)) (adds_none (reply (old.number + 1) w.d.answer) sink_mid.holds))) tt
+        let P : Text → Type 0 = λ t. AddsPart (reply (old.number + 1) w.d.answer) sink_mid.holds t in subst P (sym (w.ends told)) (adds_none (reply (old.number + 1) w.d.answer) sink_mid.holds))) tt
     stops new main_new to sink_new stop.Sink first begins_more (worked w) = cut main_new sink_new (Err stop.Sink) new w to status.SinkFault begins_more w.ends.1 (kept_more main_new sink_new (Err stop.Sink) new w w.ends.0.held w.ends.0.state)
     stops new main_new to sink_new stop.Memory first begins_more (worked w) = cut main_new sink_new (Err stop.Memory) new w to status.Memory begins_more w.ends.1 (kept_more main_new sink_new (Err stop.Memory) new w w.ends.0.held w.ends.0.state)
     stops new main_new to sink_new (stop.Worn what place) first begins_more (worked w) = absurd w.ends

@@ -201,7 +201,7 @@ module _ (c : Cat) (m : IsMade c) (st : Storing) (p : Path) (leaf body : Text) (
       where
         by_row : (r : ReplicaRow) → IsIn kept.replicas r → HasIt slot files r
         by_row r here = elim (in_from_with_row replica_cmp c.replicas new r here) [
-          | inl same ↦ subst (HasIt slot files) same (λ is at. record { bytes = st.body; is = there (let both : Some slot ≡ Some st.slot = sym at ∙ leaf_is in cc); size_is = refl; digest_is = refl })
+          | inl same ↦ subst (HasIt slot files) same (λ is at. record { bytes = st.body; is = there (let both : Some slot ≡ Some st.slot = sym at ∙ leaf_is in cc); has = record { size = refl; digest = refl } })
           | inr was ↦ in_from_all (HasIt slot files) c.replicas w.good r was
         ]
 

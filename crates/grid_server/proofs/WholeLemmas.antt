@@ -17,11 +17,11 @@ use Rattle.grid_model.specs.declared.deltas.CollectionRow.{CollectionRow}
 use Rattle.grid_model.specs.declared.deltas.Numbers.{Numbers}
 use Rattle.grid_model.specs.declared.deltas.ReplicaRow.{ReplicaRow}
 use Rattle.grid_model.specs.declared.plans.NewFile.{NewFile}
-use Rattle.grid_journal.specs.Stands.{Stands, StandsEither}
+use Rattle.grid_journal.specs.Stands.{Stands, StandsEither, StandsFor}
 use Rattle.grid_journal.specs.Start.{start}
 use Rattle.grid_journal.proofs.StandsLemmas.{Stands-same}
 use Rattle.tables_laws.proofs.Rows.{in_from_all, all_from_in}
-use Rattle.grid_server.specs.Held.{StandsFor, IsMade, IsHeld}
+use Rattle.grid_server.specs.Held.{IsMade, IsHeld}
 use Rattle.grid_server.specs.Keeping.{Goes, Rests, IsCommitted}
 use Rattle.grid_server.specs.Stores.{StoresGo}
 use Rattle.grid_server.specs.Safe.{AreWhole, HaveNoFiles, KeepWhole, IsKnown}
@@ -197,7 +197,7 @@ module _ {B : Type 0} (state : B → StoreState) where
     written slot before image step w = record {
       good = all_from_in _ first.replicas (λ r here is at.
           let its = in_from_all (λ (r : ReplicaRow). IsTrue r.good → leaf_slot c r.leaf ≡ Some slot → IsFinishedAs r.size r.digest (file_at before r.vault)) first.replicas w.good r here is at in
-          record { bytes = its.bytes; is = step.stable r.vault its.bytes its.is; size_is = its.size_is; digest_is = its.digest_is });
+          record { bytes = its.bytes; is = step.stable r.vault its.bytes its.is; has = its.has });
       accounted = λ name file is. by_name name file is (eqb_tells slot st.slot) (eqb_tells name c.numbers.next_vault);
     }
       where

@@ -4,21 +4,22 @@ use Rattle.grid_outside.specs.Ambient.{AmbientState}
 use Rattle.grid_outside.specs.Device.{IsSettled}
 use Rattle.grid_outside.specs.Disk.{DiskState}
 use Rattle.grid_outside.specs.Files.{StoreState}
-use Rattle.grid_outside.specs.Sink.{SinkState}
+use Rattle.grid_outside.specs.Sink.{SinkState, AddsPart}
 use Rattle.grid_outside.specs.declared.outside.Wear.TheVariants.{Log, Vaults}
 use Rattle.grid_model.specs.Names.{Text, Path}
 use Rattle.grid_model.specs.Limits.{object_size}
 use Rattle.grid_model.specs.Rows.{Cat}
 use Rattle.grid_model.specs.Commands.{State, Done, Comes, act}
 use Rattle.grid_model.specs.Requests.{Asks}
-use Rattle.grid_model.specs.Replies.{reply, AddsFirst}
+use Rattle.grid_model.specs.Replies.{reply}
 use Rattle.grid_model.specs.declared.requests.Verb.{Verb}
 use Rattle.grid_model.specs.declared.requests.Verb.TheVariants.{Put}
 use Rattle.grid_model.specs.declared.refusal.Refusal.{Refusal}
 use Rattle.grid_server.specs.declared.server.Server.{Server}
 use Rattle.grid_server.specs.declared.server.Stop.{Stop}
 use Rattle.grid_server.specs.declared.server.Stop.TheVariants.{Disk, Sink, Memory, Worn}
-use Rattle.grid_server.specs.Held.{state_of, StandsFor, ClosesAt, IsLike}
+use Rattle.grid_journal.specs.Stands.{StandsFor}
+use Rattle.grid_server.specs.Held.{state_of, ClosesAt, IsLike}
 use Rattle.grid_server.specs.Causes.{AreCaused}
 use Rattle.grid_server.specs.Safe.{IsKnown}
 use Rattle.grid_server.specs.Drawing.{DrawsIfTold}
@@ -45,7 +46,7 @@ pub record AsksToPut (s : State) (asked : Result Verb Refusal) : Type 0 where
 -- nothing is seen to be changed and the sink has nothing of the reply, or main stands for the catalogue after
 pub data OneOf (before after : Cat) (text shown main sink : Text) : Type 0 where
   not_kept : (c : Cat) → IsLike before c → StandsFor main c → sink ≡ shown → OneOf before after text shown main sink
-  kept : StandsFor main after → AddsFirst text shown sink → OneOf before after text shown main sink
+  kept : StandsFor main after → AddsPart text shown sink → OneOf before after text shown main sink
 
 -- whatever a stop leaves after so many moments
 abbrev pub LeavesOneOf : ℕ → Cat → Cat → Text → Text → DiskState → SinkState → Type 0
@@ -57,9 +58,9 @@ LeavesOneOf from before after text shown main_new sink_new = (t : ℕ) (main sin
 abbrev pub AnswerEnds : Server → Done → ℕ → Cat → DiskState → DiskState → SinkState → SinkState → Result ⊤ Stop → Server → Type 0
 AnswerEnds old d n after main_old main_new sink_old sink_new (Ok done) new =
     Does old new d after main_old main_new × Adds (reply n d.answer) sink_old sink_new
-AnswerEnds old d n after main_old main_new sink_old sink_new (Err Sink) new = Does old new d after main_old main_new × (IsTrue sink_old.tells → AddsFirst (reply n d.answer) sink_old.holds sink_new.holds)
+AnswerEnds old d n after main_old main_new sink_old sink_new (Err Sink) new = Does old new d after main_old main_new × (IsTrue sink_old.tells → AddsPart (reply n d.answer) sink_old.holds sink_new.holds)
 AnswerEnds old d n after main_old main_new sink_old sink_new (Err Disk) new = Stays sink_old sink_new
-AnswerEnds old d n after main_old main_new sink_old sink_new (Err Memory) new = Does old new d after main_old main_new × (IsTrue sink_old.tells → AddsFirst (reply n d.answer) sink_old.holds sink_new.holds)
+AnswerEnds old d n after main_old main_new sink_old sink_new (Err Memory) new = Does old new d after main_old main_new × (IsTrue sink_old.tells → AddsPart (reply n d.answer) sink_old.holds sink_new.holds)
 AnswerEnds old d n after main_old main_new sink_old sink_new (Err (Worn what place)) new = ⊥
 
 -- What is asked for was done, kept and replied to, or how far it came, from so many moments on. Each fault that is told has its

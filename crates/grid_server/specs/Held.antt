@@ -9,16 +9,11 @@ use Rattle.grid_model.specs.Applying.{apply_all}
 use Rattle.grid_model.specs.Commands.{State}
 use Rattle.grid_model.specs.declared.deltas.Delta.{Delta}
 use Rattle.grid_journal.specs.Journal.{Keeps}
-use Rattle.grid_journal.specs.Stands.{Stands}
 use Rattle.grid_server.specs.declared.server.Server.{Server}
 
 -- the grid of the rows in memory, and whether a user is logged in
 abbrev pub state_of : Server → State
 state_of s = record { grid = grid_of s.store.cat; logged_in = s.logged_in }
-
--- with every spare, main stands for this catalogue
-abbrev pub StandsFor : Text → Cat → Type 0
-StandsFor main c = (spare : Text) → Stands main spare (Ok c)
 
 -- the log on main closes at this place
 pub record ClosesAt (main : Text) (place : ℕ) : Type 0 where

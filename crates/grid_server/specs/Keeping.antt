@@ -7,11 +7,11 @@ use Rattle.grid_model.specs.Names.{Text}
 use Rattle.grid_model.specs.Rows.{Cat}
 use Rattle.grid_model.specs.RowGrids.{grid_of}
 use Rattle.grid_model.specs.Commands.{Done}
-use Rattle.grid_journal.specs.Stands.{StandsEither}
+use Rattle.grid_journal.specs.Stands.{StandsEither, StandsFor}
 use Rattle.grid_server.specs.declared.server.Server.{Server}
 use Rattle.grid_server.specs.declared.server.Stop.{Stop}
 use Rattle.grid_server.specs.declared.server.Stop.TheVariants.{Disk, Sink, Memory, Worn}
-use Rattle.grid_server.specs.Held.{state_of, StandsFor, ClosesAt, IsLike, IsHeld}
+use Rattle.grid_server.specs.Held.{state_of, ClosesAt, IsLike, IsHeld}
 
 -- ---- devices
 

@@ -1,9 +1,8 @@
 -- How a run ends, by its words and its status.
 use Rattle.std.specs.Prelude.{◌≡◌, ◌≢◌, ◌⊎◌, ℕ, [], IsTrue}
 use Rattle.grid_outside.specs.Disk.{DiskState}
-use Rattle.grid_outside.specs.Sink.{SinkState}
+use Rattle.grid_outside.specs.Sink.{SinkState, AddsPart}
 use Rattle.grid_model.specs.Names.{Text}
-use Rattle.grid_model.specs.Replies.{AddsFirst}
 use Rattle.grid_model.specs.declared.grid.Side.{Side}
 use Rattle.grid_journal.specs.Store.{IsNotEmpty}
 use Rattle.grid_server.specs.declared.status.Status.{Status}
@@ -13,7 +12,7 @@ use Rattle.grid_server.specs.Starting.{Started, ok_line, not_empty_line, not_a_c
 
 -- this status with this line on the sink, or the sink failed and has a first part of the line
 abbrev pub Says : Text → Status → SinkState → SinkState → Status → Type 0
-Says line wanted old new s = ((s ≡ wanted) × Adds line old new) ⊎ ((s ≡ status.SinkFault) × (IsTrue old.tells → AddsFirst line old.holds new.holds))
+Says line wanted old new s = ((s ≡ wanted) × Adds line old new) ⊎ ((s ≡ status.SinkFault) × (IsTrue old.tells → AddsPart line old.holds new.holds))
 
 -- there is no catalogue, which shows at this place: that is said, unless something fails before
 abbrev pub Refuses : Side → ℕ → SinkState → SinkState → Status → Type 0

@@ -6,7 +6,7 @@ use Rattle.grid_outside.specs.Files.{Files, StoreState, file_at}
 use Rattle.grid_model.specs.Names.{Text}
 use Rattle.grid_model.specs.Rows.{Cat}
 use Rattle.grid_model.specs.Whole.{HasGoodRows, IsWhole}
-use Rattle.grid_server.specs.Held.{StandsFor}
+use Rattle.grid_journal.specs.Stands.{StandsFor}
 
 module _ {B : Type 0} (state : B → StoreState) where
   -- Good replicas are as their objects, and whatever a stop at this moment leaves of a store that tells is whole.

@@ -20,7 +20,8 @@ use Rattle.grid_model.specs.declared.refusal.Refusal.{Refusal}
 use Rattle.grid_model.specs.Replies.{reply, replies}
 use Rattle.grid_server.specs.declared.status.Status.{Status}
 use Rattle.grid_server.specs.declared.status.Status.TheVariants as status
-use Rattle.grid_server.specs.Held.{StandsFor, ClosesAt}
+use Rattle.grid_journal.specs.Stands.{StandsFor}
+use Rattle.grid_server.specs.Held.{ClosesAt}
 use Rattle.grid_server.specs.Causes.{AreCaused}
 use Rattle.grid_server.specs.Safe.{IsKnown}
 use Rattle.grid_server.specs.Drawing.{marks_of, DrawsIfTold}

@@ -8,7 +8,7 @@ use Rattle.grid_model.specs.RowGrids.{grid_of}
 use Rattle.grid_model.specs.declared.grid.Side.{Side}
 use Rattle.grid_model.specs.declared.grid.Side.TheVariants.{Main, Spare}
 use Rattle.grid_journal.specs.Start.{start}
-use Rattle.grid_server.specs.Held.{StandsFor}
+use Rattle.grid_journal.specs.Stands.{StandsFor}
 
 -- ---- the lines
 

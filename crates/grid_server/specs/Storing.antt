@@ -9,7 +9,6 @@ use Rattle.grid_model.specs.Commands.{stored, failed}
 use Rattle.grid_model.specs.Replies.{mark_line, end_line}
 use Rattle.grid_model.specs.declared.marks.Mark.TheVariants as mark
 use Rattle.grid_model.specs.declared.replies.End.TheVariants as end
-use Rattle.grid_model.specs.declared.refusal.Refusal.TheVariants as refusal
 use Rattle.grid_model.specs.declared.deltas.Delta.{Delta}
 use Rattle.grid_model.specs.declared.deltas.Delta.TheVariants as delta
 use Rattle.grid_vault.specs.Vault.{RoseAt}
@@ -45,7 +44,3 @@ Stores plugin stores_old stores_new old s p leaf n time from main_old main_new (
 -- the reply to a body that was put
 abbrev pub stored_reply : ℕ → ℕ → ℕ → Text
 stored_reply n word now = mark_line n (mark.Ran word now []) ++ end_line n (end.Done [])
-
--- the reply where a call of this slot failed before anything was sent
-abbrev pub failed_reply : ℕ → ℕ → Text
-failed_reply n slot = mark_line n (mark.Fault slot 0) ++ end_line n (end.Refused (refusal.Fault slot))

@@ -13,7 +13,8 @@ ghost use Rattle.grid_server.specs.Held.{state_of};
 ghost use Rattle.grid_server.specs.Safe.{KeepWhole};
 ghost use Rattle.grid_server.specs.Stores.{StoresGo};
 ghost use Rattle.grid_server.specs.Deciding.{IsStoring};
-ghost use Rattle.grid_server.specs.Storing.{Stores, begun_deltas as begun_changes, stored_deltas as stored_changes, stored_reply, failed_reply};
+ghost use Rattle.grid_server.specs.Storing.{Stores, begun_deltas as begun_changes, stored_deltas as stored_changes, stored_reply};
+ghost use Rattle.grid_server.specs.Sending.{broken_reply};
 
 use crate::decision::Storing;
 use crate::plain::name_is_text;
@@ -246,7 +247,7 @@ fn stored_text(alloc: Global, number: u64, word: u64, now: u64) -> Result<Text, 
 
 // The reply where a call of this slot failed before anything was sent.
 fn failed_text(alloc: Global, number: u64, slot: u8) -> Result<Text, AllocError>
-    ensures { IfOk result (λ text. text ≡ failed_reply number slot) }
+    ensures { IfOk result (λ text. text ≡ broken_reply number slot 0) }
 {
     mark_and_end(
         alloc,

@@ -3,6 +3,7 @@ use Rattle.std.specs.Prelude.{◌≡◌, ℕ, Bool, true, false, IsTrue, ◌+◌
 use Rattle.sha2.specs.Hashers.{Holds256}
 use Rattle.sha2.specs.Sha256.{sha256}
 use Rattle.grid_outside.specs.Files.{File, Files, StoreState, file_at}
+use Rattle.grid_model.specs.Digests.{HasDigest}
 use Rattle.grid_model.specs.declared.plans.OldFile.{OldFile}
 use Rattle.grid_vault.specs.declared.reading.Part.{Part}
 use Rattle.grid_vault.specs.declared.reading.Found.{Found}
@@ -40,9 +41,8 @@ pub record ReadsOn (store : StoreState) (recorded : OldFile) (part : Part) (buf 
   pub of_file : IsTrue store.tells → IsPartOf recorded old.read given part.is_last store.holds buf
 
 -- the bytes have the size and the digest that are recorded
-pub record IsAsRecorded (recorded : OldFile) (bytes : List ℕ) : Type 0 where
-  pub size : length bytes ≡ recorded.size
-  pub digest : sha256 bytes ≡ recorded.digest
+abbrev pub IsAsRecorded : OldFile → List ℕ → Type 0
+IsAsRecorded recorded bytes = HasDigest recorded.size recorded.digest bytes
 
 -- they do not, and these are theirs
 pub record Differs (recorded : OldFile) (bytes : List ℕ) (found : Found) : Type 0 where

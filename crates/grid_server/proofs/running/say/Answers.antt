@@ -1,6 +1,5 @@
 use Rattle.std.proofs.Common.{inr, refl}
-use Rattle.grid_server.proofs.CarryingLemmas.{adds_first}
 use Rattle.grid_server.proofs.running.say.Goals as goal
 
 pub returns-in-Err-clause-says : goal.returns-in-Err-clause-says
-returns-in-Err-clause-says g c = inr (refl, λ told. adds_first c.args.line.now c.args.line.now _ _ refl (c.put.ensures.acts.holds told))
+returns-in-Err-clause-says g c = inr (refl, c.put.ensures.acts.holds)

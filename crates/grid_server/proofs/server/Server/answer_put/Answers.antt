@@ -5,7 +5,7 @@ use Rattle.grid_model.specs.declared.replies.End.TheVariants as end
 use Rattle.grid_model.specs.declared.refusal.Refusal.TheVariants as refusal
 use Rattle.grid_server.specs.Held.{state_of}
 use Rattle.grid_server.specs.Answering.{not_begun}
-use Rattle.grid_server.specs.Storing.{failed_reply}
+use Rattle.grid_server.specs.Sending.{broken_reply}
 use Rattle.grid_server.proofs.DrawingLemmas.{draws_ran, draws_untold, draws_where}
 use Rattle.grid_server.proofs.KeepingLemmas.{quiet_rest, rests_same}
 use Rattle.grid_server.proofs.CarryingLemmas.{answers_stopped, answers_unsaid, put_so}
@@ -69,7 +69,7 @@ returns-in-Ok-Some-clause-answers g c asked p leaf body is ok =
     (draws_untold (Ran c.word-word.result c.now-now.result [] ∷ []) (Faulty slot 0 ∷ []) (ambient c.args.outside.now.ambient) (ambient c.write.new.outside.ambient) refl refl drawn) n c.args.outside.now.moments
     (g.D.Disk.disk c.args.outside.now.main) (g.D.Disk.disk c.write.new.outside.main) (g.K.Sink.sink c.args.sink.now) c.requires.sink_last (g.K.Sink.sink c.put_text-in-Ok-Some.new.sink) c.write.new.outside.moments c.as_slice-in-Ok-Some.result.now
     c.in-Ok-Some.ensures.drawn_from c.in-Ok-Some.ensures.main_last stores.2
-    (c.as_slice-in-Ok-Some.ensures ∙ c.in-Ok-failed_text.ensures ∙ ap (failed_reply n) stores.0 ∙ reply_is n (Faulty slot 0) (end.Refused (refusal.Fault slot))) c.put_text-in-Ok-Some.ensures.put _
+    (c.as_slice-in-Ok-Some.ensures ∙ c.in-Ok-failed_text.ensures ∙ ap (λ s. broken_reply n s 0) stores.0 ∙ reply_is n (Faulty slot 0) (end.Refused (refusal.Fault slot))) c.put_text-in-Ok-Some.ensures.put _
     c.put_text-in-Ok-Some.ensures.added (λ s e. (c.put_text-in-Ok-Some.ensures.failed s e).0)
 
 pub returns-clause-answers : goal.returns-clause-answers
