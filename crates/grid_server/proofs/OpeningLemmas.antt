@@ -1,5 +1,5 @@
 -- What the beginning of a run leaves.
-use Rattle.std.proofs.Common.{◌≡◌, ◌≢◌, ℕ, ◌+◌, ◌^◌, ◌<◌, List, [], ◌∷◌, Ok, Err, IsTrue, refl, ap, ◌∙◌, subst, false, arith}
+use Rattle.std.proofs.Common.{length, ◌-◌, ◌≤◌, inl, inr, sym, ◌≡◌, ◌≢◌, ℕ, ◌+◌, ◌^◌, ◌<◌, List, [], ◌∷◌, Ok, Err, IsTrue, refl, ap, ◌∙◌, subst, false, arith}
 use Rattle.std.specs.Prelude.{nat_lt, nat_le}
 use Rattle.std.proofs.lemmas.Bool.{and_from, lt-ltb, le-leb}
 use Rattle.grid_outside.specs.Device.{IsSettled}
@@ -17,9 +17,13 @@ use Rattle.grid_journal.specs.declared.error.JournalError.{JournalError}
 use Rattle.grid_journal.specs.declared.error.JournalError.TheVariants as journal
 use Rattle.grid_journal.proofs.DeltaLemmas.{then_all}
 use Rattle.tables_laws.proofs.Grids.{grid-unseen}
-use Rattle.grid_server.specs.Held.{IsMade}
+use Rattle.grid_server.specs.Held.{IsMade, ClosesAt}
+use Rattle.std.proofs.lemmas.Bool.{cases_lt}
+use Rattle.grid_model.specs.Names.{Text}
+use Rattle.frame_log.specs.Log.{frames, log_of}
+use Rattle.frame_log.proofs.Reading.{reads_as_log}
 use Rattle.grid_server.specs.Keeping.{Rests}
-use Rattle.grid_server.specs.Opening.{begun, BeginEnds}
+use Rattle.grid_server.specs.Opening.{begun, BeginEnds, HasRoom}
 use Rattle.grid_server.specs.Stopping.{IsOfCommit, begin_error_of}
 use Rattle.grid_server.proofs.OpenedLemmas.{vault_made}
 use Rattle.grid_server.proofs.KeepingLemmas.{closes_at, made_more}
@@ -43,9 +47,9 @@ is_begun c m tables tables_are n n_is deltas deltas_are =
     ap (apply_all c) (deltas_are ∙ ap (λ (k : Numbers). delta.Numbers (record { next_vault = k.next_vault; run = k.run + 1; last = 0 }) ∷ []) same) ∙ ap (then_all []) (applied_run c m)
 
 pub begun_well : (old new : Journal) (deltas : List Delta) (main_old main_new : DiskState) → IsMade old.cat → apply_all old.cat deltas ≡ Ok (begun old.cat) → Commits deltas old new
-    → (IsTrue main_old.tells → Keeps new.cat new main_new.holds) → main_new.tells ≡ main_old.tells → (IsTrue main_old.tells → IsSettled main_new)
+    → (IsTrue main_old.tells → Keeps new.cat new main_new.holds) → main_new.tells ≡ main_old.tells → (IsTrue main_old.tells → IsSettled main_new) → HasRoom old.cat main_old
     → BeginEnds old.cat main_old main_new (Ok (record { store = new; logged_in = false }))
-begun_well old new deltas main_old main_new m is commits keeps tells settled =
+begun_well old new deltas main_old main_new m is commits keeps tells settled room =
     let both : apply_all old.cat deltas ≡ Ok (begun old.cat) = is in
     let ours : apply_all old.cat deltas ≡ Ok new.cat = commits.applied in
     let same : new.cat ≡ begun old.cat = cc in (
@@ -59,6 +63,7 @@ begun_well old new deltas main_old main_new m is commits keeps tells settled =
       refl,
       grid_begun old.cat m,
       settled,
+      room,
     )
 
 pub begun_in_vain : (j : Journal) (main_old main_new : DiskState) (e : JournalError) → IsOfCommit e → (e ≢ journal.DiskFault → Rests main_old main_new)
@@ -68,3 +73,22 @@ begun_in_vain j main_old main_new journal.DiskFault of same worn keeps = tt
 begun_in_vain j main_old main_new (journal.Worn what at) of same worn keeps = (same (λ e. cc), (worn what at refl).1, λ told. closes_at j.cat j main_old.holds at (worn what at refl).0 (keeps told))
 begun_in_vain j main_old main_new (journal.NotEmpty side len) of same worn keeps = absurd of
 begun_in_vain j main_old main_new (journal.NotACatalogue side at) of same worn keeps = absurd of
+
+-- a log closes at one place
+pub one_close : (main : Text) (m n : ℕ) → ClosesAt main m → ClosesAt main n → m ≡ n
+one_close main m n a b =
+    let same : log_of b.records ≡ log_of a.records = (reads_as_log 16 main a.records a.log).only (log_of b.records) b.log in
+    let records : b.records ≡ a.records = cc in
+    a.place_is ∙ ap (λ (r : List (List ℕ)). 16 + length (frames r)) (sym records) ∙ sym b.place_is
+
+-- a commit was done, so there was room
+pub room_of : (j : Journal) (main : DiskState) → j.cat.numbers.run ≢ 2 ^ 64 - 1 → (2 ^ 62 < j.log.gate → ⊥) → (IsTrue main.tells → Keeps j.cat j main.holds) → HasRoom j.cat main
+room_of j main run gate keeps = (
+  run,
+  λ told place closes.
+      let same : place ≡ j.log.gate = one_close main.holds place j.log.gate closes (closes_at j.cat j main.holds j.log.gate refl (keeps told)) in
+      omega_le place j.log.gate same gate,
+)
+  where
+    omega_le : (a b : ℕ) → a ≡ b → (2 ^ 62 < b → ⊥) → a ≤ 2 ^ 62
+    omega_le a b e never = elim (cases_lt (2 ^ 62) b) [ inl lt ↦ absurd (never lt) | inr le ↦ omega (arith, e, le) ]

@@ -1,5 +1,5 @@
 -- What the opening of a catalogue for a run comes to.
-use Rattle.std.specs.Prelude.{◌≡◌, ℕ, ◌+◌, ◌-◌, ◌^◌, ◌<◌, false, IsTrue, Result, Ok, Err}
+use Rattle.std.specs.Prelude.{◌≡◌, ◌≢◌, ◌≤◌, ℕ, ◌+◌, ◌-◌, ◌^◌, ◌<◌, false, IsTrue, Result, Ok, Err}
 use Rattle.grid_outside.specs.Device.{IsSettled, Leaves}
 use Rattle.grid_outside.specs.Disk.{DiskState}
 use Rattle.grid_model.specs.Rows.{Cat}
@@ -15,9 +15,13 @@ use Rattle.grid_server.specs.Keeping.{Goes, Rests}
 abbrev pub begun : Cat → Cat
 begun c = record c { numbers = record { next_vault = c.numbers.next_vault; run = c.numbers.run + 1; last = 0 } }
 
+-- there is a number for the next run, and room behind the log
+abbrev pub HasRoom : Cat → DiskState → Type 0
+HasRoom found main = (found.numbers.run ≢ 2 ^ 64 - 1) × (IsTrue main.tells → (place : ℕ) → ClosesAt main.holds place → place ≤ 2 ^ 62)
+
 -- a run was begun over this catalogue, or why not
 abbrev pub BeginEnds : Cat → DiskState → DiskState → Result Server BeginError → Type 0
-BeginEnds found main_old main_new (Ok s) = IsHeld main_new s × (s.store.cat ≡ begun found) × (s.logged_in ≡ false) × (grid_of (begun found) ≡ grid_of found) × (IsTrue main_old.tells → IsSettled main_new)
+BeginEnds found main_old main_new (Ok s) = IsHeld main_new s × (s.store.cat ≡ begun found) × (s.logged_in ≡ false) × (grid_of (begun found) ≡ grid_of found) × (IsTrue main_old.tells → IsSettled main_new) × HasRoom found main_old
 BeginEnds found main_old main_new (Err opening.Disk) = Unit {0}
 BeginEnds found main_old main_new (Err opening.Memory) = Rests main_old main_new
 BeginEnds found main_old main_new (Err (opening.Log place)) = Rests main_old main_new × (2 ^ 62 < place) × (IsTrue main_old.tells → ClosesAt main_old.holds place)

@@ -47,3 +47,10 @@ abbrev pub EndsServing : Status → Type 0
 EndsServing status.Usage = ⊥
 EndsServing (status.NotEmpty side len) = ⊥
 EndsServing other = Unit {0}
+
+-- a run that could not begin, for want of a number, of room or of memory, or because a disk failed
+abbrev pub IsNotBegun : Status → Type 0
+IsNotBegun (status.Worn what place) = Unit {0}
+IsNotBegun status.Memory = Unit {0}
+IsNotBegun status.DiskFault = Unit {0}
+IsNotBegun other = ⊥

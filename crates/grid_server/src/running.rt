@@ -10,10 +10,11 @@ ghost use Rattle.grid_journal.specs.Journal.{Keeps};
 ghost use Rattle.grid_journal.specs.Start.{start};
 ghost use Rattle.grid_journal.specs.Stands.{Stands};
 ghost use Rattle.grid_server.specs.Keeping.{Stays, Rests};
+ghost use Rattle.grid_server.specs.Opening.{HasRoom};
 ghost use Rattle.grid_server.specs.Safe.{AreWhole, HaveNoFiles, KeepWhole};
 ghost use Rattle.grid_server.specs.Stores.{StoresGo};
 ghost use Rattle.grid_server.specs.Starting.{usage_line as usage_text, not_empty_line as not_empty_text, not_a_catalogue_line as not_a_catalogue_text, stores_line as stores_text, side_name as side_text};
-ghost use Rattle.grid_server.specs.Running.{Says, Refuses, RefusesStores, Inits, IsComplete, EndsServing};
+ghost use Rattle.grid_server.specs.Running.{Says, Refuses, RefusesStores, Inits, IsComplete, EndsServing, IsNotBegun};
 ghost use Rattle.grid_server.specs.Serving.{Serves, IsServing};
 ghost use Rattle.grid_server.specs.Tasks as task;
 ghost use Rattle.grid_server.specs.Tasks.{AsksFor, AsksNothing};
@@ -73,6 +74,10 @@ pub fn run<D: Disk, S: Source, K: Sink, A: Ambient, P: Plugin>(
     // them so.
     ensures whole { (found : Cat) → AsksFor words.now task.serve → Stands (D.disk outside.old.main).holds (D.disk outside.old.spare).holds (Ok found) →
         KeepWhole P.plugin outside.old.moments found (D.disk outside.old.main) (D.disk outside.new.main) outside.old.stores.items outside.new.stores.items }
+
+    // The numbers of runs, or the room of the log, had run out before.
+    ensures worn { (found : Cat) → AsksFor words.now task.serve → IsTrue (D.disk outside.old.main).tells → Stands (D.disk outside.old.main).holds (D.disk outside.old.spare).holds (Ok found) →
+        found.stores ≡ vec_len outside.old.stores → ¬ HasRoom found (D.disk outside.old.main) → IsNotBegun result }
 
     // The catalogue is of another number of stores.
     ensures stores { (found : Cat) → AsksFor words.now task.serve → IsTrue (D.disk outside.old.main).tells →
@@ -151,6 +156,8 @@ fn serve<D: Disk, S: Source, K: Sink, A: Ambient, P: Plugin>(
     ensures serve { (found : Cat) → IsTrue (D.disk outside.old.main).tells → IsTrue (S.source source.old).tells →
         Stands (D.disk outside.old.main).holds (D.disk outside.old.spare).holds (Ok found) → found.stores ≡ vec_len outside.old.stores →
         Serves P.plugin outside.old.stores.items outside.new.stores.items (A.ambient outside.old.ambient) (A.ambient outside.new.ambient) found outside.old.moments (D.disk outside.old.main) (D.disk outside.new.main) (S.source source.old) (S.source source.new) (K.sink sink.old) (K.sink sink.new) result }
+    ensures worn { (found : Cat) → IsTrue (D.disk outside.old.main).tells → Stands (D.disk outside.old.main).holds (D.disk outside.old.spare).holds (Ok found) →
+        found.stores ≡ vec_len outside.old.stores → ¬ HasRoom found (D.disk outside.old.main) → IsNotBegun result }
     ensures stores { (found : Cat) → IsTrue (D.disk outside.old.main).tells →
         Stands (D.disk outside.old.main).holds (D.disk outside.old.spare).holds (Ok found) → found.stores ≢ vec_len outside.old.stores →
         RefusesStores found.stores (vec_len outside.old.stores) (K.sink sink.old) (K.sink sink.new) result × Rests (D.disk outside.old.main) (D.disk outside.new.main) × (source.new ≡ source.old) × (outside.new.stores ≡ outside.old.stores) }
@@ -201,6 +208,7 @@ fn serve_over<D: Disk, S: Source, K: Sink, A: Ambient, P: Plugin>(
     requires stores { (0 < vec_len outside.old.stores) × (vec_len outside.old.stores ≤ 16) }
     ensures serve { IsTrue (D.disk outside.old.main).tells → IsTrue (S.source source.old).tells → store.cat.stores ≡ vec_len outside.old.stores →
         Serves P.plugin outside.old.stores.items outside.new.stores.items (A.ambient outside.old.ambient) (A.ambient outside.new.ambient) store.cat outside.old.moments (D.disk outside.old.main) (D.disk outside.new.main) (S.source source.old) (S.source source.new) (K.sink sink.old) (K.sink sink.new) result }
+    ensures worn { store.cat.stores ≡ vec_len outside.old.stores → ¬ HasRoom store.cat (D.disk outside.old.main) → IsNotBegun result }
     ensures stores { store.cat.stores ≢ vec_len outside.old.stores →
         RefusesStores store.cat.stores (vec_len outside.old.stores) (K.sink sink.old) (K.sink sink.new) result × (outside.new.main ≡ outside.old.main) × (source.new ≡ source.old) × (outside.new.stores ≡ outside.old.stores) }
     ensures stores_only { (had given : ℕ) → result ≡ Status.Stores had given → (had ≢ given) × (given ≡ vec_len outside.old.stores) × (had ≡ store.cat.stores) }

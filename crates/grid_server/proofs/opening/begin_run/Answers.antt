@@ -7,7 +7,8 @@ use Rattle.grid_journal.specs.Stands.{StandsEither}
 use Rattle.grid_server.specs.declared.opening.BeginError.{BeginError}
 use Rattle.grid_server.specs.Opening.{begun, BeginEnds}
 use Rattle.grid_server.proofs.KeepingLemmas.{keeps_stands, rests_same, rests_where, goes_nowhere, goes_between, of_commit}
-use Rattle.grid_server.proofs.OpeningLemmas.{grid_begun, is_begun, begun_well, begun_in_vain}
+use Rattle.grid_server.proofs.OpeningLemmas.{grid_begun, is_begun, begun_well, begun_in_vain, room_of}
+use Rattle.grid_outside.specs.declared.outside.Wear.TheVariants.{Log}
 use Rattle.grid_server.proofs.opening.begin_run.Goals as goal
 
 pub returns-then-last-clause-begins : goal.returns-then-last-clause-begins
@@ -46,7 +47,8 @@ returns-in-Ok-commit-clause-begins g c =
     record {
       grid = grid_begun store.cat c.requires.made;
       ends =
-          begun_well store c.commit.new.self c.in-Ok.deltas main_old main_new c.requires.made is done.commits (λ told. done.keeps told store.cat (c.requires.keeps told)) done.span.tells done.settled;
+          begun_well store c.commit.new.self c.in-Ok.deltas main_old main_new c.requires.made is done.commits (λ told. done.keeps told store.cat (c.requires.keeps told)) done.span.tells done.settled
+          (room_of store main_old (λ e. c.if-last.false (ap (λ (n : Numbers). n.run) (c.numbers-last.ensures ∙ ap (λ (c : Cat). c.numbers) c.tables.ensures) ∙ e)) (λ far. (let worn = (done.worn Log store.log.gate).1 (refl, refl, far) in cc)) c.requires.keeps);
       main = goes_between c.args.moments.now _ _ main_old main_new done.span;
       leaves = λ told settled. done.any_moment told settled store.cat (begun store.cat) (c.requires.keeps told) is;
     }

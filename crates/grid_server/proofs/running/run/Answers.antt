@@ -66,3 +66,6 @@ returns-in-Init-clause-init_whole g c = λ zone admin t asks none.
 
 pub returns-in-Init-clause-serve_spare : goal.returns-in-Init-clause-serve_spare
 returns-in-Init-clause-serve_spare g c = λ asks. absurd (serve_or_init asks c.in-Init.ensures)
+
+pub returns-in-Init-clause-worn : goal.returns-in-Init-clause-worn
+returns-in-Init-clause-worn g c = λ found asks. absurd (serve_or_init asks c.in-Init.ensures)

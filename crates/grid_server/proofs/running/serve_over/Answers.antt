@@ -89,3 +89,8 @@ returns-in-Err-Disk-clause-whole g c = keep_begun g.P.Plugin.plugin c.args.outsi
 
 pub returns-in-Err-Memory-clause-whole : goal.returns-in-Err-Memory-clause-whole
 returns-in-Err-Memory-clause-whole g c = keep_begun g.P.Plugin.plugin c.args.outside.now.moments c.args.store.cat (g.D.Disk.disk c.args.outside.now.main) (g.D.Disk.disk c.begin_run.new.main) c.args.outside.now.stores.items c.in-Err-Memory.ensures.begins.leaves
+
+-- whether there is room
+
+pub returns-in-Ok-clause-worn : goal.returns-in-Ok-clause-worn
+returns-in-Ok-clause-worn g c = λ stores none. absurd (none c.in-Ok.ensures.begins.ends.5)
