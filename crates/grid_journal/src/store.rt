@@ -1,6 +1,6 @@
 ghost use Rattle.std.specs.Prelude.{◌≡◌, ◌≢◌, ◌↔◌, ◌⊎◌, ℕ, ◌+◌, ◌-◌, ◌*◌, ◌^◌, ◌<◌, ◌≤◌, List, [], ◌∷◌, ◌++◌, length, flat_map, true, false, IsTrue, IfOk, OnOk, OnErr, IsOk, IsErrOf, MatchResult, Ok, Err};
 ghost use Rattle.std.specs.List.{list_all};
-ghost use Rattle.frame_log.specs.Extent.{extent_of, placed, bodies};
+ghost use Rattle.frame_log.specs.Extent.{extent_of, placed, bodies, IsLogOf};
 ghost use Rattle.grid_outside.specs.Device.{Between, Leaves, Looks, IsSettled};
 ghost use Rattle.grid_outside.specs.Disk.{Torn};
 ghost use Rattle.grid_outside.specs.Fault.{Rose};
@@ -234,6 +234,10 @@ impl Store {
         ensures keeps { OnOk result (IsTrue (D.disk main.old).tells → (kept : Cat) → Keeps kept self.old (D.disk main.old).holds →
             Keeps self.new.cat self.new (D.disk main.new).holds) }
         ensures settled { OnOk result (IsTrue (D.disk main.old).tells → IsSettled (D.disk main.new)) }
+
+        // Its log has one record more, which spells the staged deltas and then the given ones.
+        ensures added { OnOk result (IsTrue (D.disk main.old).tells → (kept : Cat) (k : Keeps kept self.old (D.disk main.old).holds) →
+            IsLogOf self.new.log (k.records ++ flat_map spelling (self.old.staged ++ deltas) ∷ []) (D.disk main.new).holds) }
 
         // At each moment of the call, failed or not, every image stands for the catalogue before or for the one after.
         ensures any_moment { IsTrue (D.disk main.old).tells → IsSettled (D.disk main.old) →

@@ -21,6 +21,7 @@ use Rattle.grid_server.specs.Held.{state_of, ClosesAt, IsMade, IsLike, IsHeld}
 use Rattle.grid_server.specs.Keeping.{Adds, Stays, Goes, Rests, Follows, last_of, CommitEnds, IsCommitted, Quiet, KeptOrNot, Does, CarryEnds, Carries}
 use Rattle.grid_server.specs.Keeping as keeping
 use Rattle.grid_server.specs.Drawing.{DrawsIfTold}
+use Rattle.grid_server.specs.Wearing.{HasNumber, numbers_given}
 use Rattle.grid_server.specs.Answering.{OneOf, not_kept, kept, LeavesOneOf, AnswerEnds, Answers, worked, not_begun, log_worn}
 use Rattle.grid_server.specs.Replying.{IsPut}
 use Rattle.grid_server.specs.declared.server.Server.{Server}
@@ -36,7 +37,7 @@ use Rattle.grid_server.specs.Safe.{IsKnown}
 
 module _ (old : Server) (d : Done) (n from : ℕ) (main_old main_new : DiskState) (held : IsHeld main_old old) (last : main_old.last ≤ from) where
   -- nothing is changed but who is logged in
-  pub carries_none : (new : Server) → d.state.grid ≡ grid_of old.store.cat → d.changed ≡ false → new.store ≡ old.store → state_of new ≡ d.state → Carries old d n from main_old main_old (Ok tt) new
+  pub carries_none : (new : Server) → d.state.grid ≡ grid_of old.store.cat → d.changed ≡ false → new.store ≡ old.store → state_of new ≡ d.state → Carries old d n 0 from main_old main_old (Ok tt) new
   carries_none new grid unchanged same state =
       record {
         after = old.store.cat;
@@ -45,6 +46,7 @@ module _ (old : Server) (d : Done) (n from : ℕ) (main_old main_new : DiskState
           stores = refl;
           run = refl;
           last = sym (ap (λ b. last_of b n old.store.cat.numbers.last) unchanged);
+          next_vault = omega arith;
           pending = refl;
           same = λ unchanged. refl;
         };
@@ -65,9 +67,9 @@ module _ (old : Server) (d : Done) (n from : ℕ) (main_old main_new : DiskState
       }
 
   -- changes were committed that make what was done, or how far that came
-  pub carries_commit : (new : Server) (after : Cat) (result : Result ⊤ Stop) → Follows old.store.cat d n after → d.changed ≡ true → d.state ≡ record { grid = grid_of after; logged_in = old.logged_in }
-      → IsCommitted old after from main_old main_new result new → Carries old d n from main_old main_new result new
-  carries_commit new after result follows changed state committed = record {
+  pub carries_commit : (given : ℕ) (new : Server) (after : Cat) (result : Result ⊤ Stop) → Follows old.store.cat d n given after → d.changed ≡ true → d.state ≡ record { grid = grid_of after; logged_in = old.logged_in }
+      → IsCommitted old after from main_old main_new result new → Carries old d n given from main_old main_new result new
+  carries_commit given new after result follows changed state committed = record {
     after = after;
     follows = follows;
     ends = by_result result committed.ends;
@@ -106,12 +108,15 @@ adds_first bytes text old new same part = let P : List ℕ → Type 0 = λ b. Ad
 pub adds_none : (text shown : Text) → AddsPart text shown shown
 adds_none text shown = record { count = 0; within = omega arith; is = sym (append-nil shown) }
 
-module _ {B : Type 0} (plugin : B → StoreState) (stores_old stores_new : List B) (ambient_old ambient_new : AmbientState) (old mid : Server) (asked : Result Verb Refusal) (d : Done) (comes : (known : ℕ → Type 0) → Comes known (state_of old) (act (state_of old) asked) d) (caused : AreCaused plugin d.answer.marks stores_old stores_new) (drawn : DrawsIfTold d.answer.marks ambient_old ambient_new) (n from : ℕ) (main_old main_new : DiskState) (sink_old : SinkState) (sink_last : sink_old.last ≤ from) where
+module _ {B : Type 0} (plugin : B → StoreState) (stores_old stores_new : List B) (ambient_old ambient_new : AmbientState) (old mid : Server) (asked : Result Verb Refusal) (d : Done) (comes : (known : ℕ → Type 0) → Comes known (state_of old) (act (state_of old) asked) d) (given : ℕ) (given_is : given ≡ numbers_given (act (state_of old) asked)) (number : HasNumber (state_of old) asked old.store.cat.numbers.next_vault) (caused : AreCaused plugin d.answer.marks stores_old stores_new) (drawn : DrawsIfTold d.answer.marks ambient_old ambient_new) (n from : ℕ) (main_old main_new : DiskState) (sink_old : SinkState) (sink_last : sink_old.last ≤ from) where
   abbrev text : Text
   text = reply n d.answer
 
   none_told : DrawsIfTold [] ambient_old ambient_new
   none_told = draws_untold d.answer.marks [] ambient_old ambient_new refl refl drawn
+
+  follows_so : (after : Cat) → Follows old.store.cat d n given after → Follows old.store.cat d n (numbers_given (act (state_of old) asked)) after
+  follows_so after follows = let P : ℕ → Type 0 = λ k. Follows old.store.cat d n k after in subst P given_is follows
 
   -- one of two, where the sink was not called
   either_quiet : (after : Cat) (main sink : Text) → KeptOrNot old.store.cat after main → sink ≡ sink_old.holds → OneOf old.store.cat after text sink_old.holds main sink
@@ -119,13 +124,14 @@ module _ {B : Type 0} (plugin : B → StoreState) (stores_old stores_new : List 
   either_quiet after main sink (keeping.kept s) same = kept s (let P : Text → Type 0 = λ t. AddsPart text sink_old.holds t in subst P (sym same) (adds_none text sink_old.holds))
 
   -- it was not kept, so nothing is put on the sink
-  pub answers_stopped : (s : Stop) → Carries old d n from main_old main_new (Err s) mid → Answers plugin stores_old stores_new ambient_old ambient_new old asked n from main_old main_new sink_old sink_old (Err s) mid
+  pub answers_stopped : (s : Stop) → Carries old d n given from main_old main_new (Err s) mid → Answers plugin stores_old stores_new ambient_old ambient_new old asked n from main_old main_new sink_old sink_old (Err s) mid
   answers_stopped stop.Sink c = absurd c.ends
   answers_stopped stop.Disk c = worked (record {
     d = d;
     comes = comes (IsKnown plugin from old.store.cat main_old stores_old);
     after = c.after;
-    follows = c.follows;
+    number = number;
+    follows = follows_so c.after c.follows;
     caused = caused;
     drawn = drawn;
     ends = λ told. refl;
@@ -138,10 +144,10 @@ module _ {B : Type 0} (plugin : B → StoreState) (stores_old stores_new : List 
   answers_stopped stop.Memory c = not_begun refl c.ends (rests_same sink_old) none_told
   answers_stopped (stop.Worn what place) c =
       let R : Wear → Type 0 = λ w. Answers plugin stores_old stores_new ambient_old ambient_new old asked n from main_old main_new sink_old sink_old (Err (stop.Worn w place)) mid in
-      subst R (sym c.ends.1) (log_worn place d refl (comes (IsKnown plugin from old.store.cat main_old stores_old)) c.ends.0 c.ends.2 c.ends.3 c.ends.4 (rests_same sink_old) none_told)
+      subst R (sym c.ends.1) (log_worn place d refl (comes (IsKnown plugin from old.store.cat main_old stores_old)) number c.ends.0 c.ends.2 c.ends.3 c.ends.4 (rests_same sink_old) none_told)
 
   -- it was kept where nothing is seen of it, and memory ran out
-  pub answers_unsaid : Carries old d n from main_old main_new (Ok tt) mid → d.changed ≡ false → Answers plugin stores_old stores_new ambient_old ambient_new old asked n from main_old main_new sink_old sink_old (Err stop.Memory) mid
+  pub answers_unsaid : Carries old d n given from main_old main_new (Ok tt) mid → d.changed ≡ false → Answers plugin stores_old stores_new ambient_old ambient_new old asked n from main_old main_new sink_old sink_old (Err stop.Memory) mid
   answers_unsaid c unchanged =
       let like : IsLike old.store.cat c.after = record {
         grid = c.follows.same unchanged;
@@ -162,7 +168,7 @@ module _ {B : Type 0} (plugin : B → StoreState) (stores_old stores_new : List 
       }) (rests_same sink_old) none_told
 
   -- it was kept, and then this was put on the sink, after so many moments
-  module _ (sink_new : SinkState) (before : ℕ) (bytes : Text) (later : from ≤ before) (main_last : main_new.last ≤ before) (c : Carries old d n from main_old main_new (Ok tt) mid)
+  module _ (sink_new : SinkState) (before : ℕ) (bytes : Text) (later : from ≤ before) (main_last : main_new.last ≤ before) (c : Carries old d n given from main_old main_new (Ok tt) mid)
       (text_is : bytes ≡ reply n d.answer) (put : IsPut bytes before sink_old sink_new) where
     leaves_put : IsTrue main_old.tells → IsTrue sink_old.tells → IsSettled main_old → IsSettled sink_old → LeavesOneOf from old.store.cat c.after text sink_old.holds main_new sink_new
     leaves_put main_told sink_told main_settled sink_settled t main sink after main_left sink_left = by_moment (cases_lt t (before + 1))
@@ -183,7 +189,8 @@ module _ {B : Type 0} (plugin : B → StoreState) (stores_old stores_new : List 
       d = d;
       comes = comes (IsKnown plugin from old.store.cat main_old stores_old);
       after = c.after;
-      follows = c.follows;
+      number = number;
+      follows = follows_so c.after c.follows;
       caused = caused;
       drawn = drawn;
       ends = ends;

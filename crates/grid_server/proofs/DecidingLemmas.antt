@@ -32,7 +32,7 @@ use Rattle.grid_model.proofs.RowOrders.{lower_id}
 use Rattle.tables_laws.proofs.Sound.{IsSound, sound-made}
 use Rattle.tables_laws.proofs.LookUps.{get-users, get-resources, has-collections, has-objects}
 use Rattle.grid_server.specs.Held.{state_of, IsMade}
-use Rattle.grid_server.specs.Answering.{last_vault}
+use Rattle.grid_server.specs.Wearing.{HasNumber, last_vault}
 use Rattle.grid_server.specs.Deciding.{Decides, DecidesPlain, DecidesMaking, DecidesPutting, IsFree, IsRowFor, IsStoringFor, HasParentAt, NamesResource, is_user_id, slot_of}
 use Rattle.grid_server.specs.declared.server.Server.{Server}
 use Rattle.grid_server.specs.declared.decision.Decision.{Decision}
@@ -313,8 +313,11 @@ module _ (c : Cat) (m : IsMade c) (collection : ℕ) (p : Path) (leaf : ℕ) (na
 
 -- ---- the whole decision
 
-pub decides_making : (s : Server) (asked : Result Verb Refusal) (p : Path) (d : Plain) → asked ≡ Ok (MkDir p) → s.logged_in ≡ true → DecidesMaking s.store.cat p d → DecidesPlain s (act (state_of s) asked) d
-decides_making s asked p d e on making = by_kind d making
+makes_no_put : (asked : Result Verb Refusal) (p q : Path) (name : Text) (count : ℕ) (body : Text) → asked ≡ Ok (MkDir p) → asked ≡ Ok (Put q name count body) → ⊥
+makes_no_put asked p q name count body makes puts = cc
+
+pub decides_making : (s : Server) (asked : Result Verb Refusal) (p : Path) (d : Plain) → asked ≡ Ok (MkDir p) → s.logged_in ≡ true → DecidesMaking s.store.cat p d → DecidesPlain s (act (state_of s) asked) d × HasNumber (state_of s) asked s.store.cat.numbers.next_vault
+decides_making s asked p d e on making = (by_kind d making, λ puts. absurd (makes_no_put asked p puts.path puts.resource puts.count puts.body e puts.is))
   where
     is : act (state_of s) asked ≡ does (make (state_of s) p)
     is = ap (act (state_of s)) e ∙ ap (λ b. does (elim b [ true ↦ make (state_of s) p | false ↦ refused (state_of s) NoLogin ])) on
@@ -336,7 +339,7 @@ decides_putting s asked p name count body (Ok d) e on small putting = by_kind d 
         ∙ ap (λ b. elim b [ false ↦ does (refused (state_of s) (TooLarge object_size)) | true ↦ put_at (state_of s) p name body ]) small
 
     by_kind : (d : Decision) → DecidesPutting s.store.cat p name body d → Decides s asked d
-    by_kind (decision.Plain (plain.Refuse refusal)) m = is ∙ m (state_of s) refl
+    by_kind (decision.Plain (plain.Refuse refusal)) m = (is ∙ m.0 (state_of s) refl, λ asks. m.1)
     by_kind (decision.Plain plain.LogIn) m = absurd m
     by_kind (decision.Plain (plain.Make row)) m = absurd m
     by_kind (decision.Store st) m = (p, name, body, is ∙ m.0 (state_of s) refl, m.1)

@@ -15,9 +15,15 @@ use Rattle.grid_model.specs.declared.refusal.Refusal.{Refusal}
 use Rattle.grid_journal.specs.Stands.{StandsFor}
 use Rattle.grid_server.specs.Held.{IsLike}
 use Rattle.grid_server.specs.Keeping.{Follows, last_of}
-use Rattle.grid_server.specs.Answering.{Did, OneOf, not_kept, kept}
+use Rattle.grid_server.specs.Answering.{OneOf, not_kept, kept}
 use Rattle.grid_server.specs.Serving.{begins, Shows, IsCut, AllButOne, IsBefore, IsAfter, OneImage}
 use Rattle.grid_server.proofs.RequestLemmas.{asks_held}
+
+-- a line with its body asked for something, and this came of it
+pub record Did (known : ℕ → Type 0) (s : State) (line body : Text) (d : Done) : Type 0 where
+  pub asked : Result Verb Refusal
+  pub asks : Asks line body asked
+  pub comes : Comes known s (act s asked) d
 
 -- ---- what is known of fewer slots
 
@@ -208,7 +214,7 @@ like_image found done old main sink c d run last pending grid like stood sink_is
 -- While a request is answered: nothing is seen to be changed and nothing of its reply is shown, or main has the catalogue
 -- after it.
 pub cut_or_whole : (found : Cat) (done : List Done) (d : Done) (old before main sink : Text) (c after : Cat) (n : ℕ) → n ≡ length done + 1 → before ≡ old ++ replies 1 done → c.numbers.run ≡ found.numbers.run + 1 → c.numbers.last ≤ length done
-    → c.pending ≡ found.pending → grid_of c ≡ (state_after (begins (grid_of found)) done (length done)).grid → Follows c d n after → OneOf c after (reply n d.answer) before main sink → OneImage found (done ++ d ∷ []) old main sink
+    → c.pending ≡ found.pending → grid_of c ≡ (state_after (begins (grid_of found)) done (length done)).grid → {given : ℕ} → Follows c d n given after → OneOf c after (reply n d.answer) before main sink → OneImage found (done ++ d ∷ []) old main sink
 cut_or_whole found done d old before main sink c after n n_is before_is run last pending grid follows (not_kept other like stood sink_is) =
     image_more found done d old main sink (like_image found done old main sink c other run last pending grid like stood (sink_is ∙ before_is))
 cut_or_whole found done d old before main sink c after n n_is before_is run last pending grid follows (kept stood adds) =

@@ -22,7 +22,7 @@ use Rattle.grid_model.specs.declared.deltas.ReplicaRow.{ReplicaRow}
 use Rattle.grid_model.specs.declared.deltas.ResourceRow.{ResourceRow}
 use Rattle.grid_model.specs.declared.plans.OldFile.{OldFile}
 use Rattle.grid_model.specs.declared.requests.Verb.{Verb}
-use Rattle.grid_model.specs.declared.requests.Verb.TheVariants.{Get}
+use Rattle.grid_model.specs.declared.requests.Verb.TheVariants.{Get, Put}
 use Rattle.grid_model.specs.declared.refusal.Refusal.{Refusal}
 use Rattle.grid_model.specs.declared.refusal.Refusal.TheVariants.{NoLogin, NoObject, NoResource, NoReplica}
 use Rattle.grid_model.proofs.Comparing.{same_text-Decides}
@@ -369,6 +369,10 @@ its_id c id o e = eqb-true o.id id (in_from_find (λ r. r.id == id) c.objects o 
 
 -- ---- the whole decision
 
+-- what gets puts nothing
+pub gets_no_put : (asked : Result Verb Refusal) (p q : Path) (name resource : Text) (count : ℕ) (body : Text) → asked ≡ Ok (Get p name) → asked ≡ Ok (Put q resource count body) → ⊥
+gets_no_put asked p q name resource count body gets puts = cc
+
 pub decides_getting : (s : Server) (asked : Result Verb Refusal) (p : Path) (name : Text) (d : Decision) → asked ≡ Ok (Get p name) → s.logged_in ≡ true → DecidesGetting s.store.cat p name d → DecidesAll s asked d
 decides_getting s asked p name d e on getting = by_kind d getting
   where
@@ -376,7 +380,7 @@ decides_getting s asked p name d e on getting = by_kind d getting
     is = ap (act (state_of s)) e ∙ ap (λ (b : Bool). elim b [ false ↦ does (refused (state_of s) NoLogin) | true ↦ get_at (state_of s) p name ]) on
 
     by_kind : (d : Decision) → DecidesGetting s.store.cat p name d → DecidesAll s asked d
-    by_kind (decision.Plain (plain.Refuse refusal)) m = is ∙ m (state_of s) refl
+    by_kind (decision.Plain (plain.Refuse refusal)) m = (is ∙ m (state_of s) refl, λ puts. absurd (gets_no_put asked p puts.path name puts.resource puts.count puts.body e puts.is))
     by_kind (decision.Plain plain.LogIn) m = absurd m
     by_kind (decision.Plain (plain.Make row)) m = absurd m
     by_kind (decision.Store st) m = absurd m

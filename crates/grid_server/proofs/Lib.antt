@@ -23,5 +23,6 @@ pub mod StoringLemmas
 pub mod TakingLemmas
 pub mod TaskLemmas
 pub mod TurnLemmas
+pub mod WearingLemmas
 pub mod WholeLemmas
 mod MarkExamples

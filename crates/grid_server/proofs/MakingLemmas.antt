@@ -72,17 +72,17 @@ module _ (old : Server) (m : IsMade old.store.cat) (row : CollectionRow) (p : Pa
       grid-unseen one grown (delta.Numbers last) refl applied_last ∙ grid-new_collection m.0 c one row m.1 new.some_id new.fresh applied_row
       ∙ ap (λ (q : Path). record (grid_of c) { collections = put (grid_of c).collections q row.inherit }) path ∙ ap (λ b. record (grid_of c) { collections = put (grid_of c).collections p b }) new.plain
 
-  follows : Follows c (made (state_of old) p) n grown
-  follows = record { grid = grid_grown; stores = refl; run = refl; last = refl; pending = refl; same = λ no. absurd (cc) }
+  follows : Follows c (made (state_of old) p) n 0 grown
+  follows = record { grid = grid_grown; stores = refl; run = refl; last = refl; next_vault = omega arith; pending = refl; same = λ no. absurd (cc) }
 
   module _ (from : ℕ) (main_old : DiskState) (held : IsHeld main_old old) (main_last : main_old.last ≤ from) where
-    pub carries_grown : (main_new : DiskState) (result : Result ⊤ Stop) (mid : Server) → IsCommitted old grown from main_old main_new result mid → Carries old (made (state_of old) p) n from main_old main_new result mid
+    pub carries_grown : (main_new : DiskState) (result : Result ⊤ Stop) (mid : Server) → IsCommitted old grown from main_old main_new result mid → Carries old (made (state_of old) p) n 0 from main_old main_new result mid
     carries_grown main_new result mid committed =
-        carries_commit old (made (state_of old) p) n from main_old main_new held main_last mid grown result follows refl
+        carries_commit old (made (state_of old) p) n from main_old main_new held main_last 0 mid grown result follows refl
         (ap (λ (g : Grid). (let s : State = record { grid = g; logged_in = old.logged_in } in s)) (sym grid_grown)) committed
 
     -- memory ran out before anything was done
-    pub carries_unbegun : (mid : Server) → Carries old (made (state_of old) p) n from main_old main_old (Err stop.Memory) mid
+    pub carries_unbegun : (mid : Server) → Carries old (made (state_of old) p) n 0 from main_old main_old (Err stop.Memory) mid
     carries_unbegun mid = record {
       after = grown;
       follows = follows;

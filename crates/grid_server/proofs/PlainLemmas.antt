@@ -1,5 +1,5 @@
 -- What is done without a store.
-use Rattle.std.proofs.Common.{[], ◌≡◌, ℕ, Result, refl, sym, subst}
+use Rattle.std.proofs.Common.{[], ◌≡◌, ℕ, Result, refl, sym, ap, subst}
 use Rattle.grid_outside.specs.Ambient.{AmbientState}
 use Rattle.grid_model.specs.Commands.{Done, Act, does, Comes, at_once, act, refused, log_in, made}
 use Rattle.grid_model.specs.Replies.{reply, end_line}
@@ -7,6 +7,7 @@ use Rattle.grid_model.specs.declared.requests.Verb.{Verb}
 use Rattle.grid_model.specs.declared.refusal.Refusal.{Refusal}
 use Rattle.grid_server.specs.Held.{state_of}
 use Rattle.grid_server.specs.Drawing.{DrawsIfTold}
+use Rattle.grid_server.specs.Wearing.{numbers_given}
 use Rattle.grid_server.specs.Deciding.{DecidesPlain}
 use Rattle.grid_server.specs.Plain.{end_of}
 use Rattle.grid_server.specs.declared.server.Server.{Server}
@@ -21,6 +22,9 @@ pub record OfPlain (s : Server) (asked : Result Verb Refusal) (x : Plain) : Type
   pub text : (n : ℕ) → end_line n (end_of x) ≡ reply n d.answer
   pub marks : d.answer.marks ≡ []
   pub drawn : (ambient : AmbientState) → DrawsIfTold d.answer.marks ambient ambient
+
+pub none_given : (s : Server) (asked : Result Verb Refusal) (d : Done) → act (state_of s) asked ≡ does d → 0 ≡ numbers_given (act (state_of s) asked)
+none_given s asked d is = sym (ap numbers_given is)
 
 pub comes_so : (s : Server) (asked : Result Verb Refusal) (d : Done) → act (state_of s) asked ≡ does d → (known : ℕ → Type 0) → Comes known (state_of s) (act (state_of s) asked) d
 comes_so s asked d is known = let P : Act → Type 0 = λ a. Comes known (state_of s) a d in subst P (sym is) at_once

@@ -25,6 +25,7 @@ use Rattle.grid_server.specs.declared.status.Status.{Status}
 use Rattle.grid_server.specs.declared.status.Status.TheVariants as status
 use Rattle.grid_server.specs.Held.{ClosesAt}
 use Rattle.grid_server.specs.Keeping.{Goes, Rests}
+use Rattle.grid_server.specs.Wearing.{none as none_given}
 use Rattle.grid_server.specs.Opening.{begun, BeginEnds, Begun}
 use Rattle.grid_server.specs.Serving.{begins, Shows, OneImage, IsKept, Ends, Serves}
 use Rattle.grid_server.specs.Running.{Refuses, RefusesStores, Inits, Says, IsComplete}
@@ -93,6 +94,8 @@ serves_begun plugin stores_old stores_new ambient_old ambient_new found since mi
   done = w.done;
   end = w.end;
   after = after_less (known_later plugin since mid found main_old main_mid stores_old le (λ settled. began.ends.4 told)) w.after;
+  number = w.number;
+  numbers = w.numbers;
   shown = w.shown;
   caused = w.caused;
   drawn = w.drawn;
@@ -122,6 +125,8 @@ serves_unbegun plugin stores ambient found since main_old main_new source sink e
   done = [];
   end = begins (grid_of found);
   after = nothing_done;
+  number = found.numbers.next_vault;
+  numbers = none_given;
   shown = λ sink_told. shows_all sink.holds [] sink.holds (sym (append-nil sink.holds));
   caused = caused_none plugin 0 [] stores stores (λ slot. refl) tt (stores_same plugin 0 stores);
   drawn = draws_none ambient;
@@ -136,7 +141,7 @@ serves_unbegun plugin stores ambient found since main_old main_new source sink e
     kept : Rests main_old main_new → IsKept main_new.holds (grid_of found)
     kept rests = record { cat = found; stands = (let P : Text → Type 0 = λ m. StandsFor m found in subst P (sym (rests.stays told)) stood); grid = refl }
 
-    by : (e : BeginError) → BeginEnds found main_old main_new (Err e) → Ends found [] [] (begins (grid_of found)) main_new source source sink sink (unbegun e)
+    by : (e : BeginError) → BeginEnds found main_old main_new (Err e) → Ends found [] [] (begins (grid_of found)) found.numbers.next_vault main_new source source sink sink (unbegun e)
     by (opening.Runs place) w = ((refl, w.1, w.2), nothing_shown, kept w.0)
     by (opening.Log place) w = ((w.1, (let P : Text → Type 0 = λ m. ClosesAt m place in subst P (sym (w.0.stays told)) (w.2 told)), inl (refl, (kept w.0).stands)), nothing_shown, kept w.0)
     by opening.Disk w = tt
@@ -153,6 +158,8 @@ serves_opened plugin stores_old stores_new ambient_old ambient_new found since m
   done = w.done;
   end = w.end;
   after = after_less (known_later plugin since since found main_old main_mid stores_old (omega arith) settled) w.after;
+  number = w.number;
+  numbers = w.numbers;
   shown = w.shown;
   caused = w.caused;
   drawn = w.drawn;
@@ -170,13 +177,15 @@ serves_found plugin stores_old stores_new ambient_old ambient_new held found sin
 -- nothing was read, for want of memory or since the disk failed
 module _ {B : Type 0} (plugin : B → StoreState) (stores : List B) (ambient : AmbientState) (found : Cat) (since : ℕ) (main_old main_new : DiskState) (source : SourceState) (sink : SinkState) (told : IsTrue main_old.tells) (main_last : main_old.last ≤ since) (sink_last : sink.last ≤ since) (looks : Looks main_old main_new)
     (stood : StandsFor main_old.holds found) where
-  unread : (s : Status) → Ends found [] [] (begins (grid_of found)) main_new source source sink sink s → Serves plugin stores stores ambient ambient found since main_old main_new source source sink sink s
+  unread : (s : Status) → Ends found [] [] (begins (grid_of found)) found.numbers.next_vault main_new source source sink sink s → Serves plugin stores stores ambient ambient found since main_old main_new source source sink sink s
   unread s ends = record {
     asked = [];
     first = inl (source.left, none_taken);
     done = [];
     end = begins (grid_of found);
     after = nothing_done;
+    number = found.numbers.next_vault;
+    numbers = none_given;
     shown = λ sink_told. shows_all sink.holds [] sink.holds (sym (append-nil sink.holds));
     caused = caused_none plugin 0 [] stores stores (λ slot. refl) tt (stores_same plugin 0 stores);
     drawn = draws_none ambient;
@@ -246,7 +255,7 @@ pub complete : {B : Type 0} (plugin : B → StoreState) (stores_old stores_new :
     → length from.left ≤ 2 ^ 48 → (s ≡ status.DiskFault → ⊥) → (s ≡ status.SourceFault → ⊥) → (s ≡ status.SinkFault → ⊥) → IsComplete s
 complete plugin stores_old stores_new ambient_old ambient_new found since main_old main_new from to sink_old sink_new s w fits disk source sink = by s refl w.ends
   where
-    by : (r : Status) → s ≡ r → Ends found w.asked w.done w.end main_new from to sink_old sink_new r → IsComplete s
+    by : (r : Status) → s ≡ r → Ends found w.asked w.done w.end w.number main_new from to sink_old sink_new r → IsComplete s
     by status.Done is ends = subst IsComplete (sym is) tt
     by status.SourceFault is ends = absurd (source is)
     by (status.Long taken) is ends = absurd (omega (arith, fits, ends.1.size, ap length ends.1.split, length-append ends.1.taken to.left))

@@ -43,7 +43,8 @@ use Rattle.grid_vault.specs.declared.sent.Sent.{Sent}
 use Rattle.grid_vault.specs.declared.sent.Sent.TheVariants.{Whole, Fault, Bad}
 use Rattle.grid_journal.specs.Stands.{StandsFor}
 use Rattle.grid_server.specs.Held.{state_of, IsHeld}
-use Rattle.grid_server.specs.Keeping.{Adds, Goes, Rests, Carries}
+use Rattle.grid_server.specs.Wearing.{HasNumber, numbers_given}
+use Rattle.grid_server.specs.Keeping.{Adds, Goes, Rests, Carries, Follows}
 use Rattle.grid_server.specs.Answering.{kept, LeavesOneOf, AnswerEnds, Answers, worked, not_begun}
 use Rattle.grid_server.specs.Drawing.{words_of, times_of, DrawsIfTold}
 use Rattle.grid_server.specs.Replying.{IsPut}
@@ -295,8 +296,8 @@ module _ {B : Type 0} (plugin : B → StoreState) (stores_old stores_new : List 
   pub sends_nothing : (sink_new : SinkState) → Rests sink_old sink_new → DrawsIfTold [] ambient_old ambient_new → Answers plugin stores_old stores_new ambient_old ambient_new s asked n from main main sink_old sink_new (Err stop.Memory) s
   sends_nothing sink_new rests drawn = not_begun refl (quiet_rest s from main main held main_last (rests_same main)) rests drawn
 
-  module _ (bytes rest : Text) (said : Said (IsKnown plugin from s.store.cat main stores_old) plugin stores_old stores_new ambient_old ambient_new s asked n bytes rest) (sink_new : SinkState) (adds : AddsSince from (data_lines n bytes ++ rest) sink_old sink_new) where
-    stays : Carries s said.d n from main main (Ok tt) s
+  module _ (none : 0 ≡ numbers_given (act (state_of s) asked)) (number : HasNumber (state_of s) asked s.store.cat.numbers.next_vault) (bytes rest : Text) (said : Said (IsKnown plugin from s.store.cat main stores_old) plugin stores_old stores_new ambient_old ambient_new s asked n bytes rest) (sink_new : SinkState) (adds : AddsSince from (data_lines n bytes ++ rest) sink_old sink_new) where
+    stays : Carries s said.d n 0 from main main (Ok tt) s
     stays = carries_none s said.d n from main main held main_last s (ap (λ (x : State). x.grid) said.state) said.unchanged refl (sym said.state)
 
     first : (text : Text) → AddsPart (data_lines n bytes ++ rest) sink_old.holds text → AddsPart (reply n said.d.answer) sink_old.holds text
@@ -314,7 +315,8 @@ module _ {B : Type 0} (plugin : B → StoreState) (stores_old stores_new : List 
       d = said.d;
       comes = said.comes;
       after = stays.after;
-      follows = stays.follows;
+      number = number;
+      follows = (let P : ℕ → Type 0 = λ k. Follows s.store.cat said.d n k stays.after in subst P none stays.follows);
       caused = said.caused;
       drawn = said.drawn;
       ends = ends;
@@ -339,12 +341,12 @@ module _ {B : Type 0} (plugin : B → StoreState) (stores_old stores_new : List 
     sends_so (Err x) added broken = sends_part x (inl (broken x refl))
 
 module _ {B : Type 0} (plugin : B → StoreState) (word now : ℕ) (stores_old stores_new : List B) (since : ℕ) (went : StoresGo plugin since stores_old stores_new) (ambient_old ambient_new : AmbientState) (drawn : DrawsIfTold (mark.Ran word now [] ∷ []) ambient_old ambient_new) (s : Server) (asked : Result Verb Refusal) (p : Path) (o : Object) (file : OldFile)
-    (is : act (state_of s) asked ≡ reads o file.number file.slot) (sending : IsSending s.store.cat p o file) (there : file.slot < length stores_old) (n from to : ℕ) (main : DiskState) (sink_old : SinkState) (held : IsHeld main s) (main_last : main.last ≤ from) (store : StoreState) (text : IsKnown plugin from s.store.cat main stores_old file.slot → SentFile o file store.holds × IsTrue store.tells) where
+    (is : act (state_of s) asked ≡ reads o file.number file.slot) (number : HasNumber (state_of s) asked s.store.cat.numbers.next_vault) (sending : IsSending s.store.cat p o file) (there : file.slot < length stores_old) (n from to : ℕ) (main : DiskState) (sink_old : SinkState) (held : IsHeld main s) (main_last : main.last ≤ from) (store : StoreState) (text : IsKnown plugin from s.store.cat main stores_old file.slot → SentFile o file store.holds × IsTrue store.tells) where
   -- the sink broke in the data lines
   pub sends_broken : (sink_new : SinkState) → Breaks store from to file n sink_old sink_new → Answers plugin stores_old stores_new ambient_old ambient_new s asked n from main main sink_old sink_new (Err stop.Sink) s
   sends_broken sink_new b =
       let some = said_part (IsKnown plugin from s.store.cat main stores_old) plugin word now stores_old stores_new since went ambient_old ambient_new drawn s asked p o file is sending there n store text from to sink_old sink_new b in
-      sends_part plugin stores_old stores_new ambient_old ambient_new s asked n from main sink_old held main_last some.all some.rest some.said sink_new
+      sends_part plugin stores_old stores_new ambient_old ambient_new s asked n from main sink_old held main_last (sym (ap numbers_given is)) number some.all some.rest some.said sink_new
       (adds_front from to (data_lines n b.sent) some.more (data_lines n some.all ++ some.rest) sink_old sink_new some.split b.lines) stop.Sink (inl refl)
 
   module _ (answer : Sent) (sink_mid : SinkState) (sends : Sends store from to file n sink_old sink_mid answer) (cause : OnFault answer (RoseAt plugin file.slot stores_old stores_new)) where
@@ -355,7 +357,7 @@ module _ {B : Type 0} (plugin : B → StoreState) (word now : ℕ) (stores_old s
     pub sends_unsaid : Answers plugin stores_old stores_new ambient_old ambient_new s asked n from main main sink_old sink_mid (Err stop.Memory) s
     sends_unsaid =
         let rest : Text = sending_reply n word now file answer in
-        sends_part plugin stores_old stores_new ambient_old ambient_new s asked n from main sink_old held main_last sends.sent rest said sink_mid
+        sends_part plugin stores_old stores_new ambient_old ambient_new s asked n from main sink_old held main_last (sym (ap numbers_given is)) number sends.sent rest said sink_mid
         (adds_front from to (data_lines n sends.sent) rest (data_lines n sends.sent ++ rest) sink_old sink_mid refl sends.lines.puts) stop.Memory (inr refl)
 
     -- the end of the reply was put
@@ -364,7 +366,7 @@ module _ {B : Type 0} (plugin : B → StoreState) (word now : ℕ) (stores_old s
     sends_said text sink_new result le text_is put added broken =
         let rest : Text = sending_reply n word now file answer in
         let P : Text → Type 0 = λ t. IsPut t to sink_mid sink_new in
-        sends_so plugin stores_old stores_new ambient_old ambient_new s asked n from main sink_old held main_last sends.sent rest said sink_new
+        sends_so plugin stores_old stores_new ambient_old ambient_new s asked n from main sink_old held main_last (sym (ap numbers_given is)) number sends.sent rest said sink_new
         (adds_then from to (data_lines n sends.sent) rest (data_lines n sends.sent ++ rest) sink_old sink_mid sink_new refl le sends.lines (subst P text_is put)) result (all result added) broken
       where
         all : (r : Result ⊤ Stop) → OnOk r (Adds text sink_mid sink_new) → OnOk r (Adds (data_lines n sends.sent ++ sending_reply n word now file answer) sink_old sink_new)

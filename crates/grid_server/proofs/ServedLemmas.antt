@@ -33,14 +33,16 @@ use Rattle.grid_server.specs.Held.{state_of, IsHeld}
 use Rattle.grid_server.specs.Keeping.{Rests, Quiet, last_of}
 use Rattle.grid_outside.specs.declared.outside.Wear.TheVariants as wear
 use Rattle.grid_server.specs.Reading.{Reader, ReadsLine, ReadsPart, Passes, PassesPart}
-use Rattle.grid_server.specs.Answering.{AsksToPut, Works, Answers, worked, not_begun, log_worn, vaults_worn, Did}
+use Rattle.grid_server.specs.Wearing.{AsksToPut, HasNumber, numbers_given, GivesNumbers, none as none_given}
+use Rattle.grid_server.specs.Answering.{Works, Answers, worked, not_begun, log_worn, vaults_worn}
 use Rattle.grid_server.specs.Turning.{Gets, with_body, cut_short, at_end, InBody, Turns, answered, stopped, idle, status_of}
 use Rattle.grid_server.specs.Opening.{begun}
 use Rattle.grid_server.specs.Drawing.{marks_of, DrawsIfTold}
-use Rattle.grid_server.specs.Serving.{begins, Begins, OneImage, IsKept, ShowsAll, Ends, Serves}
+use Rattle.grid_server.specs.Serving.{begins, Begins, OneImage, IsKept, HasNextVault, ShowsAll, Ends, Serves}
 use Rattle.grid_server.proofs.InputLemmas.{push_request, push_blank, takes_of}
 use Rattle.grid_server.proofs.DrawingLemmas.{draws_none, draws_still, draws_more}
-use Rattle.grid_server.proofs.DoneLemmas.{After-push, did_held, did_less, replies-push, state_after-all, shows_part, shows_all, image_more, image_of, like_image, all_but_one, cut_or_whole}
+use Rattle.grid_server.proofs.WearingLemmas.{GivesNumbers-push}
+use Rattle.grid_server.proofs.DoneLemmas.{Did, comes_less, After-push, did_held, did_less, replies-push, state_after-all, shows_part, shows_all, image_more, image_of, like_image, all_but_one, cut_or_whole}
 use Rattle.grid_server.proofs.CausesLemmas.{caused_none, caused_on, caused_more}
 use Rattle.grid_server.proofs.StoresLemmas.{stores_same}
 use Rattle.grid_server.specs.Causes.{AreCaused}
@@ -63,6 +65,7 @@ pub record Served {B : Type 0} (plugin : B → StoreState) (stores_old stores_no
   pub end : State
   pub after : After (IsKnown plugin since found main_old stores_old) (begins (grid_of found)) asked done end
   pub state : end ≡ state_of service.server
+  pub numbers : GivesNumbers (begins (grid_of found)) found.numbers.next_vault asked done end service.server.store.cat.numbers.next_vault
   pub number : service.number ≡ length done
   pub run : service.server.store.cat.numbers.run ≡ found.numbers.run + 1
   pub last : service.server.store.cat.numbers.last ≤ length done
@@ -92,6 +95,10 @@ served_none plugin stores ambient found since main from sink service told main_l
       end = begins (grid_of found);
       after = nothing_done;
       state = state;
+      numbers = (
+          let P : ℕ → Type 0 = λ k. GivesNumbers (begins (grid_of found)) found.numbers.next_vault [] [] (begins (grid_of found)) k in
+          subst P (sym (ap (λ (c : Cat). c.numbers.next_vault) cat)) none_given
+          );
       number = number;
       run = ap (λ (c : Cat). c.numbers.run) cat;
       last = omega (arith, ap (λ (c : Cat). c.numbers.last) cat);
@@ -131,6 +138,14 @@ module _ {B : Type 0} (plugin : B → StoreState) (stores_old stores_mid stores_
   same_kept : (main_new : DiskState) → Quiet old.server.store.cat since_now main_mid main_new → IsKept main_new.holds served.end.grid
   same_kept main_new q = record { cat = q.cat; stands = q.stands main_told; grid = q.like.grid ∙ ap (λ (s : State). s.grid) (sym served.state) }
 
+  -- the next vault file has the number that it had
+  same_next : (main_new : DiskState) → Rests main_mid main_new → HasNextVault main_new.holds old.server.store.cat.numbers.next_vault
+  same_next main_new rests = record {
+    cat = old.server.store.cat;
+    stands = (let P : Text → Type 0 = λ t. StandsFor t old.server.store.cat in subst P (sym (rests.stays main_told)) (held_stands main_mid old.server served.held main_told));
+    next = refl;
+  }
+
   -- what a stop leaves is as it was
   same_images : (main_new : DiskState) (sink_new : SinkState) → Quiet old.server.store.cat since_now main_mid main_new → Rests sink_mid sink_new → IsTrue sink_old.tells → IsSettled main_old → IsSettled sink_old → (t : ℕ) (main sink : Text) → since < t
       → main_new.left t main → sink_new.left t sink → OneImage found served.done sink_old.holds main sink
@@ -145,13 +160,15 @@ module _ {B : Type 0} (plugin : B → StoreState) (stores_old stores_mid stores_
 
   -- a run that ends without another request
   ends_quiet : (main_new : DiskState) (to : SourceState) (sink_new : SinkState) (s : Status) → Begins from.left served.asked → Quiet old.server.store.cat since_now main_mid main_new → Rests sink_mid sink_new → DrawsIfTold [] ambient_mid ambient_new
-      → Ends found served.asked served.done served.end main_new from to sink_old sink_new s → Serves plugin stores_old stores_new ambient_old ambient_new found since main_old main_new from to sink_old sink_new s
+      → Ends found served.asked served.done served.end old.server.store.cat.numbers.next_vault main_new from to sink_old sink_new s → Serves plugin stores_old stores_new ambient_old ambient_new found since main_old main_new from to sink_old sink_new s
   ends_quiet main_new to sink_new s first q sink_rests drawn ends = record {
     asked = served.asked;
     first = first;
     done = served.done;
     end = served.end;
     after = served.after;
+    number = old.server.store.cat.numbers.next_vault;
+    numbers = served.numbers;
     shown = λ told. shows_all sink_old.holds served.done sink_new.holds (same_shown sink_new sink_rests told);
     caused = caused_on plugin since since_now (marks_of served.done) stores_old stores_mid stores_new first_went then_went served.caused;
     drawn = draws_still (marks_of served.done) ambient_old ambient_mid ambient_new served.drawn drawn;
@@ -167,6 +184,19 @@ module _ {B : Type 0} (plugin : B → StoreState) (stores_old stores_mid stores_
     did_next d comes =
         let P : State → Type 0 = λ s. Did (IsKnown plugin since_now old.server.store.cat main_mid stores_mid) s request.line request.body d in
         subst P (sym served.state) (did_held (IsKnown plugin since_now old.server.store.cat main_mid stores_mid) (state_of old.server) held request.line request.body asked d held_is asks comes)
+
+    asks_it : Asks request.line request.body asked
+    asks_it = let L : Text → Type 0 = λ t. Asks t request.body asked in asks_held request.line request.body asked (subst L held_is asks)
+
+    -- there is a number for it
+    numbered : HasNumber (state_of old.server) asked old.server.store.cat.numbers.next_vault → HasNumber served.end asked old.server.store.cat.numbers.next_vault
+    numbered has = let P : State → Type 0 = λ s. HasNumber s asked old.server.store.cat.numbers.next_vault in subst P (sym served.state) has
+
+    more_numbers : (d : Done) → HasNumber (state_of old.server) asked old.server.store.cat.numbers.next_vault
+        → GivesNumbers (begins (grid_of found)) found.numbers.next_vault (served.asked ++ request ∷ []) (served.done ++ d ∷ []) d.state (old.server.store.cat.numbers.next_vault + numbers_given (act (state_of old.server) asked))
+    more_numbers d has =
+        let P : State → Type 0 = λ s. GivesNumbers (begins (grid_of found)) found.numbers.next_vault (served.asked ++ request ∷ []) (served.done ++ d ∷ []) d.state (old.server.store.cat.numbers.next_vault + numbers_given (act s asked)) in
+        subst P served.state (GivesNumbers-push request d asked asks_it (numbered has) served.numbers)
 
     last_within : (b : Bool) → last_of b (old.number + 1) old.server.store.cat.numbers.last ≤ length served.done + 1
     last_within true = omega (arith, served.number)
@@ -207,15 +237,25 @@ module _ {B : Type 0} (plugin : B → StoreState) (stores_old stores_mid stores_
       kept_more works_held state =
           record { cat = new.store.cat; stands = held_stands main_new new works_held (subst IsTrue (sym works.main.tells) main_told); grid = ap (λ (s : State). s.grid) state }
 
+      -- the next vault file has the number after it
+      next_more : IsHeld main_new new → new.store.cat ≡ works.after → HasNextVault main_new.holds (old.server.store.cat.numbers.next_vault + numbers_given (act (state_of old.server) asked))
+      next_more works_held cat = record {
+        cat = new.store.cat;
+        stands = held_stands main_new new works_held (subst IsTrue (sym works.main.tells) main_told);
+        next = ap (λ (c : Cat). c.numbers.next_vault) cat ∙ works.follows.next_vault;
+      }
+
       -- the run ends with it, of whose reply a first part is shown
       cut : (to : SourceState) (s : Status) → Begins from.left (served.asked ++ request ∷ []) → (IsTrue sink_mid.tells → AddsPart (reply (old.number + 1) works.d.answer) sink_mid.holds sink_new.holds)
-          → Ends found (served.asked ++ request ∷ []) (served.done ++ works.d ∷ []) works.d.state main_new from to sink_old sink_new s → Serves plugin stores_old stores_new ambient_old ambient_new found since main_old main_new from to sink_old sink_new s
+          → Ends found (served.asked ++ request ∷ []) (served.done ++ works.d ∷ []) works.d.state (old.server.store.cat.numbers.next_vault + numbers_given (act (state_of old.server) asked)) main_new from to sink_old sink_new s → Serves plugin stores_old stores_new ambient_old ambient_new found since main_old main_new from to sink_old sink_new s
       cut to s begins_more adds ends = record {
         asked = served.asked ++ request ∷ [];
         first = begins_more;
         done = served.done ++ works.d ∷ [];
         end = works.d.state;
         after = after_more;
+        number = old.server.store.cat.numbers.next_vault + numbers_given (act (state_of old.server) asked);
+        numbers = more_numbers works.d works.number;
         shown = λ told.
             all_but_one sink_old.holds served.done works.d sink_new.holds
             (shows_part sink_old.holds sink_mid.holds served.done works.d (old.number + 1) sink_new.holds (omega (arith, served.number)) (served.shown told) (adds (sink_told told)));
@@ -240,6 +280,10 @@ module _ {B : Type 0} (plugin : B → StoreState) (stores_old stores_mid stores_
           end = works.d.state;
           after = after_more main_new sink_new (Ok tt) new.server works;
           state = sym works.ends.0.state;
+          numbers = (
+              let P : ℕ → Type 0 = λ k. GivesNumbers (begins (grid_of found)) found.numbers.next_vault (served.asked ++ request ∷ []) (served.done ++ works.d ∷ []) works.d.state k in
+              subst P (sym (ap (λ (c : Cat). c.numbers.next_vault) same ∙ works.follows.next_vault)) (more_numbers works.d works.number)
+              );
           number = omega (arith, number, served.number, length-append served.done (works.d ∷ []));
           run = ap (λ (c : Cat). c.numbers.run) same ∙ works.follows.run ∙ served.run;
           last = omega (arith, ap (λ (c : Cat). c.numbers.last) same, works.follows.last, last_within works.d.changed, served.last, length-append served.done (works.d ∷ []));
@@ -258,31 +302,45 @@ module _ {B : Type 0} (plugin : B → StoreState) (stores_old stores_mid stores_
         → Answers plugin stores_mid stores_new ambient_mid ambient_new old.server asked (old.number + 1) since_now main_mid main_new sink_mid sink_new (Err s) new → Serves plugin stores_old stores_new ambient_old ambient_new found since main_old main_new from to sink_old sink_new (status_of s)
     stops new main_new to sink_new stop.Disk first begins_more (worked w) = cut main_new sink_new (Err stop.Disk) new w to status.DiskFault begins_more (λ told. (
         let P : Text → Type 0 = λ t. AddsPart (reply (old.number + 1) w.d.answer) sink_mid.holds t in subst P (sym (w.ends told)) (adds_none (reply (old.number + 1) w.d.answer) sink_mid.holds))) tt
-    stops new main_new to sink_new stop.Sink first begins_more (worked w) = cut main_new sink_new (Err stop.Sink) new w to status.SinkFault begins_more w.ends.1 (kept_more main_new sink_new (Err stop.Sink) new w w.ends.0.held w.ends.0.state)
+    stops new main_new to sink_new stop.Sink first begins_more (worked w) = cut main_new sink_new (Err stop.Sink) new w to status.SinkFault begins_more w.ends.1 (kept_more main_new sink_new (Err stop.Sink) new w w.ends.0.held w.ends.0.state, next_more main_new sink_new (Err stop.Sink) new w w.ends.0.held w.ends.0.cat)
     stops new main_new to sink_new stop.Memory first begins_more (worked w) = cut main_new sink_new (Err stop.Memory) new w to status.Memory begins_more w.ends.1 (kept_more main_new sink_new (Err stop.Memory) new w w.ends.0.held w.ends.0.state)
     stops new main_new to sink_new (stop.Worn what place) first begins_more (worked w) = absurd w.ends
     stops new main_new to sink_new s first begins_more (not_begun is q sink drawn) =
         let S : Stop → Type 0 = λ x. Serves plugin stores_old stores_new ambient_old ambient_new found since main_old main_new from to sink_old sink_new (status_of x) in
         subst S (sym (stop_is s stop.Memory is)) (ends_quiet main_new to sink_new status.Memory first q sink drawn (same_kept main_new q))
-    stops new main_new to sink_new s first begins_more (log_worn place d is comes changed far closes q sink drawn) =
+    stops new main_new to sink_new s first begins_more (log_worn place d is comes numbered_so changed far closes q sink drawn) =
         let S : Stop → Type 0 = λ x. Serves plugin stores_old stores_new ambient_old ambient_new found since main_old main_new from to sink_old sink_new (status_of x) in
         subst S (sym (stop_is s (stop.Worn wear.Log place) is))
         (ends_quiet main_new to sink_new (status.Worn wear.Log place) first q sink drawn (
-          (far, closes main_told, inr (record { request = request; begins = begins_more; next = d; did = did_less (IsKnown plugin since_now old.server.store.cat main_mid stores_mid) (λ slot. ⊥) (λ slot no. absurd no) served.end request.line request.body d (did_next d comes); changes = changed })),
+          (
+            far,
+            closes main_told,
+            inr (record {
+              what = asked;
+              is = record { request = request; begins = begins_more; asks = asks_it };
+              next = d;
+              comes =
+                  let known = IsKnown plugin since_now old.server.store.cat main_mid stores_mid in
+                  let P : State → Type 0 = λ s. Comes (λ slot. ⊥) s (act s asked) d in
+                  subst P (sym served.state) (comes_less known (λ slot. ⊥) (λ slot no. absurd no) (state_of old.server) (act (state_of old.server) asked) d comes);
+              changes = changed;
+              numbered = numbered numbered_so;
+            }),
+          ),
           same_shown sink_new sink,
           same_kept main_new q,
         ))
     stops new main_new to sink_new s first begins_more (vaults_worn is puts far main sink drawn) =
         let S : Stop → Type 0 = λ x. Serves plugin stores_old stores_new ambient_old ambient_new found since main_old main_new from to sink_old sink_new (status_of x) in
         let q = quiet main_new main in
-        let L : Text → Type 0 = λ t. Asks t request.body asked in
         let A : State → Type 0 = λ s. AsksToPut s asked in
         subst S (sym (stop_is s (stop.Worn wear.Vaults old.server.store.cat.numbers.next_vault) is))
         (ends_quiet main_new to sink_new (status.Worn wear.Vaults old.server.store.cat.numbers.next_vault) first q sink drawn (
           (
+            refl,
             far,
-            record { cat = old.server.store.cat; stands = (let P : Text → Type 0 = λ t. StandsFor t old.server.store.cat in subst P (sym (main.stays main_told)) (held_stands main_mid old.server served.held main_told)); next = refl },
-            record { request = request; begins = begins_more; what = asked; asks = asks_held request.line request.body asked (subst L held_is asks); puts = subst A (sym served.state) puts },
+            same_next main_new main,
+            record { what = asked; is = record { request = request; begins = begins_more; asks = asks_it }; puts = subst A (sym served.state) puts },
           ),
           same_shown sink_new sink,
           same_kept main_new q,
@@ -423,7 +481,7 @@ module _ {B : Type 0} (plugin : B → StoreState) (stores_old stores_mid stores_
       → Answers plugin stores_mid stores_new ambient_mid ambient_new old.server asked (old.number + 1) since_now main_mid main_new sink_mid sink_new (Ok tt) new.server → new.number ≡ old.number + 1 → Served plugin stores_old stores_new ambient_old ambient_new found since main_old main_new from to sink_old sink_new new
   next_handled new main_new to sink_new asked held body w asks (worked works) number = next_worked w.request asked held w.held_is (asks_same held asked body w.request.body w.body_is asks) new main_new to sink_new w.front w.split w.taken w.takes number works
   next_handled new main_new to sink_new asked held body w asks (not_begun is main sink drawn) number = absurd (cc)
-  next_handled new main_new to sink_new asked held body w asks (log_worn place d is comes changed far closes main sink drawn) number = absurd (cc)
+  next_handled new main_new to sink_new asked held body w asks (log_worn place d is comes numbered changed far closes main sink drawn) number = absurd (cc)
   next_handled new main_new to sink_new asked held body w asks (vaults_worn is puts far main sink drawn) number = absurd (cc)
 
   next_skipped : (new : Service) (main_new : DiskState) (to : SourceState) (sink_new : SinkState) (held : Text) (reads : ReadsLine old.reader ended.Line new.reader mid to held) → is_request held ≡ false
@@ -447,6 +505,10 @@ module _ {B : Type 0} (plugin : B → StoreState) (stores_old stores_mid stores_
     end = served.end;
     after = served.after;
     state = served.state ∙ ap state_of (sym server);
+    numbers = (
+        let P : ℕ → Type 0 = λ k. GivesNumbers (begins (grid_of found)) found.numbers.next_vault served.asked served.done served.end k in
+        subst P (ap (λ (s : Server). s.store.cat.numbers.next_vault) (sym server)) served.numbers
+        );
     number = omega (arith, number, served.number);
     run = ap (λ (s : Server). s.store.cat.numbers.run) server ∙ served.run;
     last = omega (arith, ap (λ (s : Server). s.store.cat.numbers.last) server, served.last);
@@ -479,7 +541,7 @@ module _ {B : Type 0} (plugin : B → StoreState) (stores_old stores_mid stores_
   end_answered : (new : Service) (main_new : DiskState) (to : SourceState) (sink_new : SinkState) (asked : Result Verb Refusal) (held body : Text) (l : Last to held body) → Asks held body asked
       → Answers plugin stores_mid stores_new ambient_mid ambient_new old.server asked (old.number + 1) since_now main_mid main_new sink_mid sink_new (Ok tt) new.server → Serves plugin stores_old stores_new ambient_old ambient_new found since main_old main_new from to sink_old sink_new status.Done
   end_answered new main_new to sink_new asked held body l asks (not_begun is main sink drawn) = absurd (cc)
-  end_answered new main_new to sink_new asked held body l asks (log_worn place d is comes changed far closes main sink drawn) = absurd (cc)
+  end_answered new main_new to sink_new asked held body l asks (log_worn place d is comes numbered changed far closes main sink drawn) = absurd (cc)
   end_answered new main_new to sink_new asked held body l asks (vaults_worn is puts far main sink drawn) = absurd (cc)
   end_answered new main_new to sink_new asked held body l asks_so (worked w) =
       let asks = asks_same held asked body l.request.body l.body_is asks_so in
@@ -490,10 +552,12 @@ module _ {B : Type 0} (plugin : B → StoreState) (stores_old stores_mid stores_
         done = served.done ++ w.d ∷ [];
         end = w.d.state;
         after = after_more l.request asked held l.held_is asks main_new sink_new (Ok tt) new.server w;
+        number = old.server.store.cat.numbers.next_vault + numbers_given (act (state_of old.server) asked);
+        numbers = more_numbers l.request asked held l.held_is asks w.d w.number;
         shown = λ told. shows_all sink_old.holds (served.done ++ w.d ∷ []) sink_new.holds (all told);
         caused = caused_more plugin since since_now served.done w.d stores_old stores_mid stores_new first_went then_went served.caused w.caused;
         drawn = draws_more served.done w.d ambient_old ambient_mid ambient_new served.drawn w.drawn;
-        ends = (record { are = l.are; all = l.all; fits = l.fits }, all, kept_more l.request asked held l.held_is asks main_new sink_new (Ok tt) new.server w w.ends.0.held w.ends.0.state);
+        ends = (record { are = l.are; all = l.all; fits = l.fits }, all, kept_more l.request asked held l.held_is asks main_new sink_new (Ok tt) new.server w w.ends.0.held w.ends.0.state, next_more l.request asked held l.held_is asks main_new sink_new (Ok tt) new.server w w.ends.0.held w.ends.0.cat);
         images = more_images l.request asked held l.held_is asks main_new sink_new (Ok tt) new.server w;
       }
 
@@ -520,7 +584,7 @@ module _ {B : Type 0} (plugin : B → StoreState) (stores_old stores_mid stores_
         are = sym (append-nil served.asked);
       } in
       ends_quiet main_new to sink_new status.Done (inr are) (quiet main_new main_rests) sink_rests drawn
-      (record { are = are; all = (reads.ends.2 source_told).1; fits = last_fits new.reader to held reads }, same_shown sink_new sink_rests, same_kept main_new (quiet main_new main_rests))
+      (record { are = are; all = (reads.ends.2 source_told).1; fits = last_fits new.reader to held reads }, same_shown sink_new sink_rests, same_kept main_new (quiet main_new main_rests), same_next main_new main_rests)
 
   -- more bytes than are read stand behind these
   ends_long : (main_new : DiskState) (to : SourceState) (sink_new : SinkState) (rest : Text) (byte : ℕ) → from.left ≡ (served.front ++ rest) ++ byte ∷ to.left → length (served.front ++ rest) ≡ 2 ^ 48 → IsPart rest
@@ -539,6 +603,7 @@ module _ {B : Type 0} (plugin : B → StoreState) (stores_old stores_mid stores_
         },
         same_shown sink_new sink_rests,
         same_kept main_new (quiet main_new main_rests),
+        same_next main_new main_rests,
       )
 
   end_long_line : (new : Service) (main_new : DiskState) (to : SourceState) (sink_new : SinkState) (held : Text) → ReadsLine old.reader ended.Long new.reader mid to held → Rests main_mid main_new → Rests sink_mid sink_new → DrawsIfTold [] ambient_mid ambient_new
@@ -588,7 +653,7 @@ module _ {B : Type 0} (plugin : B → StoreState) (stores_old stores_mid stores_
       → Serves plugin stores_old stores_new ambient_old ambient_new found since main_old main_new from to sink_old sink_new status.SourceFault
   ends_broken main_new to sink_new rest split part main_rests sink_rests drawn =
       ends_quiet main_new to sink_new status.SourceFault so_far (quiet main_new main_rests) sink_rests drawn
-      (record { taken = served.front ++ rest; split = split; left = rest; takes = takes_of (served.front ++ rest) served.front rest served.asked refl served.takes; part = part }, same_shown sink_new sink_rests, same_kept main_new (quiet main_new main_rests))
+      (record { taken = served.front ++ rest; split = split; left = rest; takes = takes_of (served.front ++ rest) served.front rest served.asked refl served.takes; part = part }, same_shown sink_new sink_rests, same_kept main_new (quiet main_new main_rests), same_next main_new main_rests)
 
   end_broken_line : (main_new : DiskState) (to : SourceState) (sink_new : SinkState) → ReadsPart old.reader mid to → Rests main_mid main_new → Rests sink_mid sink_new → DrawsIfTold [] ambient_mid ambient_new → Serves plugin stores_old stores_new ambient_old ambient_new found since main_old main_new from to sink_old sink_new status.SourceFault
   end_broken_line main_new to sink_new part main_rests sink_rests drawn =
@@ -646,6 +711,8 @@ ends_at_once plugin stores ambient found since main from sink server told main_l
       done = [];
       end = begins (grid_of found);
       after = nothing_done;
+      number = found.numbers.next_vault;
+      numbers = none_given;
       shown = λ sink_told. shows_all sink.holds [] sink.holds (sym (append-nil sink.holds));
       caused = caused_none plugin 0 [] stores stores (λ slot. refl) tt (stores_same plugin 0 stores);
       drawn = draws_none ambient;

@@ -314,10 +314,10 @@ digest_fits d size below = and_from (length d == 32) (list_all is_byte d) (eqb-s
 
 -- what the writing of a file ended with
 module _ {B : Type 0} (plugin : B → StoreState) (stores_old stores_new : List B) (old : Server) (st : Storing) (p : Path) (leaf : Text) (n time from : ℕ) (main_old main_new : DiskState) (new : Server) where
-  pub stores_none : (o : Option Fault) → o ≡ None → Stores plugin stores_old stores_new old st p leaf n time from main_old main_new (Ok o) new → (word : ℕ) → Carries old (stored (state_of old) p leaf st.body word time) n from main_old main_new (Ok tt) new
+  pub stores_none : (o : Option Fault) → o ≡ None → Stores plugin stores_old stores_new old st p leaf n time from main_old main_new (Ok o) new → (word : ℕ) → Carries old (stored (state_of old) p leaf st.body word time) n 1 from main_old main_new (Ok tt) new
   stores_none None e stores = stores
   stores_none (Some x) e stores = absurd (cc)
 
-  pub stores_some : (o : Option Fault) (fault : Fault) → o ≡ Some fault → Stores plugin stores_old stores_new old st p leaf n time from main_old main_new (Ok o) new → (fault.slot ≡ st.slot) × RoseAt plugin st.slot stores_old stores_new × Carries old (failed (state_of old) st.slot []) n from main_old main_new (Ok tt) new
+  pub stores_some : (o : Option Fault) (fault : Fault) → o ≡ Some fault → Stores plugin stores_old stores_new old st p leaf n time from main_old main_new (Ok o) new → (fault.slot ≡ st.slot) × RoseAt plugin st.slot stores_old stores_new × Carries old (failed (state_of old) st.slot []) n 1 from main_old main_new (Ok tt) new
   stores_some None fault e stores = absurd (cc)
   stores_some (Some x) fault e stores = let same : x ≡ fault = cc in (ap (λ (f : Fault). f.slot) (sym same) ∙ stores.0, stores.1, stores.2)

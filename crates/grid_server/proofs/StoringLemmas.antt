@@ -75,12 +75,13 @@ module _ (old : Server) (st : Storing) (p : Path) (leaf body : Text) (ok : IsSto
   abbrev good : ℕ → Done
   good word = stored (state_of old) p leaf st.body word time
 
-  follows : (word : ℕ) → Follows c (good word) n then
+  follows : (word : ℕ) → Follows c (good word) n 1 then
   follows word = record {
     grid = rows.grid_kept c m st p leaf body ok time n;
     stores = refl;
     run = refl;
     last = refl;
+    next_vault = refl;
     pending = refl;
     same = λ no. absurd (cc);
   }
@@ -96,7 +97,7 @@ module _ (old : Server) (st : Storing) (p : Path) (leaf body : Text) (ok : IsSto
       ap (λ (x : Cat). apply_all x deltas) mid_is ∙ ap (apply_all first) (are c (sym (k_is ∙ ap (λ (x : Cat). x.numbers) same))) ∙ rows.applied_stored c m st p leaf body ok time n
 
   -- memory ran out before anything was done
-  pub unbegun : (mid : Server) (word : ℕ) → Carries old (good word) n from main_old main_old (Err stop.Memory) mid
+  pub unbegun : (mid : Server) (word : ℕ) → Carries old (good word) n 1 from main_old main_old (Err stop.Memory) mid
   unbegun mid word = record {
     after = then;
     follows = follows word;
@@ -117,7 +118,7 @@ module _ (old : Server) (st : Storing) (p : Path) (leaf body : Text) (ok : IsSto
 
   module _ (main_mid : DiskState) (mid : Server) where
     -- it failed
-    pub first_failed : (s : Stop) → IsCommitted old first from main_old main_mid (Err s) mid → (word : ℕ) → Carries old (good word) n from main_old main_mid (Err s) mid
+    pub first_failed : (s : Stop) → IsCommitted old first from main_old main_mid (Err s) mid → (word : ℕ) → Carries old (good word) n 1 from main_old main_mid (Err s) mid
     first_failed s committed word = record {
       after = then;
       follows = follows word;
@@ -150,10 +151,10 @@ module _ (old : Server) (st : Storing) (p : Path) (leaf body : Text) (ok : IsSto
       stood told = let P : Cat → Type 0 = λ x. StandsFor main_mid.holds x in subst P committed.ends.1 (held_stands main_mid mid committed.ends.0 (mid_told told))
 
       -- and the store failed
-      pub store_failed : Carries old (failed (state_of old) st.slot []) n from main_old main_mid (Ok tt) mid
+      pub store_failed : Carries old (failed (state_of old) st.slot []) n 1 from main_old main_mid (Ok tt) mid
       store_failed = record {
         after = first;
-        follows = record { grid = like.grid; stores = like.stores; run = like.run; last = like.last; pending = like.pending; same = λ no. like.grid };
+        follows = record { grid = like.grid; stores = like.stores; run = like.run; last = like.last; next_vault = refl; pending = like.pending; same = λ no. like.grid };
         ends = record {
           held = committed.ends.0;
           state =
@@ -177,7 +178,7 @@ module _ (old : Server) (st : Storing) (p : Path) (leaf body : Text) (ok : IsSto
       }
 
       -- and then memory ran out
-      pub between : (word : ℕ) → Carries old (good word) n from main_old main_mid (Err stop.Memory) mid
+      pub between : (word : ℕ) → Carries old (good word) n 1 from main_old main_mid (Err stop.Memory) mid
       between word = record {
         after = then;
         follows = follows word;
@@ -188,7 +189,7 @@ module _ (old : Server) (st : Storing) (p : Path) (leaf body : Text) (ok : IsSto
 
       -- and then the object was kept, or how far that came, after so many moments
       module _ (at : ℕ) (later : from ≤ at) (mid_last : main_mid.last ≤ at) (main_new : DiskState) (new : Server) where
-        pub then_kept : (result : Result ⊤ Stop) → IsCommitted mid then at main_mid main_new result new → (word : ℕ) → Carries old (good word) n from main_old main_new result new
+        pub then_kept : (result : Result ⊤ Stop) → IsCommitted mid then at main_mid main_new result new → (word : ℕ) → Carries old (good word) n 1 from main_old main_new result new
         then_kept result again word = record {
           after = then;
           follows = follows word;

@@ -97,7 +97,7 @@ module _ {B : Type 0} (plugin : B → StoreState) (stores_old stores_new : List 
   goes_answers : (n : ℕ) (r : _) (asked : _) → Answers plugin stores_old stores_new ambient_old ambient_new old.server asked n since main_old main_new sink_old sink_new r new.server → Goes since main_old main_new × Goes since sink_old sink_new
   goes_answers n r asked (worked w) = (w.main, w.sink)
   goes_answers n r asked (not_begun e main sink drawn) = (main.main, goes_rest since sink_old sink_new sink)
-  goes_answers n r asked (log_worn place d e comes changed far closes main sink drawn) = (main.main, goes_rest since sink_old sink_new sink)
+  goes_answers n r asked (log_worn place d e comes numbered changed far closes main sink drawn) = (main.main, goes_rest since sink_old sink_new sink)
   goes_answers n r asked (vaults_worn e puts far main sink drawn) = (goes_rest since main_old main_new main, goes_rest since sink_old sink_new sink)
 
   -- what a stop before the turn may leave is as before
@@ -113,7 +113,7 @@ module _ {B : Type 0} (plugin : B → StoreState) (stores_old stores_new : List 
       by_answers : Answers plugin stores_old stores_new ambient_old ambient_new old.server asked (old.number + 1) since main_old main_new sink_old sink_new (Ok tt) new.server → IsHeld main_new new.server
       by_answers (worked w) = w.ends.0.held
       by_answers (not_begun is main sink drawn) = absurd (cc)
-      by_answers (log_worn place d is comes changed far closes main sink drawn) = absurd (cc)
+      by_answers (log_worn place d is comes numbered changed far closes main sink drawn) = absurd (cc)
       by_answers (vaults_worn is puts far main sink drawn) = absurd (cc)
   turn_holds o (stopped asked over stop finds handles) e held = absurd (cc)
   turn_holds o (idle taken finds is idles) e held =
@@ -127,7 +127,7 @@ module _ {B : Type 0} (plugin : B → StoreState) (stores_old stores_new : List 
       by_answers : Answers plugin stores_old stores_new ambient_old ambient_new old.server asked (old.number + 1) since main_old main_new sink_old sink_new (Ok tt) new.server → new.server.store.cat.stores ≡ old.server.store.cat.stores
       by_answers (worked w) = ap (λ (c : Cat). c.stores) w.ends.0.cat ∙ w.follows.stores
       by_answers (not_begun is main sink drawn) = absurd (cc)
-      by_answers (log_worn place d is comes changed far closes main sink drawn) = absurd (cc)
+      by_answers (log_worn place d is comes numbered changed far closes main sink drawn) = absurd (cc)
       by_answers (vaults_worn is puts far main sink drawn) = absurd (cc)
   turn_stores o (stopped asked over stop finds handles) e = absurd (cc)
   turn_stores o (idle taken finds is idles) e = ap (λ (s : Server). s.store.cat.stores) idles.server
@@ -139,7 +139,7 @@ module _ {B : Type 0} (plugin : B → StoreState) (stores_old stores_new : List 
       by_answers : Answers plugin stores_old stores_new ambient_old ambient_new old.server asked (old.number + 1) since main_old main_new sink_old sink_new (Ok tt) new.server → IsTrue main_old.tells → IsSettled main_old → IsSettled main_new
       by_answers (worked w) = w.ends.0.settled
       by_answers (not_begun is main sink drawn) = absurd (cc)
-      by_answers (log_worn place d is comes changed far closes main sink drawn) = absurd (cc)
+      by_answers (log_worn place d is comes numbered changed far closes main sink drawn) = absurd (cc)
       by_answers (vaults_worn is puts far main sink drawn) = absurd (cc)
   turn_settles o (stopped asked over stop finds handles) e = absurd (cc)
   turn_settles o (idle taken finds is idles) e = λ told settled t image late left. settled t image (omega (arith, late, idles.main.last)) (idles.main.left t image left) ∙ sym (idles.main.stays told)

@@ -1,19 +1,16 @@
 -- What the answering of one request leaves.
-use Rattle.std.specs.Prelude.{◌≡◌, ℕ, ◌-◌, ◌^◌, ◌<◌, true, List, [], nat_le, Result, Ok, Err, IsTrue, ⊤}
+use Rattle.std.specs.Prelude.{◌≡◌, ℕ, ◌^◌, ◌<◌, true, List, [], Result, Ok, Err, IsTrue, ⊤}
 use Rattle.grid_outside.specs.Ambient.{AmbientState}
 use Rattle.grid_outside.specs.Device.{IsSettled}
 use Rattle.grid_outside.specs.Disk.{DiskState}
 use Rattle.grid_outside.specs.Files.{StoreState}
 use Rattle.grid_outside.specs.Sink.{SinkState, AddsPart}
 use Rattle.grid_outside.specs.declared.outside.Wear.TheVariants.{Log, Vaults}
-use Rattle.grid_model.specs.Names.{Text, Path}
-use Rattle.grid_model.specs.Limits.{object_size}
+use Rattle.grid_model.specs.Names.{Text}
 use Rattle.grid_model.specs.Rows.{Cat}
-use Rattle.grid_model.specs.Commands.{State, Done, Comes, act}
-use Rattle.grid_model.specs.Requests.{Asks}
+use Rattle.grid_model.specs.Commands.{Done, Comes, act}
 use Rattle.grid_model.specs.Replies.{reply}
 use Rattle.grid_model.specs.declared.requests.Verb.{Verb}
-use Rattle.grid_model.specs.declared.requests.Verb.TheVariants.{Put}
 use Rattle.grid_model.specs.declared.refusal.Refusal.{Refusal}
 use Rattle.grid_server.specs.declared.server.Server.{Server}
 use Rattle.grid_server.specs.declared.server.Stop.{Stop}
@@ -23,23 +20,8 @@ use Rattle.grid_server.specs.Held.{state_of, ClosesAt, IsLike}
 use Rattle.grid_server.specs.Causes.{AreCaused}
 use Rattle.grid_server.specs.Safe.{IsKnown}
 use Rattle.grid_server.specs.Drawing.{DrawsIfTold}
+use Rattle.grid_server.specs.Wearing.{last_vault, AsksToPut, HasNumber, numbers_given}
 use Rattle.grid_server.specs.Keeping.{Adds, Stays, Goes, Rests, Follows, Does, Quiet}
-
--- ---- wear
-
--- the greatest number that the next vault file may have where a file is to be made, which is this project's own
-abbrev pub last_vault : ℕ
-last_vault = 2 ^ 64 - 2 ^ 33
-
--- a user puts a body that is not too large
-pub record AsksToPut (s : State) (asked : Result Verb Refusal) : Type 0 where
-  pub path : Path
-  pub resource : Text
-  pub count : ℕ
-  pub body : Text
-  pub is : asked ≡ Ok (Put path resource count body)
-  pub logged_in : s.logged_in ≡ true
-  pub small : IsTrue (nat_le count object_size)
 
 -- ---- what a stop leaves
 
@@ -69,7 +51,8 @@ pub record Works {B : Type 0} (plugin : B → StoreState) (stores_old stores_new
   pub d : Done
   pub comes : Comes (IsKnown plugin from old.store.cat main_old stores_old) (state_of old) (act (state_of old) asked) d
   pub after : Cat
-  pub follows : Follows old.store.cat d n after
+  pub number : HasNumber (state_of old) asked old.store.cat.numbers.next_vault
+  pub follows : Follows old.store.cat d n (numbers_given (act (state_of old) asked)) after
   pub caused : AreCaused plugin d.answer.marks stores_old stores_new
   pub drawn : DrawsIfTold d.answer.marks ambient_old ambient_new
   pub ends : AnswerEnds old d n after main_old main_new sink_old sink_new result new
@@ -83,13 +66,7 @@ pub record Works {B : Type 0} (plugin : B → StoreState) (stores_old stores_new
 pub data Answers {B : Type 0} (plugin : B → StoreState) (stores_old stores_new : List B) (ambient_old ambient_new : AmbientState) (old : Server) (asked : Result Verb Refusal) (n : ℕ) (from : ℕ) (main_old main_new : DiskState) (sink_old sink_new : SinkState) (result : Result ⊤ Stop) (new : Server) : Type 0 where
   worked : Works plugin stores_old stores_new ambient_old ambient_new old asked n from main_old main_new sink_old sink_new result new → Answers plugin stores_old stores_new ambient_old ambient_new old asked n from main_old main_new sink_old sink_new result new
   not_begun : result ≡ Err Memory → Quiet old.store.cat from main_old main_new → Rests sink_old sink_new → DrawsIfTold [] ambient_old ambient_new → Answers plugin stores_old stores_new ambient_old ambient_new old asked n from main_old main_new sink_old sink_new result new
-  log_worn : (place : ℕ) (d : Done) → result ≡ Err (Worn Log place) → Comes (IsKnown plugin from old.store.cat main_old stores_old) (state_of old) (act (state_of old) asked) d → d.changed ≡ true → 2 ^ 62 < place → (IsTrue main_old.tells → ClosesAt main_new.holds place)
+  log_worn : (place : ℕ) (d : Done) → result ≡ Err (Worn Log place) → Comes (IsKnown plugin from old.store.cat main_old stores_old) (state_of old) (act (state_of old) asked) d → HasNumber (state_of old) asked old.store.cat.numbers.next_vault → d.changed ≡ true → 2 ^ 62 < place → (IsTrue main_old.tells → ClosesAt main_new.holds place)
       → Quiet old.store.cat from main_old main_new → Rests sink_old sink_new → DrawsIfTold [] ambient_old ambient_new → Answers plugin stores_old stores_new ambient_old ambient_new old asked n from main_old main_new sink_old sink_new result new
   vaults_worn : result ≡ Err (Worn Vaults old.store.cat.numbers.next_vault) → AsksToPut (state_of old) asked → last_vault < old.store.cat.numbers.next_vault → Rests main_old main_new → Rests sink_old sink_new → DrawsIfTold [] ambient_old ambient_new
       → Answers plugin stores_old stores_new ambient_old ambient_new old asked n from main_old main_new sink_old sink_new result new
-
--- a line with its body asked for something, and this came of it
-pub record Did (known : ℕ → Type 0) (s : State) (line body : Text) (d : Done) : Type 0 where
-  pub asked : Result Verb Refusal
-  pub asks : Asks line body asked
-  pub comes : Comes known s (act s asked) d

@@ -23,7 +23,7 @@ use Rattle.grid_server.specs.declared.decision.Plain.{Plain}
 use Rattle.grid_server.specs.declared.decision.Plain.TheVariants as plain
 use Rattle.grid_server.specs.declared.decision.Storing.{Storing}
 use Rattle.grid_server.specs.Held.{state_of}
-use Rattle.grid_server.specs.Answering.{AsksToPut, last_vault}
+use Rattle.grid_server.specs.Wearing.{AsksToPut, HasNumber, last_vault}
 
 -- ---- parts
 
@@ -90,7 +90,7 @@ DecidesMaking c p (plain.Make row) = ((s : State) → s.grid ≡ grid_of c → m
 
 -- what the putting of a body comes to
 abbrev pub DecidesPutting : Cat → Path → Text → Text → Decision → Type 0
-DecidesPutting c p name body (decision.Plain (plain.Refuse refusal)) = (s : State) → s.grid ≡ grid_of c → put_at s p name body ≡ does (refused s refusal)
+DecidesPutting c p name body (decision.Plain (plain.Refuse refusal)) = ((s : State) → s.grid ≡ grid_of c → put_at s p name body ≡ does (refused s refusal)) × (c.numbers.next_vault ≤ last_vault)
 DecidesPutting c p name body (decision.Plain other) = ⊥
 DecidesPutting c p name body (decision.Store storing) = ((s : State) → s.grid ≡ grid_of c → put_at s p name body ≡ writes p name storing.slot body) × IsStoring c p name body storing
 DecidesPutting c p name body (decision.Send file) = ⊥
@@ -122,7 +122,7 @@ pub record IsSending (c : Cat) (p : Path) (o : Object) (file : OldFile) : Type 0
 
 -- what a request comes to
 abbrev pub Decides : Server → Result Verb Refusal → Decision → Type 0
-Decides s asked (decision.Plain p) = DecidesPlain s (act (state_of s) asked) p
+Decides s asked (decision.Plain p) = DecidesPlain s (act (state_of s) asked) p × HasNumber (state_of s) asked s.store.cat.numbers.next_vault
 Decides s asked (decision.Store storing) = (p : Path) × (leaf : Text) × (body : Text) × (act (state_of s) asked ≡ writes p leaf storing.slot body) × IsStoring s.store.cat p leaf body storing
 Decides s asked (decision.Send file) = (p : Path) × (name : Text) × (o : Object) × (asked ≡ Ok (Get p name)) × (act (state_of s) asked ≡ reads o file.number file.slot) × IsSending s.store.cat p o file
 Decides s asked (decision.Worn place) = AsksToPut (state_of s) asked × (place ≡ s.store.cat.numbers.next_vault) × (last_vault < s.store.cat.numbers.next_vault)

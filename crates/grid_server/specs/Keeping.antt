@@ -1,5 +1,5 @@
 -- What is kept on main of what a request changes, and what a stop leaves of it.
-use Rattle.std.specs.Prelude.{◌≡◌, ℕ, ◌^◌, ◌<◌, ◌≤◌, Bool, true, false, List, ◌++◌, Result, Ok, Err, IsTrue, ⊤}
+use Rattle.std.specs.Prelude.{◌≡◌, ℕ, ◌+◌, ◌^◌, ◌<◌, ◌≤◌, Bool, true, false, List, ◌++◌, Result, Ok, Err, IsTrue, ⊤}
 use Rattle.grid_outside.specs.Device.{DeviceState, IsSettled, Leaves}
 use Rattle.grid_outside.specs.Disk.{DiskState}
 use Rattle.grid_outside.specs.declared.outside.Wear.TheVariants.{Log}
@@ -62,12 +62,13 @@ abbrev pub last_of : Bool → ℕ → ℕ → ℕ
 last_of true number last = number
 last_of false number last = last
 
--- The catalogue after a request of this number, over the one before.
-pub record Follows (before : Cat) (d : Done) (number : ℕ) (after : Cat) : Type 0 where
+-- The catalogue after a request of this number, to which so many numbers of vault files were given, over the one before.
+pub record Follows (before : Cat) (d : Done) (number given : ℕ) (after : Cat) : Type 0 where
   pub grid : grid_of after ≡ d.state.grid
   pub stores : after.stores ≡ before.stores
   pub run : after.numbers.run ≡ before.numbers.run
   pub last : after.numbers.last ≡ last_of d.changed number before.numbers.last
+  pub next_vault : after.numbers.next_vault ≡ before.numbers.next_vault + given
   pub pending : after.pending ≡ before.pending
   pub same : d.changed ≡ false → grid_of after ≡ grid_of before
 
@@ -101,9 +102,9 @@ CarryEnds old d after from main_old main_new (Err (Worn what place)) new =
     (d.changed ≡ true) × (what ≡ Log) × (2 ^ 62 < place) × (IsTrue main_old.tells → ClosesAt main_new.holds place) × Quiet old.store.cat from main_old main_new
 
 -- What a request does was kept, or how far that came, from so many moments on.
-pub record Carries (old : Server) (d : Done) (n : ℕ) (from : ℕ) (main_old main_new : DiskState) (result : Result ⊤ Stop) (new : Server) : Type 0 where
+pub record Carries (old : Server) (d : Done) (n given from : ℕ) (main_old main_new : DiskState) (result : Result ⊤ Stop) (new : Server) : Type 0 where
   pub after : Cat
-  pub follows : Follows old.store.cat d n after
+  pub follows : Follows old.store.cat d n given after
   pub ends : CarryEnds old d after from main_old main_new result new
   pub main : Goes from main_old main_new
   pub leaves : IsTrue main_old.tells → IsSettled main_old → Leaves from (KeptOrNot old.store.cat after) main_new

@@ -21,3 +21,4 @@ pub mod Stores
 pub mod Storing
 pub mod Tasks
 pub mod Turning
+pub mod Wearing

@@ -14,7 +14,7 @@ use Rattle.grid_model.specs.Rows.{Cat}
 use Rattle.grid_model.specs.RowGrids.{grid_of}
 use Rattle.grid_model.specs.Inputs.{Asked, Takes, AreRequests, IsPart}
 use Rattle.grid_model.specs.Requests.{Asks}
-use Rattle.grid_model.specs.Commands.{State, Done, After, state_after}
+use Rattle.grid_model.specs.Commands.{State, Done, Comes, act, After, state_after}
 use Rattle.grid_model.specs.declared.requests.Verb.{Verb}
 use Rattle.grid_model.specs.declared.refusal.Refusal.{Refusal}
 use Rattle.grid_model.specs.Replies.{reply, replies}
@@ -25,7 +25,7 @@ use Rattle.grid_server.specs.Held.{ClosesAt}
 use Rattle.grid_server.specs.Causes.{AreCaused}
 use Rattle.grid_server.specs.Safe.{IsKnown}
 use Rattle.grid_server.specs.Drawing.{marks_of, DrawsIfTold}
-use Rattle.grid_server.specs.Answering.{AsksToPut, Did, last_vault}
+use Rattle.grid_server.specs.Wearing.{last_vault, AsksToPut, HasNumber, GivesNumbers}
 
 -- nobody is logged in
 abbrev pub begins : Grid → State
@@ -119,20 +119,25 @@ pub record ReadMost (asked : List Asked) (from to : SourceState) : Type 0 where
   pub takes : Takes (take (2 ^ 48) taken) asked left
   pub part : IsPart left
 
--- the next request changes something
-pub record NextChanges (input : Text) (asked : List Asked) (end : State) : Type 0 where
+-- this is what the next request asks for
+pub record IsNext (input : Text) (asked : List Asked) (what : Result Verb Refusal) : Type 0 where
   pub request : Asked
   pub begins : Begins input (asked ++ request ∷ [])
+  pub asks : Asks request.line request.body what
+
+-- the next request changes something, and there is a number for it
+pub record NextChanges (input : Text) (asked : List Asked) (end : State) (number : ℕ) : Type 0 where
+  pub what : Result Verb Refusal
+  pub is : IsNext input asked what
   pub next : Done
-  pub did : Did (λ slot. ⊥) end request.line request.body next
+  pub comes : Comes (λ slot. ⊥) end (act end what) next
   pub changes : next.changed ≡ true
+  pub numbered : HasNumber end what number
 
 -- the next request puts a body
 pub record NextPuts (input : Text) (asked : List Asked) (end : State) : Type 0 where
-  pub request : Asked
-  pub begins : Begins input (asked ++ request ∷ [])
   pub what : Result Verb Refusal
-  pub asks : Asks request.line request.body what
+  pub is : IsNext input asked what
   pub puts : AsksToPut end what
 
 -- main stands for a catalogue whose next vault file has this number
@@ -143,24 +148,24 @@ pub record HasNextVault (main : Text) (number : ℕ) : Type 0 where
 
 -- what has run out: the numbers of runs, before anything was done; the numbers of vault files, of which the next request
 -- needs one; or the room behind the log, which either the beginning of the run or the next request needs
-abbrev pub WearsOut : Cat → Text → List Asked → State → DiskState → ℕ → Wear → Type 0
-WearsOut found input asked end main place wear.Runs = (asked ≡ []) × (place ≡ found.numbers.run) × (place ≡ 2 ^ 64 - 1)
-WearsOut found input asked end main place wear.Vaults = (last_vault < place) × HasNextVault main.holds place × NextPuts input asked end
-WearsOut found input asked end main place wear.Log = (2 ^ 62 < place) × ClosesAt main.holds place × (((asked ≡ []) × StandsFor main.holds found) ⊎ NextChanges input asked end)
+abbrev pub WearsOut : Cat → Text → List Asked → State → ℕ → DiskState → ℕ → Wear → Type 0
+WearsOut found input asked end number main place wear.Runs = (asked ≡ []) × (place ≡ found.numbers.run) × (place ≡ 2 ^ 64 - 1)
+WearsOut found input asked end number main place wear.Vaults = (place ≡ number) × (last_vault < number) × HasNextVault main.holds number × NextPuts input asked end
+WearsOut found input asked end number main place wear.Log = (2 ^ 62 < place) × ClosesAt main.holds place × (((asked ≡ []) × StandsFor main.holds found) ⊎ NextChanges input asked end number)
 
 -- what each status says. After a fault of a disk it says nothing of main, and `images` below is all that does
-abbrev pub Ends : Cat → List Asked → List Done → State → DiskState → SourceState → SourceState → SinkState → SinkState → Status → Type 0
-Ends found asked done end main from to sink_old sink_new status.Done = ReadAll asked from to × ShowsAll done sink_old sink_new × IsKept main.holds end.grid
-Ends found asked done end main from to sink_old sink_new status.SourceFault = ReadPart asked from to × ShowsAll done sink_old sink_new × IsKept main.holds end.grid
-Ends found asked done end main from to sink_old sink_new (status.Long taken) = (taken ≡ 2 ^ 48 + 1) × ReadMost asked from to × ShowsAll done sink_old sink_new × IsKept main.holds end.grid
-Ends found asked done end main from to sink_old sink_new status.Memory = IsKept main.holds end.grid
-Ends found asked done end main from to sink_old sink_new (status.Worn what place) = WearsOut found from.left asked end main place what × ShowsAll done sink_old sink_new × IsKept main.holds end.grid
-Ends found asked done end main from to sink_old sink_new status.DiskFault = Unit {0}
-Ends found asked done end main from to sink_old sink_new status.SinkFault = IsKept main.holds end.grid
-Ends found asked done end main from to sink_old sink_new status.Usage = ⊥
-Ends found asked done end main from to sink_old sink_new (status.NotACatalogue side place) = ⊥
-Ends found asked done end main from to sink_old sink_new (status.NotEmpty side len) = ⊥
-Ends found asked done end main from to sink_old sink_new (status.Stores had given) = ⊥
+abbrev pub Ends : Cat → List Asked → List Done → State → ℕ → DiskState → SourceState → SourceState → SinkState → SinkState → Status → Type 0
+Ends found asked done end number main from to sink_old sink_new status.Done = ReadAll asked from to × ShowsAll done sink_old sink_new × IsKept main.holds end.grid × HasNextVault main.holds number
+Ends found asked done end number main from to sink_old sink_new status.SourceFault = ReadPart asked from to × ShowsAll done sink_old sink_new × IsKept main.holds end.grid × HasNextVault main.holds number
+Ends found asked done end number main from to sink_old sink_new (status.Long taken) = (taken ≡ 2 ^ 48 + 1) × ReadMost asked from to × ShowsAll done sink_old sink_new × IsKept main.holds end.grid × HasNextVault main.holds number
+Ends found asked done end number main from to sink_old sink_new status.Memory = IsKept main.holds end.grid
+Ends found asked done end number main from to sink_old sink_new (status.Worn what place) = WearsOut found from.left asked end number main place what × ShowsAll done sink_old sink_new × IsKept main.holds end.grid
+Ends found asked done end number main from to sink_old sink_new status.DiskFault = Unit {0}
+Ends found asked done end number main from to sink_old sink_new status.SinkFault = IsKept main.holds end.grid × HasNextVault main.holds number
+Ends found asked done end number main from to sink_old sink_new status.Usage = ⊥
+Ends found asked done end number main from to sink_old sink_new (status.NotACatalogue side place) = ⊥
+Ends found asked done end number main from to sink_old sink_new (status.NotEmpty side len) = ⊥
+Ends found asked done end number main from to sink_old sink_new (status.Stores had given) = ⊥
 
 -- A run over this catalogue, from so many moments on: the requests that were begun, what each did, what is shown of
 -- their replies, of which at most the last one is not shown whole, and what a stop at any moment leaves. Each fault that the
@@ -171,10 +176,12 @@ pub record Serves {B : Type 0} (plugin : B → StoreState) (stores_old stores_ne
   pub done : List Done
   pub end : State
   pub after : After (IsKnown plugin since found main_old stores_old) (begins (grid_of found)) asked done end
+  pub number : ℕ
+  pub numbers : GivesNumbers (begins (grid_of found)) found.numbers.next_vault asked done end number
   pub shown : IsTrue sink_old.tells → AllButOne done sink_old.holds sink_new.holds
   pub caused : AreCaused plugin (marks_of done) stores_old stores_new
   pub drawn : DrawsIfTold (marks_of done) ambient_old ambient_new
-  pub ends : Ends found asked done end main_new from to sink_old sink_new s
+  pub ends : Ends found asked done end number main_new from to sink_old sink_new s
   pub images : IsTrue sink_old.tells → IsSettled main_old → IsSettled sink_old → (t : ℕ) (main sink : Text) → since < t → main_new.left t main → sink_new.left t sink
       → OneImage found done sink_old.holds main sink
 

@@ -37,9 +37,9 @@ stored_deltas c s time n =
 
 -- The body was written and its object is there, or a call of the slot failed and nothing is; or how far that came.
 abbrev pub Stores : {B : Type 0} → (B → StoreState) → List B → List B → Server → Storing → Path → Text → ℕ → ℕ → ℕ → DiskState → DiskState → Result (Option Fault) Stop → Server → Type 0
-Stores plugin stores_old stores_new old s p leaf n time from main_old main_new (Ok None) new = (word : ℕ) → Carries old (stored (state_of old) p leaf s.body word time) n from main_old main_new (Ok tt) new
-Stores plugin stores_old stores_new old s p leaf n time from main_old main_new (Ok (Some fault)) new = (fault.slot ≡ s.slot) × RoseAt plugin s.slot stores_old stores_new × Carries old (failed (state_of old) s.slot []) n from main_old main_new (Ok tt) new
-Stores plugin stores_old stores_new old s p leaf n time from main_old main_new (Err stop) new = (word : ℕ) → Carries old (stored (state_of old) p leaf s.body word time) n from main_old main_new (Err stop) new
+Stores plugin stores_old stores_new old s p leaf n time from main_old main_new (Ok None) new = (word : ℕ) → Carries old (stored (state_of old) p leaf s.body word time) n 1 from main_old main_new (Ok tt) new
+Stores plugin stores_old stores_new old s p leaf n time from main_old main_new (Ok (Some fault)) new = (fault.slot ≡ s.slot) × RoseAt plugin s.slot stores_old stores_new × Carries old (failed (state_of old) s.slot []) n 1 from main_old main_new (Ok tt) new
+Stores plugin stores_old stores_new old s p leaf n time from main_old main_new (Err stop) new = (word : ℕ) → Carries old (stored (state_of old) p leaf s.body word time) n 1 from main_old main_new (Err stop) new
 
 -- the reply to a body that was put
 abbrev pub stored_reply : ℕ → ℕ → ℕ → Text

@@ -4,6 +4,7 @@ ghost use Rattle.grid_server.specs.Held.{IsMade};
 ghost use Rattle.grid_journal.specs.Journal.{Keeps};
 ghost use Rattle.grid_server.specs.Opening.{Begun};
 ghost use Rattle.grid_server.specs.Stopping.{IsOfCommit, begin_error_of};
+ghost use Rattle.grid_server.specs.Wearing.{AddsInRoom};
 
 use crate::server::Server;
 use grid_journal::{JournalError, Store};
@@ -39,6 +40,7 @@ pub(crate) fn begin_run<D: Disk>(
     requires room { moments.old + 4 < 2 ^ 128 }
     ensures begins { Begun store.cat moments.old (D.disk main.old) (D.disk main.new) result }
     ensures main_last { (D.disk main.new).last ≤ moments.new }
+    ensures in_room { ¬ IsErrOf result BeginError.Disk → AddsInRoom (D.disk main.old) (D.disk main.new) }
     ensures disk { IsErrOf result BeginError.Disk → Rose (D.disk main.old).faults (D.disk main.new).faults }
     ensures drawn_from { moments.old ≤ moments.new }
     ensures drawn { moments.new ≤ moments.old + 4 }

@@ -9,6 +9,7 @@ ghost use Rattle.grid_server.specs.Held.{state_of};
 ghost use Rattle.grid_server.specs.Safe.{KeepWhole};
 ghost use Rattle.grid_server.specs.Deciding.{DecidesPlain};
 ghost use Rattle.grid_server.specs.Plain.{end_of};
+ghost use Rattle.grid_server.specs.Wearing.{HasNumber, AddsInRoom};
 
 use crate::decision::Plain;
 use crate::replying::{end_text, put_text};
@@ -36,10 +37,11 @@ impl Server {
         requires main_last { (D.disk outside.old.main).last ≤ outside.old.moments }
         requires sink_last { (K.sink sink.old).last ≤ outside.old.moments }
         requires room { outside.old.moments + 5 < 2 ^ 128 }
-        ensures answers { (asked : ResultOf Verb Refusal) → DecidesPlain self.old (act (state_of self.old) asked) plain →
+        ensures answers { (asked : ResultOf Verb Refusal) → DecidesPlain self.old (act (state_of self.old) asked) plain → HasNumber (state_of self.old) asked self.old.store.cat.numbers.next_vault →
             Answers P.plugin outside.old.stores.items outside.new.stores.items (A.ambient outside.old.ambient) (A.ambient outside.new.ambient) self.old asked number outside.old.moments (D.disk outside.old.main) (D.disk outside.new.main) (K.sink sink.old) (K.sink sink.new) result self.new }
         ensures main_last { (D.disk outside.new.main).last ≤ outside.new.moments }
         ensures sink_last { (K.sink sink.new).last ≤ outside.new.moments }
+        ensures in_room { ¬ IsErrOf result Stop.Disk → AddsInRoom (D.disk outside.old.main) (D.disk outside.new.main) }
         ensures disk { IsErrOf result Stop.Disk → Rose (D.disk outside.old.main).faults (D.disk outside.new.main).faults }
         ensures sink { IsErrOf result Stop.Sink → Rose (K.sink sink.old).faults (K.sink sink.new).faults }
         ensures drawn_from { outside.old.moments ≤ outside.new.moments }
@@ -69,8 +71,9 @@ impl Server {
         requires decided { (a : Act) × DecidesPlain self.old a plain }
         requires main_last { (D.disk outside.old.main).last ≤ outside.old.moments }
         requires room { outside.old.moments + 4 < 2 ^ 128 }
-        ensures carries { (a : Act) (d : Done) → DecidesPlain self.old a plain → a ≡ does d → Carries self.old d number outside.old.moments (D.disk outside.old.main) (D.disk outside.new.main) result self.new }
+        ensures carries { (a : Act) (d : Done) → DecidesPlain self.old a plain → a ≡ does d → Carries self.old d number 0 outside.old.moments (D.disk outside.old.main) (D.disk outside.new.main) result self.new }
         ensures main_last { (D.disk outside.new.main).last ≤ outside.new.moments }
+        ensures in_room { ¬ IsErrOf result Stop.Disk → AddsInRoom (D.disk outside.old.main) (D.disk outside.new.main) }
         ensures disk { IsErrOf result Stop.Disk → Rose (D.disk outside.old.main).faults (D.disk outside.new.main).faults }
         ensures sink { (IsErrOf result Stop.Sink) → ⊥ }
         ensures drawn_from { outside.old.moments ≤ outside.new.moments }
@@ -103,8 +106,9 @@ impl Server {
         requires main_last { (D.disk outside.old.main).last ≤ outside.old.moments }
         requires room { outside.old.moments + 4 < 2 ^ 128 }
         ensures carries { (p : PathOf) → IsNewAt self.old.store.cat row p →
-            Carries self.old (made (state_of self.old) p) number outside.old.moments (D.disk outside.old.main) (D.disk outside.new.main) result self.new }
+            Carries self.old (made (state_of self.old) p) number 0 outside.old.moments (D.disk outside.old.main) (D.disk outside.new.main) result self.new }
         ensures main_last { (D.disk outside.new.main).last ≤ outside.new.moments }
+        ensures in_room { ¬ IsErrOf result Stop.Disk → AddsInRoom (D.disk outside.old.main) (D.disk outside.new.main) }
         ensures disk { IsErrOf result Stop.Disk → Rose (D.disk outside.old.main).faults (D.disk outside.new.main).faults }
         ensures sink { (IsErrOf result Stop.Sink) → ⊥ }
         ensures drawn_from { outside.old.moments ≤ outside.new.moments }

@@ -16,6 +16,7 @@ ghost use Rattle.grid_server.specs.Stores.{StoresGo};
 ghost use Rattle.grid_server.specs.Starting.{usage_line as usage_text, not_empty_line as not_empty_text, not_a_catalogue_line as not_a_catalogue_text, stores_line as stores_text, side_name as side_text};
 ghost use Rattle.grid_server.specs.Running.{Says, Refuses, RefusesStores, Inits, IsComplete, EndsServing, IsNotBegun};
 ghost use Rattle.grid_server.specs.Serving.{Serves, IsServing};
+ghost use Rattle.grid_server.specs.Wearing.{AddsInRoom};
 ghost use Rattle.grid_server.specs.Tasks as task;
 ghost use Rattle.grid_server.specs.Tasks.{AsksFor, AsksNothing};
 
@@ -78,6 +79,9 @@ pub fn run<D: Disk, S: Source, K: Sink, A: Ambient, P: Plugin>(
     // The numbers of runs, or the room of the log, had run out before.
     ensures worn { (found : Cat) → AsksFor words.now task.serve → IsTrue (D.disk outside.old.main).tells → Stands (D.disk outside.old.main).holds (D.disk outside.old.spare).holds (Ok found) →
         found.stores ≡ vec_len outside.old.stores → ¬ HasRoom found (D.disk outside.old.main) → IsNotBegun result }
+
+    // A record is added to the log only where it has room.
+    ensures in_room { AsksFor words.now task.serve → ¬ (result ≡ Status.DiskFault) → AddsInRoom (D.disk outside.old.main) (D.disk outside.new.main) }
 
     // The catalogue is of another number of stores.
     ensures stores { (found : Cat) → AsksFor words.now task.serve → IsTrue (D.disk outside.old.main).tells →
@@ -168,6 +172,7 @@ fn serve<D: Disk, S: Source, K: Sink, A: Ambient, P: Plugin>(
         Refuses side place (K.sink sink.old) (K.sink sink.new) result × Rests (D.disk outside.old.main) (D.disk outside.new.main) × (source.new ≡ source.old) × (outside.new.stores ≡ outside.old.stores) }
     ensures not_a_catalogue { (side : Side) (place : ℕ) → result ≡ Status.NotACatalogue side place → IsTrue (D.disk outside.old.main).tells →
         Stands (D.disk outside.old.main).holds (D.disk outside.old.spare).holds (Err (side, place)) }
+    ensures in_room { ¬ (result ≡ Status.DiskFault) → AddsInRoom (D.disk outside.old.main) (D.disk outside.new.main) }
     ensures disk { result ≡ Status.DiskFault → Rose (D.disk outside.old.main).faults (D.disk outside.new.main).faults }
     ensures source { result ≡ Status.SourceFault → Rose (S.source source.old).faults (S.source source.new).faults }
     ensures sink { result ≡ Status.SinkFault → Rose (K.sink sink.old).faults (K.sink sink.new).faults }
@@ -212,6 +217,7 @@ fn serve_over<D: Disk, S: Source, K: Sink, A: Ambient, P: Plugin>(
     ensures stores { store.cat.stores ≢ vec_len outside.old.stores →
         RefusesStores store.cat.stores (vec_len outside.old.stores) (K.sink sink.old) (K.sink sink.new) result × (outside.new.main ≡ outside.old.main) × (source.new ≡ source.old) × (outside.new.stores ≡ outside.old.stores) }
     ensures stores_only { (had given : ℕ) → result ≡ Status.Stores had given → (had ≢ given) × (given ≡ vec_len outside.old.stores) × (had ≡ store.cat.stores) }
+    ensures in_room { ¬ (result ≡ Status.DiskFault) → AddsInRoom (D.disk outside.old.main) (D.disk outside.new.main) }
     ensures disk { result ≡ Status.DiskFault → Rose (D.disk outside.old.main).faults (D.disk outside.new.main).faults }
     ensures source { result ≡ Status.SourceFault → Rose (S.source source.old).faults (S.source source.new).faults }
     ensures sink { result ≡ Status.SinkFault → Rose (K.sink sink.old).faults (K.sink sink.new).faults }

@@ -14,6 +14,7 @@ ghost use Rattle.grid_server.specs.Safe.{KeepWhole};
 ghost use Rattle.grid_server.specs.Stores.{StoresGo};
 ghost use Rattle.grid_server.specs.Deciding.{IsSending};
 ghost use Rattle.grid_server.specs.Sending.{IsReplied, whole_reply, damaged_reply, sending_reply};
+ghost use Rattle.grid_server.specs.Wearing.{HasNumber};
 
 use crate::replying::{mark_and_end, put_text};
 use crate::server::{Server, Stop};
@@ -42,7 +43,7 @@ impl Server {
         requires stores_last { EachMember (λ k store. (P.plugin store).last ≤ outside.old.moments) outside.old.stores.items }
         requires slots { self.now.store.cat.stores ≡ vec_len outside.old.stores }
         requires room { outside.old.moments + 2 ^ 50 < 2 ^ 128 }
-        ensures answers { (asked : ResultOf Verb Refusal) (p : PathOf) (o : Object) → act (state_of self.now) asked ≡ reads o file.number file.slot → IsSending self.now.store.cat p o file → Answers P.plugin outside.old.stores.items outside.new.stores.items (A.ambient outside.old.ambient) (A.ambient outside.new.ambient) self.now asked number outside.old.moments
+        ensures answers { (asked : ResultOf Verb Refusal) (p : PathOf) (o : Object) → act (state_of self.now) asked ≡ reads o file.number file.slot → HasNumber (state_of self.now) asked self.now.store.cat.numbers.next_vault → IsSending self.now.store.cat p o file → Answers P.plugin outside.old.stores.items outside.new.stores.items (A.ambient outside.old.ambient) (A.ambient outside.new.ambient) self.now asked number outside.old.moments
             (D.disk outside.old.main) (D.disk outside.new.main) (K.sink sink.old) (K.sink sink.new) result self.now }
         ensures replied { IsOk result → IsTrue (K.sink sink.old).tells → AtSlot P.plugin file.slot outside.old.stores.items (λ store.
             IsReplied store file number (K.sink sink.old).holds (K.sink sink.new).holds) }

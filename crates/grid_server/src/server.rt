@@ -9,6 +9,7 @@ ghost use Rattle.grid_journal.specs.Journal.{can_be_kept};
 ghost use Rattle.grid_server.specs.Safe.{KeepWhole};
 ghost use Rattle.grid_server.specs.Stores.{StoresGo};
 ghost use Rattle.grid_server.specs.Stopping.{IsOfCommit, stop_of};
+ghost use Rattle.grid_server.specs.Wearing.{AddsInRoom};
 
 use crate::decision::Decision;
 use grid_journal::{JournalError, Store};
@@ -61,6 +62,7 @@ impl Server {
         ensures stores_last { EachMember (λ k store. (P.plugin store).last ≤ outside.new.moments) outside.new.stores.items }
         ensures stores_go { StoresGo P.plugin outside.old.moments outside.old.stores.items outside.new.stores.items }
         ensures whole { KeepWhole P.plugin outside.old.moments self.old.store.cat (D.disk outside.old.main) (D.disk outside.new.main) outside.old.stores.items outside.new.stores.items }
+        ensures in_room { ¬ IsErrOf result Stop.Disk → AddsInRoom (D.disk outside.old.main) (D.disk outside.new.main) }
         ensures disk { IsErrOf result Stop.Disk → Rose (D.disk outside.old.main).faults (D.disk outside.new.main).faults }
         ensures sink { IsErrOf result Stop.Sink → Rose (K.sink sink.old).faults (K.sink sink.new).faults }
         ensures drawn_from { outside.old.moments ≤ outside.new.moments }
@@ -98,6 +100,7 @@ impl Server {
         ensures committed { (after : Cat) → apply_all self.old.store.cat deltas ≡ Ok after →
             IsCommitted self.old after moments.old (D.disk main.old) (D.disk main.new) result self.new }
         ensures main_last { (D.disk main.new).last ≤ moments.new }
+        ensures in_room { ¬ IsErrOf result Stop.Disk → AddsInRoom (D.disk main.old) (D.disk main.new) }
         ensures disk { IsErrOf result Stop.Disk → Rose (D.disk main.old).faults (D.disk main.new).faults }
         ensures later { (D.disk main.old).faults ≤ (D.disk main.new).faults }
         ensures no_sink { (IsErrOf result Stop.Sink) → ⊥ }

@@ -15,6 +15,7 @@ ghost use Rattle.grid_server.specs.Opening.{begun};
 ghost use Rattle.grid_server.specs.Serving.{Serves, IsServing};
 ghost use Rattle.grid_server.specs.Requests.{asked_with, is_held};
 ghost use Rattle.grid_server.specs.Turning.{status_of, after_answer, IsLast};
+ghost use Rattle.grid_server.specs.Wearing.{AddsInRoom};
 
 use crate::Status;
 use crate::line_reader::{Ended, HELD, LineReader, MOST, Passed, ReadError};
@@ -76,6 +77,7 @@ impl Service {
         ensures main_last { (D.disk outside.new.main).last ≤ outside.new.moments }
         ensures sink_last { (K.sink sink.new).last ≤ outside.new.moments }
         ensures source_later { (S.source source.old).faults ≤ (S.source source.new).faults }
+        ensures in_room { ¬ (result ≡ Some Status.DiskFault) → AddsInRoom (D.disk outside.old.main) (D.disk outside.new.main) }
         ensures disk { result ≡ Some Status.DiskFault → Rose (D.disk outside.old.main).faults (D.disk outside.new.main).faults }
         ensures source { result ≡ Some Status.SourceFault → Rose (S.source source.old).faults (S.source source.new).faults }
         ensures sink { result ≡ Some Status.SinkFault → Rose (K.sink sink.old).faults (K.sink sink.new).faults }
@@ -261,6 +263,7 @@ pub(crate) fn serve_all<D: Disk, S: Source, K: Sink, A: Ambient, P: Plugin>(
         Serves P.plugin outside.old.stores.items outside.new.stores.items (A.ambient outside.old.ambient) (A.ambient outside.new.ambient) found outside.old.moments (D.disk outside.old.main) (D.disk outside.new.main) (S.source source.old) (S.source source.new) (K.sink sink.old) (K.sink sink.new) result }
     ensures main_goes { Goes outside.old.moments (D.disk outside.old.main) (D.disk outside.new.main) }
     ensures sink_goes { Goes outside.old.moments (K.sink sink.old) (K.sink sink.new) }
+    ensures in_room { ¬ (result ≡ Status.DiskFault) → AddsInRoom (D.disk outside.old.main) (D.disk outside.new.main) }
     ensures disk { result ≡ Status.DiskFault → Rose (D.disk outside.old.main).faults (D.disk outside.new.main).faults }
     ensures source { result ≡ Status.SourceFault → Rose (S.source source.old).faults (S.source source.new).faults }
     ensures sink { result ≡ Status.SinkFault → Rose (K.sink sink.old).faults (K.sink sink.new).faults }

@@ -15,6 +15,7 @@ ghost use Rattle.grid_server.specs.Stores.{StoresGo};
 ghost use Rattle.grid_server.specs.Deciding.{IsStoring};
 ghost use Rattle.grid_server.specs.Storing.{Stores, begun_deltas as begun_changes, stored_deltas as stored_changes, stored_reply};
 ghost use Rattle.grid_server.specs.Sending.{broken_reply};
+ghost use Rattle.grid_server.specs.Wearing.{AddsInRoom};
 
 use crate::decision::Storing;
 use crate::plain::name_is_text;
@@ -57,6 +58,7 @@ impl Server {
         ensures stores_last { EachMember (λ k store. (P.plugin store).last ≤ outside.new.moments) outside.new.stores.items }
         ensures stores_go { StoresGo P.plugin outside.old.moments outside.old.stores.items outside.new.stores.items }
         ensures whole { KeepWhole P.plugin outside.old.moments self.old.store.cat (D.disk outside.old.main) (D.disk outside.new.main) outside.old.stores.items outside.new.stores.items }
+        ensures in_room { ¬ IsErrOf result Stop.Disk → AddsInRoom (D.disk outside.old.main) (D.disk outside.new.main) }
         ensures disk { IsErrOf result Stop.Disk → Rose (D.disk outside.old.main).faults (D.disk outside.new.main).faults }
         ensures sink { IsErrOf result Stop.Sink → Rose (K.sink sink.old).faults (K.sink sink.new).faults }
         ensures drawn_from { outside.old.moments ≤ outside.new.moments }
@@ -102,6 +104,7 @@ impl Server {
         ensures stores_last { EachMember (λ k store. (P.plugin store).last ≤ outside.new.moments) outside.new.stores.items }
         ensures stores_go { StoresGo P.plugin outside.old.moments outside.old.stores.items outside.new.stores.items }
         ensures whole { KeepWhole P.plugin outside.old.moments self.old.store.cat (D.disk outside.old.main) (D.disk outside.new.main) outside.old.stores.items outside.new.stores.items }
+        ensures in_room { ¬ IsErrOf result Stop.Disk → AddsInRoom (D.disk outside.old.main) (D.disk outside.new.main) }
         ensures disk { IsErrOf result Stop.Disk → Rose (D.disk outside.old.main).faults (D.disk outside.new.main).faults }
         ensures no_sink { (IsErrOf result Stop.Sink) → ⊥ }
         ensures drawn_from { outside.old.moments ≤ outside.new.moments }

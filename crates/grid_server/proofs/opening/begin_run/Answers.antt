@@ -1,4 +1,4 @@
-use Rattle.std.proofs.Common.{◌≡◌, inl, Err, refl, sym, ap, ◌∙◌, subst, arith}
+use Rattle.std.proofs.Common.{◌≡◌, ◌≢◌, inl, inr, Err, refl, sym, ap, ◌∙◌, subst, arith}
 use Rattle.std.specs.Prelude.{is_ok}
 use Rattle.grid_outside.proofs.Spans.{leaves_start}
 use Rattle.grid_model.specs.Rows.{Cat}
@@ -8,6 +8,9 @@ use Rattle.grid_server.specs.declared.opening.BeginError.{BeginError}
 use Rattle.grid_server.specs.Opening.{begun, BeginEnds}
 use Rattle.grid_server.proofs.KeepingLemmas.{keeps_stands, rests_same, rests_where, goes_nowhere, goes_between, of_commit}
 use Rattle.grid_server.proofs.OpeningLemmas.{grid_begun, is_begun, begun_well, begun_in_vain, room_of}
+use Rattle.grid_server.proofs.WearingLemmas.{within, room_committed, room_same}
+use Rattle.grid_server.specs.Stopping.{begin_error_of}
+use Rattle.grid_journal.specs.declared.error.JournalError.TheVariants as journal
 use Rattle.grid_outside.specs.declared.outside.Wear.TheVariants.{Log}
 use Rattle.grid_server.proofs.opening.begin_run.Goals as goal
 
@@ -74,3 +77,17 @@ returns-in-Err-clause-begins g c =
 
 pub commit-requires-clause-apply : goal.commit-requires-clause-apply
 commit-requires-clause-apply g c = ap is_ok (is_begun c.args.store.cat c.requires.made c.tables.result.now c.tables.ensures c.numbers-last.result c.numbers-last.ensures c.in-Ok.deltas c.in-Ok.ensures)
+
+-- where a record was added there was room for it
+pub returns-in-Ok-commit-clause-in_room : goal.returns-in-Ok-commit-clause-in_room
+returns-in-Ok-commit-clause-in_room g c not_disk told =
+    let done = c.in-Ok-commit.ensures in
+    let store = c.args.store in
+    let keeps = c.requires.keeps told in
+    inr (room_committed store.cat store c.commit.new.self c.in-Ok.deltas _ (g.D.Disk.disk c.args.main.now).holds (g.D.Disk.disk c.commit.new.main).holds keeps done.commits (done.added told store.cat keeps)
+    (within store.log.gate (λ past. (let worn = (done.worn Log store.log.gate).1 (refl, refl, past) in cc))))
+
+pub returns-in-Err-clause-in_room : goal.returns-in-Err-clause-in_room
+returns-in-Err-clause-in_room g c not_disk =
+    let other : c.in-Err.error ≢ journal.DiskFault = λ e. not_disk (ap Err (c.begin_error_of.ensures ∙ ap begin_error_of e)) in
+    room_same g.D.Disk.disk c.args.main.now c.commit.new.main (c.in-Err.ensures.unchanged c.in-Err.error refl other).0

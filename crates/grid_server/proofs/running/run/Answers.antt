@@ -69,3 +69,6 @@ returns-in-Init-clause-serve_spare g c = λ asks. absurd (serve_or_init asks c.i
 
 pub returns-in-Init-clause-worn : goal.returns-in-Init-clause-worn
 returns-in-Init-clause-worn g c = λ found asks. absurd (serve_or_init asks c.in-Init.ensures)
+
+pub returns-in-Init-clause-in_room : goal.returns-in-Init-clause-in_room
+returns-in-Init-clause-in_room g c = λ asks. absurd (serve_or_init asks c.in-Init.ensures)

@@ -7,6 +7,7 @@ use Rattle.grid_server.specs.declared.opening.BeginError.TheVariants as opening
 use Rattle.grid_server.proofs.KeepingLemmas.{keeps_stands, rests_same}
 use Rattle.grid_server.proofs.RunLemmas.{serves_begun, serves_unbegun, stores_so}
 use Rattle.grid_server.proofs.WholeLemmas.{same_stores, keep_rest, keep_begun, keep_more}
+use Rattle.grid_server.proofs.WearingLemmas.{room_more}
 use Rattle.grid_server.proofs.running.serve_over.Goals as goal
 
 pub returns-then-kept-given-clause-stores : goal.returns-then-kept-given-clause-stores
@@ -94,3 +95,7 @@ returns-in-Err-Memory-clause-whole g c = keep_begun g.P.Plugin.plugin c.args.out
 
 pub returns-in-Ok-clause-worn : goal.returns-in-Ok-clause-worn
 returns-in-Ok-clause-worn g c = λ stores none. absurd (none c.in-Ok.ensures.begins.ends.5)
+
+pub returns-in-Ok-clause-in_room : goal.returns-in-Ok-clause-in_room
+returns-in-Ok-clause-in_room g c not_disk =
+    room_more (g.D.Disk.disk c.args.outside.now.main) (g.D.Disk.disk c.begin_run.new.main) (g.D.Disk.disk c.serve_all.new.outside.main) c.in-Ok.ensures.begins.main.tells (c.in-Ok.ensures.in_room (λ e. cc)) (c.serve_all.ensures.in_room not_disk)

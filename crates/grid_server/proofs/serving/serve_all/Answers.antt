@@ -6,6 +6,8 @@ use Rattle.grid_server.proofs.ServedLemmas.{served_none, next_served, ends_so, e
 use Rattle.grid_server.proofs.TurnLemmas.{counted, serving_so, turn_goes, turn_holds, turn_settles, turn_stores}
 use Rattle.grid_server.proofs.StoresLemmas.{stores_same, stores_more}
 use Rattle.grid_server.proofs.WholeLemmas.{keep_still, keep_more, known_cat}
+use Rattle.grid_server.specs.declared.status.Status.TheVariants as status
+use Rattle.grid_server.proofs.WearingLemmas.{room_same, room_more}
 use Rattle.grid_server.proofs.serving.serve_all.Goals as goal
 
 pub returns-in_default-clause-serves : goal.returns-in_default-clause-serves
@@ -49,6 +51,7 @@ lines-init g c =
       settled = λ told settled. settled;
       whole = keep_still g.P.Plugin.plugin c.args.outside.now.moments c.args.server main c.args.outside.now.stores.items c.requires.held c.requires.main_last;
       slots = ap (λ (s : Server). s.store.cat.stores) new.server ∙ c.requires.slots;
+      in_room = room_same g.D.Disk.disk c.args.outside.now.main c.args.outside.now.main refl;
     }
 
 pub lines-smaller : goal.lines-smaller
@@ -100,6 +103,7 @@ lines-preserved g c =
           keep_more g.P.Plugin.plugin since now c.args.server.store.cat c.lines.service.server main_old main_mid main_new c.args.outside.now.stores.items c.lines.outside.stores.items c.turn.new.outside.stores.items so_far.drawn_from
           (λ told. subst IsTrue (sym so_far.main_goes.tells) told) so_far.settled so_far.held so_far.main_last goes.0 c.turn.ensures.stores_go so_far.whole c.turn.ensures.whole;
       slots = turn_stores g.P.Plugin.plugin c.lines.outside.stores.items c.turn.new.outside.stores.items (g.A.Ambient.ambient c.lines.outside.ambient) (g.A.Ambient.ambient c.turn.new.outside.ambient) c.lines.service c.turn.new.self now main_mid main_new mid to sink_mid sink_new _ c.turn.ensures.turns c.in-None.is ∙ so_far.slots ∙ c.lines.outside.stores.ok.0 ∙ sym c.turn.ensures.stores_go.count ∙ sym c.turn.new.outside.stores.ok.0;
+      in_room = room_more main_old main_mid main_new so_far.main_goes.tells so_far.in_room (c.turn.ensures.in_room (λ e. (let is = c.in-None.is in cc)));
     }
 
 pub returns-in-Some-clause-serves : goal.returns-in-Some-clause-serves
@@ -147,3 +151,8 @@ returns-in-Some-clause-whole g c =
     (g.K.Sink.sink c.turn.new.sink) _ c.turn.ensures.turns in
     keep_more g.P.Plugin.plugin c.args.outside.now.moments c.lines.outside.moments c.args.server.store.cat c.lines.service.server (g.D.Disk.disk c.args.outside.now.main) (g.D.Disk.disk c.lines.outside.main) (g.D.Disk.disk c.turn.new.outside.main)
     c.args.outside.now.stores.items c.lines.outside.stores.items c.turn.new.outside.stores.items so_far.drawn_from (λ told. subst IsTrue (sym so_far.main_goes.tells) told) so_far.settled so_far.held so_far.main_last goes.0 c.turn.ensures.stores_go so_far.whole c.turn.ensures.whole
+
+pub returns-in-Some-clause-in_room : goal.returns-in-Some-clause-in_room
+returns-in-Some-clause-in_room g c not_disk =
+    room_more (g.D.Disk.disk c.args.outside.now.main) (g.D.Disk.disk c.lines.outside.main) (g.D.Disk.disk c.turn.new.outside.main) c.lines.invariant.main_goes.tells c.lines.invariant.in_room
+    (c.turn.ensures.in_room (λ e. (let is = c.in-Some.is in let same : c.in-Some.status ≡ status.DiskFault = cc in not_disk same)))

@@ -7,6 +7,7 @@ use Rattle.grid_server.specs.Held.{IsHeld}
 use Rattle.grid_server.specs.Keeping.{Goes}
 use Rattle.grid_server.specs.Stores.{StoresGo}
 use Rattle.grid_server.specs.Safe.{KeepWhole}
+use Rattle.grid_server.specs.Wearing.{AddsInRoom}
 use Rattle.grid_server.specs.Opening.{begun}
 use Rattle.grid_server.proofs.ServedLemmas.{Served}
 use Rattle.grid_server.proofs.serving.serve_all.Given as goal
@@ -40,6 +41,7 @@ invariant-lines g l =
       settled : IsTrue main_old.tells → IsSettled main_old → IsSettled main_now;
       whole : KeepWhole g.P.Plugin.plugin since l.fn.server.store.cat main_old main_now l.fn.outside.stores.items l.outside.stores.items;
       slots : l.service.server.store.cat.stores ≡ vec_len l.outside.stores;
+      in_room : AddsInRoom main_old main_now;
     }
 
 abbrev pub decreases-lines : goal.decreases-lines

@@ -9,6 +9,7 @@ use Rattle.grid_server.specs.Deciding.{Decides}
 use Rattle.grid_server.specs.Answering.{not_begun, vaults_worn}
 use Rattle.grid_server.specs.declared.decision.Decision.{Decision}
 use Rattle.grid_server.specs.declared.decision.Decision.TheVariants as decision
+use Rattle.grid_server.proofs.FindingLemmas.{gets_no_put}
 use Rattle.grid_server.proofs.DrawingLemmas.{draws_none}
 use Rattle.grid_server.proofs.KeepingLemmas.{quiet_rest, rests_same}
 use Rattle.grid_server.proofs.WholeLemmas.{keep_still}
@@ -17,12 +18,14 @@ use Rattle.grid_server.proofs.server.Server.answer.Goals as goal
 pub answer_plain-requires-clause-decided : goal.answer_plain-requires-clause-decided
 answer_plain-requires-clause-decided g c =
     let P : Decision → Type 0 = λ d. Decides c.args.self.now c.args.asked d in
-    (act (state_of c.args.self.now) c.args.asked, subst P c.in-Ok-Plain.field-0-is c.in-Ok-Plain.ensures)
+    let is : Decides c.args.self.now c.args.asked (decision.Plain c.in-Ok-Plain.plain) = subst P c.in-Ok-Plain.field-0-is c.in-Ok-Plain.ensures in
+    (act (state_of c.args.self.now) c.args.asked, is.0)
 
 pub returns-in-Ok-Plain-clause-answers : goal.returns-in-Ok-Plain-clause-answers
 returns-in-Ok-Plain-clause-answers g c =
     let P : Decision → Type 0 = λ d. Decides c.args.self.now c.args.asked d in
-    c.answer_plain.ensures.answers c.args.asked (subst P c.in-Ok-Plain.field-0-is c.in-Ok-Plain.ensures)
+    let is : Decides c.args.self.now c.args.asked (decision.Plain c.in-Ok-Plain.plain) = subst P c.in-Ok-Plain.field-0-is c.in-Ok-Plain.ensures in
+    c.answer_plain.ensures.answers c.args.asked is.0 is.1
 
 pub answer_put-requires-clause-decided : goal.answer_put-requires-clause-decided
 answer_put-requires-clause-decided g c =
@@ -56,7 +59,7 @@ pub returns-in-Ok-Send-clause-answers : goal.returns-in-Ok-Send-clause-answers
 returns-in-Ok-Send-clause-answers g c =
     let P : Decision → Type 0 = λ d. Decides c.args.self.now c.args.asked d in
     let is : Decides c.args.self.now c.args.asked (decision.Send c.in-Ok-Send.file) = subst P c.in-Ok-Send.field-0-is c.in-Ok-Send.ensures in
-    c.answer_get.ensures.answers c.args.asked is.0 is.2 is.4 is.5
+    c.answer_get.ensures.answers c.args.asked is.0 is.2 is.4 (λ puts. absurd (gets_no_put c.args.asked is.0 puts.path is.1 puts.resource puts.count puts.body is.3 puts.is)) is.5
 
 pub returns-in-Ok-Plain-clause-whole : goal.returns-in-Ok-Plain-clause-whole
 returns-in-Ok-Plain-clause-whole g c = c.answer_plain.ensures.whole

@@ -9,7 +9,7 @@ use Rattle.grid_server.proofs.WholeLemmas.{keep_still, keep_read}
 use Rattle.grid_server.proofs.server.Server.answer_get.Goals as goal
 
 pub returns-in_default-clause-answers : goal.returns-in_default-clause-answers
-returns-in_default-clause-answers g c asked p o is sending =
+returns-in_default-clause-answers g c asked p o is number sending =
     let ambient = g.A.Ambient.ambient in
     let given =
     draws_ran c.word-word.result c.now-now.result (ambient c.args.outside.now.ambient) (ambient c.word-word.new.self) (ambient c.now-now.new.self) c.word-word.ensures c.now-now.ensures in
@@ -20,11 +20,11 @@ pub send-requires-clause-room : goal.send-requires-clause-room
 send-requires-clause-room g c = omega (arith, c.few_parts.ensures, c.requires.room)
 
 pub returns-in-Err-Sink-clause-answers : goal.returns-in-Err-Sink-clause-answers
-returns-in-Err-Sink-clause-answers g c asked p o is sending =
+returns-in-Err-Sink-clause-answers g c asked p o is number sending =
     let ambient = g.A.Ambient.ambient in
     let given =
     draws_ran c.word-word.result c.now-now.result (ambient c.args.outside.now.ambient) (ambient c.word-word.new.self) (ambient c.now-now.new.self) c.word-word.ensures c.now-now.ensures in
-    sends_broken g.P.Plugin.plugin c.word-word.result c.now-now.result c.args.outside.now.stores.items c.send.new.stores.items c.args.outside.now.moments (stores_kept g.P.Plugin.plugin _ _ _ _ _ c.send.ensures.any_moment) (ambient c.args.outside.now.ambient) (ambient c.now-now.new.self) given c.args.self.now asked p o c.args.file is sending (omega (arith, sending.slot, c.requires.slots, c.args.outside.now.stores.ok.0)) c.args.number c.args.outside.now.moments c.send.new.moments (g.D.Disk.disk c.args.outside.now.main) (g.K.Sink.sink c.args.sink.now) c.requires.held c.requires.main_last _
+    sends_broken g.P.Plugin.plugin c.word-word.result c.now-now.result c.args.outside.now.stores.items c.send.new.stores.items c.args.outside.now.moments (stores_kept g.P.Plugin.plugin _ _ _ _ _ c.send.ensures.any_moment) (ambient c.args.outside.now.ambient) (ambient c.now-now.new.self) given c.args.self.now asked p o c.args.file is number sending (omega (arith, sending.slot, c.requires.slots, c.args.outside.now.stores.ok.0)) c.args.number c.args.outside.now.moments c.send.new.moments (g.D.Disk.disk c.args.outside.now.main) (g.K.Sink.sink c.args.sink.now) c.requires.held c.requires.main_last _
     (let at = c.in-Err-Sink.ensures.broken (ap Err c.in-Err-Sink.field-0-is) in known_text g.P.Plugin.plugin c.args.self.now.store.cat p o c.args.file sending c.args.outside.now.moments (g.D.Disk.disk c.args.outside.now.main) c.args.outside.now.stores.items at.store at.is (c.requires.stores_last c.args.file.slot at.store at.is))
     (g.K.Sink.sink c.send.new.sink) (c.in-Err-Sink.ensures.broken (ap Err c.in-Err-Sink.field-0-is)).holds
 
@@ -32,7 +32,7 @@ pub returns-in-Err-Sink-clause-drawn : goal.returns-in-Err-Sink-clause-drawn
 returns-in-Err-Sink-clause-drawn g c = omega (arith, c.few_parts.ensures, c.send.ensures.drawn)
 
 pub returns-in-Err-Memory-clause-answers : goal.returns-in-Err-Memory-clause-answers
-returns-in-Err-Memory-clause-answers g c asked p o is sending =
+returns-in-Err-Memory-clause-answers g c asked p o is number sending =
     let ambient = g.A.Ambient.ambient in
     let given =
     draws_ran c.word-word.result c.now-now.result (ambient c.args.outside.now.ambient) (ambient c.word-word.new.self) (ambient c.now-now.new.self) c.word-word.ensures c.now-now.ensures in
@@ -40,11 +40,11 @@ returns-in-Err-Memory-clause-answers g c asked p o is sending =
     (rests_where g.K.Sink.sink c.args.sink.now c.send.new.sink (c.in-Err-Memory.ensures.unchanged (ap Err c.in-Err-Memory.field-0-is)).0) (draws_untold (Ran c.word-word.result c.now-now.result [] ∷ []) [] (ambient c.args.outside.now.ambient) (ambient c.now-now.new.self) refl refl given)
 
 pub returns-in_default-sent_text-clause-answers : goal.returns-in_default-sent_text-clause-answers
-returns-in_default-sent_text-clause-answers g c asked p o is sending =
+returns-in_default-sent_text-clause-answers g c asked p o is number sending =
     let ambient = g.A.Ambient.ambient in
     let given =
     draws_ran c.word-word.result c.now-now.result (ambient c.args.outside.now.ambient) (ambient c.word-word.new.self) (ambient c.now-now.new.self) c.word-word.ensures c.now-now.ensures in
-    sends_unsaid g.P.Plugin.plugin c.word-word.result c.now-now.result c.args.outside.now.stores.items c.send.new.stores.items c.args.outside.now.moments (stores_kept g.P.Plugin.plugin _ _ _ _ _ c.send.ensures.any_moment) (ambient c.args.outside.now.ambient) (ambient c.now-now.new.self) given c.args.self.now asked p o c.args.file is sending (omega (arith, sending.slot, c.requires.slots, c.args.outside.now.stores.ok.0)) c.args.number c.args.outside.now.moments c.send.new.moments (g.D.Disk.disk c.args.outside.now.main) (g.K.Sink.sink c.args.sink.now) c.requires.held c.requires.main_last _
+    sends_unsaid g.P.Plugin.plugin c.word-word.result c.now-now.result c.args.outside.now.stores.items c.send.new.stores.items c.args.outside.now.moments (stores_kept g.P.Plugin.plugin _ _ _ _ _ c.send.ensures.any_moment) (ambient c.args.outside.now.ambient) (ambient c.now-now.new.self) given c.args.self.now asked p o c.args.file is number sending (omega (arith, sending.slot, c.requires.slots, c.args.outside.now.stores.ok.0)) c.args.number c.args.outside.now.moments c.send.new.moments (g.D.Disk.disk c.args.outside.now.main) (g.K.Sink.sink c.args.sink.now) c.requires.held c.requires.main_last _
     (let at = c.in-Ok-send.ensures.sent in known_text g.P.Plugin.plugin c.args.self.now.store.cat p o c.args.file sending c.args.outside.now.moments (g.D.Disk.disk c.args.outside.now.main) c.args.outside.now.stores.items at.store at.is (c.requires.stores_last c.args.file.slot at.store at.is))
     c.in-Ok-send.sent (g.K.Sink.sink c.send.new.sink) c.in-Ok-send.ensures.sent.holds c.in-Ok-send.ensures.fault
 
@@ -55,11 +55,11 @@ pub put_text-requires-clause-room : goal.put_text-requires-clause-room
 put_text-requires-clause-room g c = omega (arith, c.few_parts.ensures, c.send.ensures.drawn, c.requires.room)
 
 pub returns-clause-answers : goal.returns-clause-answers
-returns-clause-answers g c asked p o is sending =
+returns-clause-answers g c asked p o is number sending =
     let ambient = g.A.Ambient.ambient in
     let given =
     draws_ran c.word-word.result c.now-now.result (ambient c.args.outside.now.ambient) (ambient c.word-word.new.self) (ambient c.now-now.new.self) c.word-word.ensures c.now-now.ensures in
-    sends_said g.P.Plugin.plugin c.word-word.result c.now-now.result c.args.outside.now.stores.items c.send.new.stores.items c.args.outside.now.moments (stores_kept g.P.Plugin.plugin _ _ _ _ _ c.send.ensures.any_moment) (ambient c.args.outside.now.ambient) (ambient c.now-now.new.self) given c.args.self.now asked p o c.args.file is sending (omega (arith, sending.slot, c.requires.slots, c.args.outside.now.stores.ok.0)) c.args.number c.args.outside.now.moments c.send.new.moments (g.D.Disk.disk c.args.outside.now.main) (g.K.Sink.sink c.args.sink.now) c.requires.held c.requires.main_last _
+    sends_said g.P.Plugin.plugin c.word-word.result c.now-now.result c.args.outside.now.stores.items c.send.new.stores.items c.args.outside.now.moments (stores_kept g.P.Plugin.plugin _ _ _ _ _ c.send.ensures.any_moment) (ambient c.args.outside.now.ambient) (ambient c.now-now.new.self) given c.args.self.now asked p o c.args.file is number sending (omega (arith, sending.slot, c.requires.slots, c.args.outside.now.stores.ok.0)) c.args.number c.args.outside.now.moments c.send.new.moments (g.D.Disk.disk c.args.outside.now.main) (g.K.Sink.sink c.args.sink.now) c.requires.held c.requires.main_last _
     (let at = c.in-Ok-send.ensures.sent in known_text g.P.Plugin.plugin c.args.self.now.store.cat p o c.args.file sending c.args.outside.now.moments (g.D.Disk.disk c.args.outside.now.main) c.args.outside.now.stores.items at.store at.is (c.requires.stores_last c.args.file.slot at.store at.is))
     c.in-Ok-send.sent (g.K.Sink.sink c.send.new.sink) c.in-Ok-send.ensures.sent.holds c.in-Ok-send.ensures.fault
     c.as_slice.result.now (g.K.Sink.sink c.put_text.new.sink) c.put_text.result c.send.ensures.drawn_from (c.as_slice.ensures ∙ c.in-Ok-sent_text.ensures c.word-word.result c.now-now.result c.in-Ok.ensures)

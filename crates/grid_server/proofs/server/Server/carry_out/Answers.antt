@@ -22,7 +22,7 @@ returns-in-Refuse-clause-carries g c a d decides is =
     let main = g.D.Disk.disk c.args.outside.now.main in
     let P : Plain → Type 0 = λ x. DecidesPlain old a x in
     let e : DecidesPlain old a (plain.Refuse c.in-Refuse.field-0) = subst P c.in-Refuse.is decides in
-    let D : Done → Type 0 = λ x. Carries old x c.args.number c.args.outside.now.moments main main (Ok tt) old in
+    let D : Done → Type 0 = λ x. Carries old x c.args.number 0 c.args.outside.now.moments main main (Ok tt) old in
     subst D (sym (done_same d (refused (state_of old) c.in-Refuse.field-0) (sym is ∙ e)))
     (carries_none old (refused (state_of old) c.in-Refuse.field-0) c.args.number c.args.outside.now.moments main main c.requires.held c.requires.main_last old refl refl refl refl)
 
@@ -32,7 +32,7 @@ returns-in-LogIn-clause-carries g c a d decides is =
     let main = g.D.Disk.disk c.args.outside.now.main in
     let P : Plain → Type 0 = λ x. DecidesPlain old a x in
     let e : DecidesPlain old a plain.LogIn = subst P c.in-LogIn.is decides in
-    let D : Done → Type 0 = λ x. Carries old x c.args.number c.args.outside.now.moments main main (Ok tt) (record { store = old.store; logged_in = true }) in
+    let D : Done → Type 0 = λ x. Carries old x c.args.number 0 c.args.outside.now.moments main main (Ok tt) (record { store = old.store; logged_in = true }) in
     subst D (sym (done_same d (log_in (state_of old)) (sym is ∙ e)))
     (carries_none old (log_in (state_of old)) c.args.number c.args.outside.now.moments main main c.requires.held c.requires.main_last (record { store = old.store; logged_in = true }) refl refl refl refl)
 
@@ -41,7 +41,7 @@ returns-in-Make-clause-carries g c a d decides is =
     let old = c.args.self.now in
     let P : Plain → Type 0 = λ x. DecidesPlain old a x in
     let e : DecidesPlain old a (plain.Make c.in-Make.row) = subst P c.in-Make.is decides in
-    let D : Done → Type 0 = λ x. Carries old x c.args.number c.args.outside.now.moments (g.D.Disk.disk c.args.outside.now.main) (g.D.Disk.disk c.make.new.outside.main) c.make.result c.make.new.self in
+    let D : Done → Type 0 = λ x. Carries old x c.args.number 0 c.args.outside.now.moments (g.D.Disk.disk c.args.outside.now.main) (g.D.Disk.disk c.make.new.outside.main) c.make.result c.make.new.self in
     subst D (sym (done_same d (made (state_of old) e.0) (sym is ∙ e.1))) (c.make.ensures.carries e.0 e.2)
 
 pub returns-in-Refuse-clause-whole : goal.returns-in-Refuse-clause-whole

@@ -7,6 +7,7 @@ use Rattle.std.specs.Result.{is_ok}
 use Rattle.grid_server.proofs.StoringLemmas.{first, then, first_applied, then_applied, first_failed, store_failed, between, then_kept, unbegun, one_slot, slot_small, only_slot, stores_went, err_as}
 use Rattle.grid_server.specs.declared.server.Stop.TheVariants.{Disk}
 use Rattle.grid_server.proofs.WholeLemmas.{keep_still, keep_commit, whole_begun_all, keep_written, keep_stored}
+use Rattle.grid_server.proofs.WearingLemmas.{room_more}
 use Rattle.grid_server.proofs.server.Server.write.Goals as goal
 
 pub returns-in_default-clause-stores : goal.returns-in_default-clause-stores
@@ -168,3 +169,20 @@ returns-clause-whole g c =
     (c.in-Err-commit.ensures.committed (then c.args.self.now c.args.storing d.0 d.1 d.2 d.3 c.args.now c.args.number c.args.outside.now.moments (g.D.Disk.disk c.args.outside.now.main) c.requires.held c.requires.main_last)
     (then_applied c.args.self.now c.args.storing d.0 d.1 d.2 d.3 c.args.now c.args.number c.args.outside.now.moments (g.D.Disk.disk c.args.outside.now.main) c.requires.held c.requires.main_last c.tables.result.now c.tables.ensures c.numbers-numbers.result c.numbers-numbers.ensures
     c.commit.new.self.store.cat committed.ends.1 c.in-Ok-stored_deltas.kept c.in-Ok-stored_deltas.ensures.changes)) c.in-Ok-write_all.ensures.last (let S : List ℕ → Type 0 = λ b. All (IsStableAt g.P.Plugin.plugin c.write_all.new.stores.items b) c.in-Ok.files in subst S c.as_slice.ensures c.in-Ok-write_all.ensures.stable)
+
+-- each of both commits had room
+pub returns-in-Ok-commit-2-clause-in_room : goal.returns-in-Ok-commit-2-clause-in_room
+returns-in-Ok-commit-2-clause-in_room g c not_disk =
+    let d = c.requires.decided in
+    let committed = c.in-Ok-commit.ensures.committed (first c.args.self.now c.args.storing d.0 d.1 d.2 d.3 c.args.now c.args.number c.args.outside.now.moments (g.D.Disk.disk c.args.outside.now.main) c.requires.held c.requires.main_last)
+    (first_applied c.args.self.now c.args.storing d.0 d.1 d.2 d.3 c.args.now c.args.number c.args.outside.now.moments (g.D.Disk.disk c.args.outside.now.main) c.requires.held c.requires.main_last c.tables.result.now c.tables.ensures c.numbers-numbers.result c.numbers-numbers.ensures
+    c.in-Ok-begun_deltas.begun c.in-Ok-begun_deltas.ensures.changes) in
+    room_more (g.D.Disk.disk c.args.outside.now.main) (g.D.Disk.disk c.commit.new.main) (g.D.Disk.disk c.commit-2.new.main) committed.main.tells (c.in-Ok-commit.ensures.in_room (λ e. cc)) (c.in-Ok-commit-2.ensures.in_room (λ e. cc))
+
+pub returns-clause-in_room : goal.returns-clause-in_room
+returns-clause-in_room g c not_disk =
+    let d = c.requires.decided in
+    let committed = c.in-Ok-commit.ensures.committed (first c.args.self.now c.args.storing d.0 d.1 d.2 d.3 c.args.now c.args.number c.args.outside.now.moments (g.D.Disk.disk c.args.outside.now.main) c.requires.held c.requires.main_last)
+    (first_applied c.args.self.now c.args.storing d.0 d.1 d.2 d.3 c.args.now c.args.number c.args.outside.now.moments (g.D.Disk.disk c.args.outside.now.main) c.requires.held c.requires.main_last c.tables.result.now c.tables.ensures c.numbers-numbers.result c.numbers-numbers.ensures
+    c.in-Ok-begun_deltas.begun c.in-Ok-begun_deltas.ensures.changes) in
+    room_more (g.D.Disk.disk c.args.outside.now.main) (g.D.Disk.disk c.commit.new.main) (g.D.Disk.disk c.commit-2.new.main) committed.main.tells (c.in-Ok-commit.ensures.in_room (λ e. cc)) (c.in-Err-commit.ensures.in_room (λ e. not_disk (err_as c.in-Err-commit.stop Disk e)))

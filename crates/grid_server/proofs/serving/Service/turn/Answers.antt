@@ -1,8 +1,9 @@
-use Rattle.std.proofs.Common.{◌+◌, Option, Some, refl, sym, subst}
+use Rattle.std.proofs.Common.{◌≡◌, ◌+◌, Option, Some, refl, sym, ap, ◌∙◌, subst}
 use Rattle.grid_server.specs.Held.{IsHeld}
 use Rattle.grid_server.specs.Safe.{KeepWhole}
 use Rattle.grid_server.specs.declared.server.Server.{Server}
-use Rattle.grid_server.specs.Turning.{Turns}
+use Rattle.grid_server.specs.declared.server.Stop.TheVariants as stop
+use Rattle.grid_server.specs.Turning.{Turns, status_of}
 use Rattle.grid_server.specs.declared.status.Status.{Status}
 use Rattle.grid_server.specs.declared.serving.Service.{Service}
 use Rattle.grid_server.specs.declared.serving.Taken.TheVariants as taken
@@ -80,3 +81,6 @@ pub returns-in-Err-clause-whole : goal.returns-in-Err-clause-whole
 returns-in-Err-clause-whole g c =
     let P : Server → Type 0 = λ s. KeepWhole g.P.Plugin.plugin c.args.outside.now.moments s.store.cat (g.D.Disk.disk c.args.outside.now.main) (g.D.Disk.disk c.answer.new.outside.main) c.args.outside.now.stores.items c.answer.new.outside.stores.items in
     subst P c.take.ensures.server c.answer.ensures.whole
+
+pub returns-in-Err-clause-in_room : goal.returns-in-Err-clause-in_room
+returns-in-Err-clause-in_room g c not_disk = c.in-Err.ensures.in_room (λ is. (let same : c.in-Err.stop ≡ stop.Disk = cc in not_disk (ap Some (c.status_of.ensures ∙ ap status_of same))))

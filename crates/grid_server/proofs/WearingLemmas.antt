@@ -1,0 +1,61 @@
+-- What a run uses up, from one request to the next.
+use Rattle.std.proofs.Common.{◌≡◌, ◌⊎◌, inl, inr, ℕ, ◌+◌, ◌^◌, ◌<◌, ◌≤◌, List, [], ◌∷◌, ◌++◌, Result, IsTrue, sym, ap, ◌∙◌, subst, arith}
+use Rattle.std.proofs.lemmas.Bool.{cases_lt}
+use Rattle.frame_log.specs.Log.{IsLog}
+use Rattle.frame_log.specs.Extent.{Extent, IsLogOf}
+use Rattle.grid_outside.specs.Disk.{DiskState}
+use Rattle.grid_model.specs.Names.{Text}
+use Rattle.grid_model.specs.Inputs.{Asked}
+use Rattle.grid_model.specs.Requests.{Asks}
+use Rattle.grid_model.specs.Rows.{Cat}
+use Rattle.grid_model.specs.Commands.{State, Done, act}
+use Rattle.grid_model.specs.declared.deltas.Delta.{Delta}
+use Rattle.grid_model.specs.declared.requests.Verb.{Verb}
+use Rattle.grid_model.specs.declared.refusal.Refusal.{Refusal}
+use Rattle.grid_journal.specs.Journal.{Journal, Keeps}
+use Rattle.grid_journal.specs.Store.{Commits}
+use Rattle.grid_server.specs.Keeping.{Rests}
+use Rattle.grid_server.specs.Wearing.{HasNumber, numbers_given, GivesNumbers, none, next, HasLastAt, AddsInRoom}
+
+-- ---- numbers of vault files
+
+pub GivesNumbers-push : {s end : State} {number last : ℕ} {all : List Asked} {done : List Done} (request : Asked) (d : Done) (asked : Result Verb Refusal) → Asks request.line request.body asked → HasNumber end asked last
+    → GivesNumbers s number all done end last → GivesNumbers s number (all ++ request ∷ []) (done ++ d ∷ []) d.state (last + numbers_given (act end asked))
+GivesNumbers-push request d asked asks has none = next asked asks has none
+GivesNumbers-push request d asked asks has (next first its one more) = next first its one (GivesNumbers-push request d asked asks has more)
+
+-- ---- room behind the log
+
+pub room_rest : (old new : DiskState) → Rests old new → AddsInRoom old new
+room_rest old new rests told = inl (rests.stays told)
+
+pub room_same : {M : Type 0} (state : M → DiskState) (a b : M) → b ≡ a → AddsInRoom (state a) (state b)
+room_same {M = M} state a b e told = inl (ap (λ (m : M). (state m).holds) e)
+
+pub room_more : (old mid new : DiskState) → mid.tells ≡ old.tells → AddsInRoom old mid → AddsInRoom mid new → AddsInRoom old new
+room_more old mid new tells first then told = by (first told) (then (subst IsTrue (sym tells) told))
+  where
+    by : (mid.holds ≡ old.holds) ⊎ ((place : ℕ) × (place ≤ 2 ^ 62) × HasLastAt mid.holds place) → (new.holds ≡ mid.holds) ⊎ ((place : ℕ) × (place ≤ 2 ^ 62) × HasLastAt new.holds place)
+        → (new.holds ≡ old.holds) ⊎ ((place : ℕ) × (place ≤ 2 ^ 62) × HasLastAt new.holds place)
+    by before (inr there) = inr there
+    by (inl was) (inl same) = inl (same ∙ was)
+    by (inr there) (inl same) = inr (there.0, there.1, (let P : Text → Type 0 = λ t. HasLastAt t there.0 in subst P (sym same) there.2))
+
+-- the gate of a log at which a record was added
+pub within : (gate : ℕ) → ¬ (2 ^ 62 < gate) → gate ≤ 2 ^ 62
+within gate not_past = elim (cases_lt (2 ^ 62) gate) [ inl past ↦ absurd (not_past past) | inr small ↦ small ]
+
+-- a commit adds its record at the gate of the log
+pub room_committed : (c : Cat) (old new : Journal) (deltas : List Delta) (body main_old main_new : Text) (k : Keeps c old main_old) → Commits deltas old new → IsLogOf new.log (k.records ++ body ∷ []) main_new → old.log.gate ≤ 2 ^ 62
+    → (place : ℕ) × (place ≤ 2 ^ 62) × HasLastAt main_new place
+room_committed c old new deltas body main_old main_new k commits added room =
+    let P : ℕ → Type 0 = λ b. IsLog b (k.records ++ body ∷ []) main_new in (
+      old.log.gate,
+      room,
+      record {
+        before = k.records;
+        body = body;
+        log = subst P (ap (λ (e : Extent). e.base) commits.log ∙ k.base) added.is_log;
+        place_is = omega (arith, ap (λ (e : Extent). e.gate) k.log.extent, k.base);
+      },
+    )
