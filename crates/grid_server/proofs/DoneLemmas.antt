@@ -16,7 +16,7 @@ use Rattle.grid_journal.specs.Stands.{StandsFor}
 use Rattle.grid_server.specs.Held.{IsLike}
 use Rattle.grid_server.specs.Keeping.{Follows, last_of}
 use Rattle.grid_server.specs.Answering.{OneOf, not_kept, kept}
-use Rattle.grid_server.specs.Serving.{begins, Shows, IsCut, AllButOne, IsBefore, IsAfter, OneImage}
+use Rattle.grid_server.specs.Serving.{begins, last_change, Shows, IsCut, AllButOne, IsBefore, IsAfter, OneImage}
 use Rattle.grid_server.proofs.RequestLemmas.{asks_held}
 
 -- a line with its body asked for something, and this came of it
@@ -47,6 +47,12 @@ after_less {p = p} {q = q} less (next {s = s} {d = d} asked asks comes more) = n
 pub After-push : {known : ℕ → Type 0} {s mid : State} {asked : List Asked} {done : List Done} (request : Asked) (d : Done) → After known s asked done mid → Did known mid request.line request.body d → After known s (asked ++ request ∷ []) (done ++ d ∷ []) d.state
 After-push request d none did = next did.asked did.asks did.comes none
 After-push request d (next verb asks is more) did = next verb asks is (After-push request d more did)
+
+pub last_change-push : (n last : ℕ) (done : List Done) (d : Done) → last_change n last (done ++ d ∷ []) ≡ last_of d.changed (n + length done) (last_change n last done)
+last_change-push n last [] d = let same : n ≡ n + 0 = omega arith in ap (λ (k : ℕ). last_of d.changed k last) same
+last_change-push n last (e ∷ done) d =
+    let same : n + 1 + length done ≡ n + length (e ∷ done) = omega arith in
+    last_change-push (n + 1) (last_of e.changed n last) done d ∙ ap (λ (k : ℕ). last_of d.changed k (last_change (n + 1) (last_of e.changed n last) done)) same
 
 pub replies-push : (n : ℕ) (done : List Done) (d : Done) → replies n (done ++ d ∷ []) ≡ replies n done ++ reply (n + length done) d.answer
 replies-push n [] d = let same : n ≡ n + 0 = omega arith in append-nil (reply n d.answer) ∙ ap (λ (k : ℕ). reply k d.answer) same

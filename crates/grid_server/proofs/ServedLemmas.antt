@@ -38,11 +38,11 @@ use Rattle.grid_server.specs.Answering.{Works, Answers, worked, not_begun, log_w
 use Rattle.grid_server.specs.Turning.{Gets, with_body, cut_short, at_end, InBody, Turns, answered, stopped, idle, status_of}
 use Rattle.grid_server.specs.Opening.{begun}
 use Rattle.grid_server.specs.Drawing.{marks_of, DrawsIfTold}
-use Rattle.grid_server.specs.Serving.{begins, Begins, OneImage, IsKept, HasNextVault, ShowsAll, Ends, Serves}
+use Rattle.grid_server.specs.Serving.{begins, Begins, OneImage, IsKept, IsLeft, last_change, ShowsAll, Ends, Serves}
 use Rattle.grid_server.proofs.InputLemmas.{push_request, push_blank, takes_of}
 use Rattle.grid_server.proofs.DrawingLemmas.{draws_none, draws_still, draws_more}
 use Rattle.grid_server.proofs.WearingLemmas.{GivesNumbers-push}
-use Rattle.grid_server.proofs.DoneLemmas.{Did, comes_less, After-push, did_held, did_less, replies-push, state_after-all, shows_part, shows_all, image_more, image_of, like_image, all_but_one, cut_or_whole}
+use Rattle.grid_server.proofs.DoneLemmas.{last_change-push, Did, comes_less, After-push, did_held, did_less, replies-push, state_after-all, shows_part, shows_all, image_more, image_of, like_image, all_but_one, cut_or_whole}
 use Rattle.grid_server.proofs.CausesLemmas.{caused_none, caused_on, caused_more}
 use Rattle.grid_server.proofs.StoresLemmas.{stores_same}
 use Rattle.grid_server.specs.Causes.{AreCaused}
@@ -69,6 +69,7 @@ pub record Served {B : Type 0} (plugin : B → StoreState) (stores_old stores_no
   pub number : service.number ≡ length done
   pub run : service.server.store.cat.numbers.run ≡ found.numbers.run + 1
   pub last : service.server.store.cat.numbers.last ≤ length done
+  pub last_is : service.server.store.cat.numbers.last ≡ last_change 1 0 done
   pub pending : service.server.store.cat.pending ≡ found.pending
   pub caused : AreCaused plugin (marks_of done) stores_old stores_now
   pub drawn : DrawsIfTold (marks_of done) ambient_old ambient_now
@@ -102,6 +103,7 @@ served_none plugin stores ambient found since main from sink service told main_l
       number = number;
       run = ap (λ (c : Cat). c.numbers.run) cat;
       last = omega (arith, ap (λ (c : Cat). c.numbers.last) cat);
+      last_is = ap (λ (c : Cat). c.numbers.last) cat;
       pending = ap (λ (c : Cat). c.pending) cat;
       caused = caused_none plugin 0 [] stores stores (λ slot. refl) tt (stores_same plugin 0 stores);
       drawn = draws_none ambient;
@@ -138,12 +140,16 @@ module _ {B : Type 0} (plugin : B → StoreState) (stores_old stores_mid stores_
   same_kept : (main_new : DiskState) → Quiet old.server.store.cat since_now main_mid main_new → IsKept main_new.holds served.end.grid
   same_kept main_new q = record { cat = q.cat; stands = q.stands main_told; grid = q.like.grid ∙ ap (λ (s : State). s.grid) (sym served.state) }
 
-  -- the next vault file has the number that it had
-  same_next : (main_new : DiskState) → Rests main_mid main_new → HasNextVault main_new.holds old.server.store.cat.numbers.next_vault
-  same_next main_new rests = record {
+  -- main has what the requests so far left
+  same_left : (main_new : DiskState) → Rests main_mid main_new → IsLeft main_new.holds found served.done served.end old.server.store.cat.numbers.next_vault
+  same_left main_new rests = record {
     cat = old.server.store.cat;
     stands = (let P : Text → Type 0 = λ t. StandsFor t old.server.store.cat in subst P (sym (rests.stays main_told)) (held_stands main_mid old.server served.held main_told));
-    next = refl;
+    grid = ap (λ (s : State). s.grid) (sym served.state);
+    run = served.run;
+    last = served.last_is;
+    next_vault = refl;
+    pending = served.pending;
   }
 
   -- what a stop leaves is as it was
@@ -237,12 +243,21 @@ module _ {B : Type 0} (plugin : B → StoreState) (stores_old stores_mid stores_
       kept_more works_held state =
           record { cat = new.store.cat; stands = held_stands main_new new works_held (subst IsTrue (sym works.main.tells) main_told); grid = ap (λ (s : State). s.grid) state }
 
-      -- the next vault file has the number after it
-      next_more : IsHeld main_new new → new.store.cat ≡ works.after → HasNextVault main_new.holds (old.server.store.cat.numbers.next_vault + numbers_given (act (state_of old.server) asked))
-      next_more works_held cat = record {
+      more_last : last_of works.d.changed (old.number + 1) old.server.store.cat.numbers.last ≡ last_change 1 0 (served.done ++ works.d ∷ [])
+      more_last =
+          let its_number : old.number + 1 ≡ 1 + length served.done = omega (arith, served.number) in
+          ap (λ (k : ℕ). last_of works.d.changed k old.server.store.cat.numbers.last) its_number ∙ ap (λ (l : ℕ). last_of works.d.changed (1 + length served.done) l) served.last_is ∙ sym (last_change-push 1 0 served.done works.d)
+
+      -- main has what it left
+      left_more : IsHeld main_new new → state_of new ≡ works.d.state → new.store.cat ≡ works.after → IsLeft main_new.holds found (served.done ++ works.d ∷ []) works.d.state (old.server.store.cat.numbers.next_vault + numbers_given (act (state_of old.server) asked))
+      left_more works_held state cat = record {
         cat = new.store.cat;
         stands = held_stands main_new new works_held (subst IsTrue (sym works.main.tells) main_told);
-        next = ap (λ (c : Cat). c.numbers.next_vault) cat ∙ works.follows.next_vault;
+        grid = ap (λ (s : State). s.grid) state;
+        run = ap (λ (c : Cat). c.numbers.run) cat ∙ works.follows.run ∙ served.run;
+        last = ap (λ (c : Cat). c.numbers.last) cat ∙ works.follows.last ∙ more_last;
+        next_vault = ap (λ (c : Cat). c.numbers.next_vault) cat ∙ works.follows.next_vault;
+        pending = ap (λ (c : Cat). c.pending) cat ∙ works.follows.pending ∙ served.pending;
       }
 
       -- the run ends with it, of whose reply a first part is shown
@@ -287,6 +302,7 @@ module _ {B : Type 0} (plugin : B → StoreState) (stores_old stores_mid stores_
           number = omega (arith, number, served.number, length-append served.done (works.d ∷ []));
           run = ap (λ (c : Cat). c.numbers.run) same ∙ works.follows.run ∙ served.run;
           last = omega (arith, ap (λ (c : Cat). c.numbers.last) same, works.follows.last, last_within works.d.changed, served.last, length-append served.done (works.d ∷ []));
+          last_is = ap (λ (c : Cat). c.numbers.last) same ∙ works.follows.last ∙ more_last main_new sink_new (Ok tt) new.server works;
           pending = ap (λ (c : Cat). c.pending) same ∙ works.follows.pending ∙ served.pending;
           caused = caused_more plugin since since_now served.done works.d stores_old stores_mid stores_new first_went then_went served.caused works.caused;
           drawn = draws_more served.done works.d ambient_old ambient_mid ambient_new served.drawn works.drawn;
@@ -302,7 +318,7 @@ module _ {B : Type 0} (plugin : B → StoreState) (stores_old stores_mid stores_
         → Answers plugin stores_mid stores_new ambient_mid ambient_new old.server asked (old.number + 1) since_now main_mid main_new sink_mid sink_new (Err s) new → Serves plugin stores_old stores_new ambient_old ambient_new found since main_old main_new from to sink_old sink_new (status_of s)
     stops new main_new to sink_new stop.Disk first begins_more (worked w) = cut main_new sink_new (Err stop.Disk) new w to status.DiskFault begins_more (λ told. (
         let P : Text → Type 0 = λ t. AddsPart (reply (old.number + 1) w.d.answer) sink_mid.holds t in subst P (sym (w.ends told)) (adds_none (reply (old.number + 1) w.d.answer) sink_mid.holds))) tt
-    stops new main_new to sink_new stop.Sink first begins_more (worked w) = cut main_new sink_new (Err stop.Sink) new w to status.SinkFault begins_more w.ends.1 (kept_more main_new sink_new (Err stop.Sink) new w w.ends.0.held w.ends.0.state, next_more main_new sink_new (Err stop.Sink) new w w.ends.0.held w.ends.0.cat)
+    stops new main_new to sink_new stop.Sink first begins_more (worked w) = cut main_new sink_new (Err stop.Sink) new w to status.SinkFault begins_more w.ends.1 (left_more main_new sink_new (Err stop.Sink) new w w.ends.0.held w.ends.0.state w.ends.0.cat)
     stops new main_new to sink_new stop.Memory first begins_more (worked w) = cut main_new sink_new (Err stop.Memory) new w to status.Memory begins_more w.ends.1 (kept_more main_new sink_new (Err stop.Memory) new w w.ends.0.held w.ends.0.state)
     stops new main_new to sink_new (stop.Worn what place) first begins_more (worked w) = absurd w.ends
     stops new main_new to sink_new s first begins_more (not_begun is q sink drawn) =
@@ -339,7 +355,7 @@ module _ {B : Type 0} (plugin : B → StoreState) (stores_old stores_mid stores_
           (
             refl,
             far,
-            same_next main_new main,
+            same_left main_new main,
             record { what = asked; is = record { request = request; begins = begins_more; asks = asks_it }; puts = subst A (sym served.state) puts },
           ),
           same_shown sink_new sink,
@@ -512,6 +528,7 @@ module _ {B : Type 0} (plugin : B → StoreState) (stores_old stores_mid stores_
     number = omega (arith, number, served.number);
     run = ap (λ (s : Server). s.store.cat.numbers.run) server ∙ served.run;
     last = omega (arith, ap (λ (s : Server). s.store.cat.numbers.last) server, served.last);
+    last_is = ap (λ (s : Server). s.store.cat.numbers.last) server ∙ served.last_is;
     pending = ap (λ (s : Server). s.store.cat.pending) server ∙ served.pending;
     caused = caused_on plugin since since_now (marks_of served.done) stores_old stores_mid stores_new first_went then_went served.caused;
     drawn = draws_still (marks_of served.done) ambient_old ambient_mid ambient_new served.drawn drawn;
@@ -557,7 +574,7 @@ module _ {B : Type 0} (plugin : B → StoreState) (stores_old stores_mid stores_
         shown = λ told. shows_all sink_old.holds (served.done ++ w.d ∷ []) sink_new.holds (all told);
         caused = caused_more plugin since since_now served.done w.d stores_old stores_mid stores_new first_went then_went served.caused w.caused;
         drawn = draws_more served.done w.d ambient_old ambient_mid ambient_new served.drawn w.drawn;
-        ends = (record { are = l.are; all = l.all; fits = l.fits }, all, kept_more l.request asked held l.held_is asks main_new sink_new (Ok tt) new.server w w.ends.0.held w.ends.0.state, next_more l.request asked held l.held_is asks main_new sink_new (Ok tt) new.server w w.ends.0.held w.ends.0.cat);
+        ends = (record { are = l.are; all = l.all; fits = l.fits }, all, left_more l.request asked held l.held_is asks main_new sink_new (Ok tt) new.server w w.ends.0.held w.ends.0.state w.ends.0.cat);
         images = more_images l.request asked held l.held_is asks main_new sink_new (Ok tt) new.server w;
       }
 
@@ -584,7 +601,7 @@ module _ {B : Type 0} (plugin : B → StoreState) (stores_old stores_mid stores_
         are = sym (append-nil served.asked);
       } in
       ends_quiet main_new to sink_new status.Done (inr are) (quiet main_new main_rests) sink_rests drawn
-      (record { are = are; all = (reads.ends.2 source_told).1; fits = last_fits new.reader to held reads }, same_shown sink_new sink_rests, same_kept main_new (quiet main_new main_rests), same_next main_new main_rests)
+      (record { are = are; all = (reads.ends.2 source_told).1; fits = last_fits new.reader to held reads }, same_shown sink_new sink_rests, same_left main_new main_rests)
 
   -- more bytes than are read stand behind these
   ends_long : (main_new : DiskState) (to : SourceState) (sink_new : SinkState) (rest : Text) (byte : ℕ) → from.left ≡ (served.front ++ rest) ++ byte ∷ to.left → length (served.front ++ rest) ≡ 2 ^ 48 → IsPart rest
@@ -602,8 +619,7 @@ module _ {B : Type 0} (plugin : B → StoreState) (stores_old stores_mid stores_
           part = part;
         },
         same_shown sink_new sink_rests,
-        same_kept main_new (quiet main_new main_rests),
-        same_next main_new main_rests,
+        same_left main_new main_rests,
       )
 
   end_long_line : (new : Service) (main_new : DiskState) (to : SourceState) (sink_new : SinkState) (held : Text) → ReadsLine old.reader ended.Long new.reader mid to held → Rests main_mid main_new → Rests sink_mid sink_new → DrawsIfTold [] ambient_mid ambient_new
@@ -653,7 +669,7 @@ module _ {B : Type 0} (plugin : B → StoreState) (stores_old stores_mid stores_
       → Serves plugin stores_old stores_new ambient_old ambient_new found since main_old main_new from to sink_old sink_new status.SourceFault
   ends_broken main_new to sink_new rest split part main_rests sink_rests drawn =
       ends_quiet main_new to sink_new status.SourceFault so_far (quiet main_new main_rests) sink_rests drawn
-      (record { taken = served.front ++ rest; split = split; left = rest; takes = takes_of (served.front ++ rest) served.front rest served.asked refl served.takes; part = part }, same_shown sink_new sink_rests, same_kept main_new (quiet main_new main_rests), same_next main_new main_rests)
+      (record { taken = served.front ++ rest; split = split; left = rest; takes = takes_of (served.front ++ rest) served.front rest served.asked refl served.takes; part = part }, same_shown sink_new sink_rests, same_left main_new main_rests)
 
   end_broken_line : (main_new : DiskState) (to : SourceState) (sink_new : SinkState) → ReadsPart old.reader mid to → Rests main_mid main_new → Rests sink_mid sink_new → DrawsIfTold [] ambient_mid ambient_new → Serves plugin stores_old stores_new ambient_old ambient_new found since main_old main_new from to sink_old sink_new status.SourceFault
   end_broken_line main_new to sink_new part main_rests sink_rests drawn =

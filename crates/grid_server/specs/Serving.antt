@@ -22,6 +22,7 @@ use Rattle.grid_server.specs.declared.status.Status.{Status}
 use Rattle.grid_server.specs.declared.status.Status.TheVariants as status
 use Rattle.grid_journal.specs.Stands.{StandsFor}
 use Rattle.grid_server.specs.Held.{ClosesAt}
+use Rattle.grid_server.specs.Keeping.{last_of}
 use Rattle.grid_server.specs.Causes.{AreCaused}
 use Rattle.grid_server.specs.Safe.{IsKnown}
 use Rattle.grid_server.specs.Drawing.{marks_of, DrawsIfTold}
@@ -92,6 +93,22 @@ pub record IsKept (main : Text) (g : Grid) : Type 0 where
   pub stands : StandsFor main cat
   pub grid : grid_of cat ≡ g
 
+-- the number of the last request that changed something: of these, the first of which has number n, or the given one
+abbrev pub last_change : ℕ → ℕ → List Done → ℕ
+last_change n last [] = last
+last_change n last (d ∷ ds) = last_change (n + 1) (last_of d.changed n last) ds
+
+-- main stands for what these requests left: their grid, in a catalogue of this run with the last of them that changed
+-- something, where this is the number of the next vault file. A command that was pending still is
+pub record IsLeft (main : Text) (found : Cat) (done : List Done) (end : State) (number : ℕ) : Type 0 where
+  pub cat : Cat
+  pub stands : StandsFor main cat
+  pub grid : grid_of cat ≡ end.grid
+  pub run : cat.numbers.run ≡ found.numbers.run + 1
+  pub last : cat.numbers.last ≡ last_change 1 0 done
+  pub next_vault : cat.numbers.next_vault ≡ number
+  pub pending : cat.pending ≡ found.pending
+
 -- all replies were added
 abbrev pub ShowsAll : List Done → SinkState → SinkState → Type 0
 ShowsAll done old new = IsTrue old.tells → new.holds ≡ old.holds ++ replies 1 done
@@ -140,28 +157,22 @@ pub record NextPuts (input : Text) (asked : List Asked) (end : State) : Type 0 w
   pub is : IsNext input asked what
   pub puts : AsksToPut end what
 
--- main stands for a catalogue whose next vault file has this number
-pub record HasNextVault (main : Text) (number : ℕ) : Type 0 where
-  pub cat : Cat
-  pub stands : StandsFor main cat
-  pub next : cat.numbers.next_vault ≡ number
-
 -- what has run out: the numbers of runs, before anything was done; the numbers of vault files, of which the next request
 -- needs one; or the room behind the log, which either the beginning of the run or the next request needs
-abbrev pub WearsOut : Cat → Text → List Asked → State → ℕ → DiskState → ℕ → Wear → Type 0
-WearsOut found input asked end number main place wear.Runs = (asked ≡ []) × (place ≡ found.numbers.run) × (place ≡ 2 ^ 64 - 1)
-WearsOut found input asked end number main place wear.Vaults = (place ≡ number) × (last_vault < number) × HasNextVault main.holds number × NextPuts input asked end
-WearsOut found input asked end number main place wear.Log = (2 ^ 62 < place) × ClosesAt main.holds place × (((asked ≡ []) × StandsFor main.holds found) ⊎ NextChanges input asked end number)
+abbrev pub WearsOut : Cat → Text → List Asked → List Done → State → ℕ → DiskState → ℕ → Wear → Type 0
+WearsOut found input asked done end number main place wear.Runs = (asked ≡ []) × (place ≡ found.numbers.run) × (place ≡ 2 ^ 64 - 1)
+WearsOut found input asked done end number main place wear.Vaults = (place ≡ number) × (last_vault < number) × IsLeft main.holds found done end number × NextPuts input asked end
+WearsOut found input asked done end number main place wear.Log = (2 ^ 62 < place) × ClosesAt main.holds place × (((asked ≡ []) × StandsFor main.holds found) ⊎ NextChanges input asked end number)
 
 -- what each status says. After a fault of a disk it says nothing of main, and `images` below is all that does
 abbrev pub Ends : Cat → List Asked → List Done → State → ℕ → DiskState → SourceState → SourceState → SinkState → SinkState → Status → Type 0
-Ends found asked done end number main from to sink_old sink_new status.Done = ReadAll asked from to × ShowsAll done sink_old sink_new × IsKept main.holds end.grid × HasNextVault main.holds number
-Ends found asked done end number main from to sink_old sink_new status.SourceFault = ReadPart asked from to × ShowsAll done sink_old sink_new × IsKept main.holds end.grid × HasNextVault main.holds number
-Ends found asked done end number main from to sink_old sink_new (status.Long taken) = (taken ≡ 2 ^ 48 + 1) × ReadMost asked from to × ShowsAll done sink_old sink_new × IsKept main.holds end.grid × HasNextVault main.holds number
+Ends found asked done end number main from to sink_old sink_new status.Done = ReadAll asked from to × ShowsAll done sink_old sink_new × IsLeft main.holds found done end number
+Ends found asked done end number main from to sink_old sink_new status.SourceFault = ReadPart asked from to × ShowsAll done sink_old sink_new × IsLeft main.holds found done end number
+Ends found asked done end number main from to sink_old sink_new (status.Long taken) = (taken ≡ 2 ^ 48 + 1) × ReadMost asked from to × ShowsAll done sink_old sink_new × IsLeft main.holds found done end number
 Ends found asked done end number main from to sink_old sink_new status.Memory = IsKept main.holds end.grid
-Ends found asked done end number main from to sink_old sink_new (status.Worn what place) = WearsOut found from.left asked end number main place what × ShowsAll done sink_old sink_new × IsKept main.holds end.grid
+Ends found asked done end number main from to sink_old sink_new (status.Worn what place) = WearsOut found from.left asked done end number main place what × ShowsAll done sink_old sink_new × IsKept main.holds end.grid
 Ends found asked done end number main from to sink_old sink_new status.DiskFault = Unit {0}
-Ends found asked done end number main from to sink_old sink_new status.SinkFault = IsKept main.holds end.grid × HasNextVault main.holds number
+Ends found asked done end number main from to sink_old sink_new status.SinkFault = IsLeft main.holds found done end number
 Ends found asked done end number main from to sink_old sink_new status.Usage = ⊥
 Ends found asked done end number main from to sink_old sink_new (status.NotACatalogue side place) = ⊥
 Ends found asked done end number main from to sink_old sink_new (status.NotEmpty side len) = ⊥
