@@ -37,6 +37,20 @@ const WORN_VAULT: &[u8] = b"\x13\xFF\xFF\xFF\xFE\0\0\0\x01\0\0\0\0\0\0\0\0\0\0\0
 
 const NO_VAULT: &[u8] = b"\x13\xFF\xFF\xFF\xFF\xFF\xFF\xFF\xFF\0\0\0\0\0\0\0\0\0\0\0\0\0\0\0\0";
 
+// The number of the second of these.
+const PAST_LAST: u64 = 18_446_744_065_119_617_025;
+
+// Two bodies of no bytes, and the replies where only the first is put.
+const TWO_PUT: &[u8] =
+    b"0 login rods\n0 put /tempZone/home/rods/o d0 new 0\n0 put /tempZone/home/rods/p d0 new 0\n";
+
+const FIRST_PUT: &[u8] = b"1 ok\n2 mark ran 0 1000\n2 ok\n";
+
+// A body in a collection that is not there, and one that nobody puts.
+const NOWHERE: &[u8] = b"0 login rods\n0 put /nowhere/o d0 new 0\n";
+
+const NOBODY: &[u8] = b"0 put /tempZone/home/rods/o d0 new 0\n";
+
 // An empty store. Its call of this number fails, from 1, or none at 0.
 fn failing(alloc: Global, call: u64) -> Result<MemStore, AllocError>
     ensures { IfOk result (λ store. (store_of store).last ≡ 0) }
@@ -254,25 +268,44 @@ fn a_sink_may_fail_within_a_get(rt: HostRuntime) -> Result<(), Fail> {
     Ok(())
 }
 
+// How a run ends for which the numbers of vault files run out at this one, or do not at 0.
+fn worn_at(at: u64) -> Status {
+    if at == 0 {
+        return Status::Done;
+    }
+    Status::Worn {
+        what: Wear::Vaults,
+        at,
+    }
+}
+
 #[test]
 fn the_numbers_of_vault_files_run_out(rt: HostRuntime) -> Result<(), Fail> {
     let alloc = rt.alloc();
     let new = begun(alloc)?;
-    let main = with_record(alloc, &new, LAST_VAULT)?;
-    serves_on(&rt, alloc, &main, ABC, 0, done(1, ABC_GOT, 2, O))?;
-    for (numbers, at) in [
-        (WORN_VAULT, 18_446_744_065_119_617_025),
-        (NO_VAULT, u64::MAX),
+    for (numbers, input, at, replies, last, paths) in [
+        (LAST_VAULT, ABC, 0, ABC_GOT, 2, O),
+        // The second body has no number.
+        (LAST_VAULT, TWO_PUT, PAST_LAST, FIRST_PUT, 2, O),
+        (
+            WORN_VAULT,
+            ABC,
+            PAST_LAST,
+            b"1 ok\n".as_slice(),
+            0,
+            b"".as_slice(),
+        ),
+        (NO_VAULT, ABC, u64::MAX, b"1 ok\n", 0, b""),
+        // That is told before what the grid would refuse, and behind what the line and the session are refused for.
+        (WORN_VAULT, NOWHERE, PAST_LAST, b"1 ok\n", 0, b""),
+        (WORN_VAULT, NOBODY, 0, b"1 err NoLogin\n", 0, b""),
     ] {
         let main = with_record(alloc, &new, numbers)?;
         let wanted = Outcome {
-            status: Status::Worn {
-                what: Wear::Vaults,
-                at,
-            },
-            ..done(1, b"1 ok\n", 0, b"")
+            status: worn_at(at),
+            ..done(1, replies, last, paths)
         };
-        serves_on(&rt, alloc, &main, ABC, 0, wanted)?;
+        serves_on(&rt, alloc, &main, input, 0, wanted)?;
     }
     Ok(())
 }
