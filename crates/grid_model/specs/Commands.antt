@@ -67,11 +67,12 @@ first_source g passes (e ∷ es) = elim (passes e.1.leaf) [
   | true ↦ elim (source_of g e.1) [ None ↦ first_source g passes es | Some slot ↦ Some (e.0, slot) ]
 ]
 
--- the replica that a get reads: the first on the leaf of this name, and without one the first of all. `-` finds none, unless
--- a leaf is called so
+-- the replica that a get reads: the first on the leaf of this name, and without one, and for `-`, the first of all
 abbrev pub source : Grid → Text → Object → Option (ℕ × ℕ)
-source g resource o =
-    elim (first_source g (same_text resource) o.replicas.entries) [ Some s ↦ Some s | None ↦ first_source g (λ leaf. true) o.replicas.entries ]
+source g resource o = elim (same_text resource any_resource) [
+  | true ↦ first_source g (λ leaf. true) o.replicas.entries
+  | false ↦ elim (first_source g (same_text resource) o.replicas.entries) [ Some s ↦ Some s | None ↦ first_source g (λ leaf. true) o.replicas.entries ]
+]
 
 -- ---- states and answers
 

@@ -17,7 +17,8 @@ use Rattle.grid_model.specs.declared.requests.Verb.{Verb}
 use Rattle.grid_model.specs.declared.refusal.Refusal.{Refusal}
 use Rattle.grid_journal.specs.Journal.{Journal, Keeps}
 use Rattle.grid_journal.specs.Stands.{StandsFor}
-use Rattle.grid_server.specs.Held.{state_of, ClosesAt, IsMade, IsLike, IsHeld}
+use Rattle.grid_model.specs.Applying.{IsMade}
+use Rattle.grid_server.specs.Held.{state_of, ClosesAt, IsLike, IsHeld}
 use Rattle.grid_server.specs.Keeping.{Adds, Stays, Goes, Rests, Follows, last_of, CommitEnds, IsCommitted, Quiet, KeptOrNot, Does, CarryEnds, Carries}
 use Rattle.grid_server.specs.Keeping as keeping
 use Rattle.grid_server.specs.Drawing.{DrawsIfTold}

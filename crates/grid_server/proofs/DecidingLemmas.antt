@@ -11,7 +11,7 @@ use Rattle.grid_model.specs.Maps.{get, has}
 use Rattle.grid_model.specs.Grid.{Grid, Resource}
 use Rattle.grid_model.specs.Rows.{Cat, IsCat, user_cmp, user, resource_cmp, resource}
 use Rattle.grid_model.specs.RowPaths.{collection_at, object_at}
-use Rattle.grid_model.specs.Applying.{is_group_kind, is_storage}
+use Rattle.grid_model.specs.Applying.{IsMade, is_group_kind, is_storage}
 use Rattle.grid_model.specs.RowGrids.{grid_of, resource_of}
 use Rattle.grid_model.specs.Commands.{State, Done, Act, does, writes, is_there, has_user_named, make, made, put_at, open_slot, is_open, refused, act}
 use Rattle.grid_model.specs.declared.deltas.UserRow.{UserRow}
@@ -31,7 +31,7 @@ use Rattle.grid_model.proofs.FoundRows.{find-self, found_of}
 use Rattle.grid_model.proofs.RowOrders.{lower_id}
 use Rattle.tables_laws.proofs.Sound.{IsSound, sound-made}
 use Rattle.tables_laws.proofs.LookUps.{get-users, get-resources, has-collections, has-objects}
-use Rattle.grid_server.specs.Held.{state_of, IsMade}
+use Rattle.grid_server.specs.Held.{state_of}
 use Rattle.grid_server.specs.Wearing.{HasNumber, last_vault}
 use Rattle.grid_server.specs.Deciding.{Decides, DecidesPlain, DecidesMaking, DecidesPutting, IsFree, IsRowFor, IsStoringFor, HasParentAt, NamesResource, is_user_id, slot_of}
 use Rattle.grid_server.specs.declared.server.Server.{Server}

@@ -14,7 +14,7 @@ use Rattle.grid_model.specs.Requests.{any_resource}
 use Rattle.grid_model.specs.Rows.{Cat, object, resource, replicas_of, replica_cmp}
 use Rattle.grid_model.specs.RowPaths.{object_at, object_path, is_path_of}
 use Rattle.grid_model.specs.RowGrids.{grid_of, object_of, resource_of, resource_name}
-use Rattle.grid_model.specs.Applying.{is_storage, is_replica}
+use Rattle.grid_model.specs.Applying.{IsMade, is_storage, is_replica}
 use Rattle.grid_model.specs.Whole.{leaf_slot}
 use Rattle.grid_model.specs.Commands.{State, Act, does, reads, act, refused, may_ask, source, first_source, get_at}
 use Rattle.grid_model.specs.declared.deltas.ObjectRow.{ObjectRow}
@@ -34,9 +34,9 @@ use Rattle.tables_laws.proofs.LookUps.{get-resources, get-objects, get-object_at
 use Rattle.tables_laws.proofs.Standing.{ResourceStands}
 use Rattle.tables_laws.proofs.Sound.{IsSound}
 use Rattle.tables_laws.proofs.Sources.{HasOwnNames, names-made, first_row, row_source, told, LeafOf, leaf_of, resource_found, first_source-object}
-use Rattle.grid_server.specs.Held.{state_of, IsMade}
+use Rattle.grid_server.specs.Held.{state_of}
 use Rattle.grid_server.specs.Deciding.{Decides as DecidesAll, NamesResource, slot_of}
-use Rattle.grid_server.specs.Finding.{is_asked, slot_to_read, first_to_read, to_read, file_of, DecidesGetting}
+use Rattle.grid_server.specs.Finding.{leaf_asked, is_asked, slot_to_read, first_to_read, to_read, file_of, DecidesGetting}
 use Rattle.grid_server.specs.declared.server.Server.{Server}
 use Rattle.grid_server.specs.declared.decision.Decision.{Decision}
 use Rattle.grid_server.specs.declared.decision.Decision.TheVariants as decision
@@ -171,8 +171,17 @@ module _ (c : Cat) (m : IsMade c) (p : Path) (o : ObjectRow) (at : object_at c p
   abbrev or_any : Option (ReplicaRow × ℕ) → Option (ℕ × ℕ)
   or_any f = elim (option_map told f) as (λ _. Option (ℕ × ℕ)) [ Some s ↦ Some s | None ↦ option_map told (first_to_read c None (replicas_of c o.id)) ]
 
-  source_is : (leaf : Option ℕ) → leaf ≡ option_map (λ r. r.id) (find (λ r. same_text r.name name) c.resources) → source (grid_of c) name (object_of c o) ≡ option_map told (to_read c leaf o)
-  source_is (Some id) e =
+  -- the first on the leaf of the name, and without one the first of all
+  abbrev first_of : Option (ℕ × ℕ)
+  first_of = elim (first_source (grid_of c) (same_text name) (object_of c o).replicas.entries) as (λ _. Option (ℕ × ℕ)) [ Some s ↦ Some s | None ↦ first_source (grid_of c) (λ leaf. true) (object_of c o).replicas.entries ]
+
+  first_of_all : (f : Option (ReplicaRow × ℕ)) → first_to_read c None (replicas_of c o.id) ≡ f
+      → option_map told f ≡ option_map told (elim f as (λ _. Option (ReplicaRow × ℕ)) [ Some s ↦ Some s | None ↦ first_to_read c None (replicas_of c o.id) ])
+  first_of_all None is = sym (ap (option_map told) is)
+  first_of_all (Some s) is = refl
+
+  named_is : (leaf : Option ℕ) → leaf ≡ option_map (λ r. r.id) (find (λ r. same_text r.name name) c.resources) → first_of ≡ option_map told (to_read c leaf o)
+  named_is (Some id) e =
       ap (λ (f : Option (ℕ × ℕ)). elim f as (λ _. Option (ℕ × ℕ)) [ Some s ↦ Some s | None ↦ first_source (grid_of c) (λ leaf. true) (object_of c o).replicas.entries ]) (named_source id e)
       ∙ ap (λ (f : Option (ℕ × ℕ)). elim (option_map told (first_to_read c (Some id) (replicas_of c o.id))) as (λ _. Option (ℕ × ℕ)) [ Some s ↦ Some s | None ↦ f ]) any_source
       ∙ by_first (first_to_read c (Some id) (replicas_of c o.id))
@@ -180,19 +189,22 @@ module _ (c : Cat) (m : IsMade c) (p : Path) (o : ObjectRow) (at : object_at c p
       by_first : (f : Option (ReplicaRow × ℕ)) → or_any f ≡ option_map told (elim f as (λ _. Option (ReplicaRow × ℕ)) [ Some s ↦ Some s | None ↦ first_to_read c None (replicas_of c o.id) ])
       by_first None = refl
       by_first (Some s) = refl
-  source_is None e =
+  named_is None e =
       ap (λ (f : Option (ℕ × ℕ)). elim f as (λ _. Option (ℕ × ℕ)) [ Some s ↦ Some s | None ↦ first_source (grid_of c) (λ leaf. true) (object_of c o).replicas.entries ])
       (unnamed_source (no_row (find (λ r. same_text r.name name) c.resources) e))
-      ∙ any_source ∙ by_first (first_to_read c None (replicas_of c o.id)) refl
+      ∙ any_source ∙ first_of_all (first_to_read c None (replicas_of c o.id)) refl
     where
       no_row : (f : Option ResourceRow) → None ≡ option_map (λ (r : ResourceRow). r.id) f → f ≡ None
       no_row None is = refl
       no_row (Some r) is = absurd cc
 
-      by_first : (f : Option (ReplicaRow × ℕ)) → first_to_read c None (replicas_of c o.id) ≡ f
-          → option_map told f ≡ option_map told (elim f as (λ _. Option (ReplicaRow × ℕ)) [ Some s ↦ Some s | None ↦ first_to_read c None (replicas_of c o.id) ])
-      by_first None is = sym (ap (option_map told) is)
-      by_first (Some s) is = refl
+  source_is : (leaf : Option ℕ) → leaf ≡ leaf_asked c name → source (grid_of c) name (object_of c o) ≡ option_map told (to_read c leaf o)
+  source_is leaf e = by_test (same_text name any_resource) e
+    where
+      by_test : (b : Bool) → leaf ≡ elim b as (λ _. Option ℕ) [ true ↦ None | false ↦ option_map (λ (r : ResourceRow). r.id) (find (λ r. same_text r.name name) c.resources) ]
+          → elim b as (λ _. Option (ℕ × ℕ)) [ true ↦ first_source (grid_of c) (λ leaf. true) (object_of c o).replicas.entries | false ↦ first_of ] ≡ option_map told (to_read c leaf o)
+      by_test true none = any_source ∙ first_of_all (first_to_read c None (replicas_of c o.id)) refl ∙ ap (λ (l : Option ℕ). option_map told (to_read c l o)) (sym none)
+      by_test false named = named_is leaf named
 
   -- the walks end at a good replica of the object whose leaf has that slot
   read_there : (leaf : Option ℕ) (from : ReplicaRow × ℕ) → to_read c leaf o ≡ Some from → IsIn (replicas_of c o.id) from.0 × (from.0.good ≡ true) × (slot_of c from.0.leaf ≡ Some from.1)
@@ -279,21 +291,23 @@ module _ (c : Cat) (m : IsMade c) (p : Path) (o : ObjectRow) (at : object_at c p
       by_row None = refl
       by_row (Some r) = refl
 
-  asks_is : (leaf : Option ℕ) → leaf ≡ option_map (λ r. r.id) named → may_ask (grid_of c) name ≡ (is_some leaf || same_text name any_resource)
-  asks_is leaf e = turned (same_text name any_resource) (has (grid_of c).resources name) ∙ ap (λ (b : Bool). b || same_text name any_resource) (has_is ∙ ap is_some (sym e))
+  asks_is : (leaf : Option ℕ) → leaf ≡ leaf_asked c name → may_ask (grid_of c) name ≡ (is_some leaf || same_text name any_resource)
+  asks_is leaf e = by_test (same_text name any_resource) e
     where
-      turned : (a b : Bool) → (a || b) ≡ (b || a)
-      turned true true = refl
-      turned true false = refl
-      turned false true = refl
-      turned false false = refl
+      or_no : (b : Bool) → b ≡ (b || false)
+      or_no true = refl
+      or_no false = refl
+
+      by_test : (b : Bool) → leaf ≡ elim b as (λ _. Option ℕ) [ true ↦ None | false ↦ option_map (λ (r : ResourceRow). r.id) named ] → (b || has (grid_of c).resources name) ≡ (is_some leaf || b)
+      by_test true none = ap (λ (l : Option ℕ). is_some l || true) (sym none)
+      by_test false its = has_is ∙ ap is_some (sym its) ∙ or_no (is_some leaf)
 
   -- a resource is named that is not there
-  pub finds_no_resource : (leaf : Option ℕ) → leaf ≡ option_map (λ r. r.id) named → (is_some leaf || same_text name any_resource) ≡ false → DecidesGetting c p name (decision.Plain (plain.Refuse NoResource))
+  pub finds_no_resource : (leaf : Option ℕ) → leaf ≡ leaf_asked c name → (is_some leaf || same_text name any_resource) ≡ false → DecidesGetting c p name (decision.Plain (plain.Refuse NoResource))
   finds_no_resource leaf e none s same = get_is s same false (source (grid_of c) name (object_of c o)) (asks_is leaf e ∙ none) refl
 
   -- no replica may be read
-  pub finds_no_replica : (leaf : Option ℕ) → leaf ≡ option_map (λ r. r.id) named → (is_some leaf || same_text name any_resource) ≡ true → None ≡ option_map (file_of o) (to_read c leaf o) → DecidesGetting c p name (decision.Plain (plain.Refuse NoReplica))
+  pub finds_no_replica : (leaf : Option ℕ) → leaf ≡ leaf_asked c name → (is_some leaf || same_text name any_resource) ≡ true → None ≡ option_map (file_of o) (to_read c leaf o) → DecidesGetting c p name (decision.Plain (plain.Refuse NoReplica))
   finds_no_replica leaf e ask none s same = get_is s same true None (asks_is leaf e ∙ ask) (source_is leaf e ∙ ap (option_map told) (no_file (to_read c leaf o) none))
     where
       no_file : (f : Option (ReplicaRow × ℕ)) → None ≡ option_map (file_of o) f → f ≡ None
@@ -301,7 +315,7 @@ module _ (c : Cat) (m : IsMade c) (p : Path) (o : ObjectRow) (at : object_at c p
       no_file (Some from) is = absurd cc
 
   -- this one is read
-  pub finds_file : (leaf : Option ℕ) (file : OldFile) → leaf ≡ option_map (λ r. r.id) named → (is_some leaf || same_text name any_resource) ≡ true → Some file ≡ option_map (file_of o) (to_read c leaf o) → DecidesGetting c p name (decision.Send file)
+  pub finds_file : (leaf : Option ℕ) (file : OldFile) → leaf ≡ leaf_asked c name → (is_some leaf || same_text name any_resource) ≡ true → Some file ≡ option_map (file_of o) (to_read c leaf o) → DecidesGetting c p name (decision.Send file)
   finds_file leaf file e ask some = by_row (to_read c leaf o) refl some
     where
       by_row : (f : Option (ReplicaRow × ℕ)) → to_read c leaf o ≡ f → Some file ≡ option_map (file_of o) f → DecidesGetting c p name (decision.Send file)

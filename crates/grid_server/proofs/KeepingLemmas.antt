@@ -9,7 +9,7 @@ use Rattle.grid_outside.specs.declared.outside.Wear.{Wear}
 use Rattle.grid_outside.specs.declared.outside.Wear.TheVariants.{Log}
 use Rattle.grid_model.specs.Names.{Text}
 use Rattle.grid_model.specs.Rows.{Cat, empty_cat}
-use Rattle.grid_model.specs.Applying.{apply_all}
+use Rattle.grid_model.specs.Applying.{IsMade, apply_all}
 use Rattle.grid_model.specs.declared.deltas.Delta.{Delta}
 use Rattle.grid_journal.specs.Journal.{Journal, Keeps}
 use Rattle.grid_journal.specs.Store.{Commits}
@@ -18,7 +18,7 @@ use Rattle.grid_journal.proofs.KeepingLemmas.{keeps_stands as journal_stands}
 use Rattle.grid_journal.proofs.DeltaLemmas.{apply_all_after}
 use Rattle.grid_journal.specs.declared.error.JournalError.{JournalError}
 use Rattle.grid_journal.specs.declared.error.JournalError.TheVariants as journal
-use Rattle.grid_server.specs.Held.{ClosesAt, IsMade, IsLike, IsHeld}
+use Rattle.grid_server.specs.Held.{ClosesAt, IsLike, IsHeld}
 use Rattle.grid_server.specs.Stopping.{IsOfCommit, stop_of}
 use Rattle.grid_server.specs.Keeping.{Goes, Rests, CommitEnds, Quiet, KeptOrNot, not_kept, kept}
 use Rattle.grid_server.specs.declared.server.Server.{Server}

@@ -10,7 +10,7 @@ use Rattle.grid_model.specs.Rows.{Cat}
 use Rattle.grid_model.specs.RowPaths.{collection_path}
 use Rattle.grid_model.specs.RowGrids.{grid_of, collection_place}
 use Rattle.grid_model.specs.NewRows.{with_collection_row, IsNewAt}
-use Rattle.grid_model.specs.Applying.{apply, apply_all, where_fits}
+use Rattle.grid_model.specs.Applying.{IsMade, apply, apply_all, where_fits}
 use Rattle.grid_model.specs.Commands.{State, Done, does, made, with_collection}
 use Rattle.grid_model.specs.declared.deltas.CollectionRow.{CollectionRow}
 use Rattle.grid_model.specs.declared.deltas.Numbers.{Numbers}
@@ -23,7 +23,7 @@ use Rattle.tables_laws.proofs.Grids.{grid-unseen}
 use Rattle.tables_laws.proofs.Places.{place_is}
 use Rattle.tables_laws.proofs.NewCollections.{grid-new_collection}
 use Rattle.grid_journal.specs.Stands.{StandsFor}
-use Rattle.grid_server.specs.Held.{state_of, IsMade, IsHeld}
+use Rattle.grid_server.specs.Held.{state_of, IsHeld}
 use Rattle.grid_server.specs.Keeping.{Follows, IsCommitted, Carries, not_kept}
 use Rattle.grid_server.specs.declared.server.Server.{Server}
 use Rattle.grid_server.specs.declared.server.Stop.{Stop}

@@ -7,7 +7,7 @@ use Rattle.grid_outside.specs.Disk.{DiskState}
 use Rattle.grid_outside.specs.declared.outside.Wear.{Wear}
 use Rattle.grid_model.specs.Rows.{Cat}
 use Rattle.grid_model.specs.RowGrids.{grid_of}
-use Rattle.grid_model.specs.Applying.{apply, apply_all, where_fits}
+use Rattle.grid_model.specs.Applying.{IsMade, apply, apply_all, where_fits}
 use Rattle.grid_model.specs.declared.deltas.Numbers.{Numbers}
 use Rattle.grid_model.specs.declared.deltas.Delta.{Delta}
 use Rattle.grid_model.specs.declared.deltas.Delta.TheVariants as delta
@@ -17,7 +17,7 @@ use Rattle.grid_journal.specs.declared.error.JournalError.{JournalError}
 use Rattle.grid_journal.specs.declared.error.JournalError.TheVariants as journal
 use Rattle.grid_journal.proofs.DeltaLemmas.{then_all}
 use Rattle.tables_laws.proofs.Grids.{grid-unseen}
-use Rattle.grid_server.specs.Held.{IsMade, ClosesAt}
+use Rattle.grid_server.specs.Held.{ClosesAt}
 use Rattle.std.proofs.lemmas.Bool.{cases_lt}
 use Rattle.grid_model.specs.Names.{Text}
 use Rattle.frame_log.specs.Log.{frames, log_of}

@@ -10,7 +10,7 @@ use Rattle.grid_model.specs.Rows.{Cat, resource, has_object, with_row, orphan_cm
 use Rattle.grid_model.specs.RowPaths.{is_path_of, names_up, collection_path, object_path, collection_at, object_at}
 use Rattle.grid_model.specs.RowGrids.{grid_of, collection_place, resource_name}
 use Rattle.grid_model.specs.NewRows.{IsFreeAt}
-use Rattle.grid_model.specs.Applying.{apply, apply_all, where_fits, is_storage, is_leaf, is_drawn, is_replica, slot_fits}
+use Rattle.grid_model.specs.Applying.{IsMade, apply, apply_all, where_fits, is_storage, is_leaf, is_drawn, is_replica, slot_fits}
 use Rattle.grid_model.specs.Grid.{Grid}
 use Rattle.grid_model.specs.Commands.{Act, Comes, act, writes, written, not_written, with_object, object_with, stored, failed}
 use Rattle.grid_model.specs.Replies.{reply, mark_line, end_line}
@@ -34,7 +34,7 @@ use Rattle.tables_laws.proofs.Places.{place_is}
 use Rattle.tables_laws.proofs.Standing.{ReplicaStands, ResourceStands}
 use Rattle.tables_laws.proofs.Sound.{IsSound}
 use Rattle.tables_laws.proofs.StoredFiles.{grid-stored_file}
-use Rattle.grid_server.specs.Held.{state_of, IsMade, IsLike}
+use Rattle.grid_server.specs.Held.{state_of, IsLike}
 use Rattle.grid_server.specs.declared.server.Server.{Server}
 use Rattle.grid_server.specs.Deciding.{IsStoring, slot_of}
 use Rattle.grid_model.specs.Deltas.{text, digest, is_byte}

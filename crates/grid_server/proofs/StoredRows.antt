@@ -16,7 +16,7 @@ use Rattle.tables_laws.proofs.Rows.{IsIn, in_from_all, all_from_in, in_from_with
 use Rattle.tables_laws.proofs.Numbered.{same_number, put_found, put_other}
 use Rattle.tables_laws.proofs.Standing.{ReplicaStands}
 use Rattle.tables_laws.proofs.Replicas.{same_object}
-use Rattle.grid_server.specs.Held.{IsMade}
+use Rattle.grid_model.specs.Applying.{IsMade}
 use Rattle.grid_server.specs.Deciding.{IsStoring}
 use Rattle.grid_server.specs.declared.decision.Storing.{Storing}
 use Rattle.grid_server.proofs.StoredLemmas as rows

@@ -12,12 +12,12 @@ use Rattle.grid_model.specs.Rows.{Cat}
 use Rattle.grid_model.specs.RowGrids.{grid_of}
 use Rattle.grid_model.specs.Grid.{Grid}
 use Rattle.grid_model.specs.Commands.{State, Done, stored, failed}
-use Rattle.grid_model.specs.Applying.{apply_all}
+use Rattle.grid_model.specs.Applying.{IsMade, apply_all}
 use Rattle.grid_model.specs.declared.deltas.Delta.{Delta}
 use Rattle.grid_model.specs.declared.deltas.Numbers.{Numbers}
 use Rattle.grid_server.specs.Storing.{begun_deltas, stored_deltas}
 use Rattle.grid_journal.specs.Stands.{StandsEither, StandsFor}
-use Rattle.grid_server.specs.Held.{state_of, ClosesAt, IsMade, IsLike, IsHeld}
+use Rattle.grid_server.specs.Held.{state_of, ClosesAt, IsLike, IsHeld}
 use Rattle.grid_server.specs.Keeping.{Rests, Follows, CommitEnds, IsCommitted, Quiet, KeptOrNot, not_kept, CarryEnds, Carries}
 use Rattle.grid_server.specs.Deciding.{IsStoring}
 use Rattle.grid_server.specs.Stores.{StoresGo}

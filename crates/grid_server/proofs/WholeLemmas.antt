@@ -21,7 +21,8 @@ use Rattle.grid_journal.specs.Stands.{Stands, StandsEither, StandsFor}
 use Rattle.grid_journal.specs.Start.{start}
 use Rattle.grid_journal.proofs.StandsLemmas.{Stands-same}
 use Rattle.tables_laws.proofs.Rows.{in_from_all, all_from_in}
-use Rattle.grid_server.specs.Held.{IsMade, IsHeld}
+use Rattle.grid_model.specs.Applying.{IsMade}
+use Rattle.grid_server.specs.Held.{IsHeld}
 use Rattle.grid_server.specs.Keeping.{Goes, Rests, IsCommitted}
 use Rattle.grid_server.specs.Stores.{StoresGo}
 use Rattle.grid_server.specs.Safe.{AreWhole, HaveNoFiles, KeepWhole, IsKnown}

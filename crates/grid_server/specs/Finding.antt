@@ -1,6 +1,7 @@
 -- What the getting of an object is found to come to.
-use Rattle.std.specs.Prelude.{◌≡◌, ℕ, Bool, true, false, ◌&&◌, ◌==◌, List, [], ◌∷◌, Option, None, Some}
-use Rattle.grid_model.specs.Names.{Text, Path}
+use Rattle.std.specs.Prelude.{◌≡◌, ℕ, Bool, true, false, ◌&&◌, ◌==◌, List, [], ◌∷◌, Option, None, Some, find, option_map}
+use Rattle.grid_model.specs.Names.{Text, Path, same_text}
+use Rattle.grid_model.specs.Requests.{any_resource}
 use Rattle.grid_model.specs.Rows.{Cat, replicas_of}
 use Rattle.grid_model.specs.RowGrids.{grid_of}
 use Rattle.grid_model.specs.Grid.{Object}
@@ -12,6 +13,10 @@ use Rattle.grid_server.specs.declared.decision.Decision.{Decision}
 use Rattle.grid_server.specs.declared.decision.Decision.TheVariants as decision
 use Rattle.grid_server.specs.declared.decision.Plain.TheVariants as plain
 use Rattle.grid_server.specs.Deciding.{IsSending, slot_of}
+
+-- the resource that is asked, by its id: the one of this name, and none for `-`
+abbrev pub leaf_asked : Cat → Text → Option ℕ
+leaf_asked c name = elim (same_text name any_resource) [ true ↦ None | false ↦ option_map (λ r. r.id) (find (λ r. same_text r.name name) c.resources) ]
 
 -- whether a leaf is the one that is asked, if one is
 abbrev pub is_asked : Option ℕ → ℕ → Bool

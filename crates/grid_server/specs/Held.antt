@@ -1,13 +1,12 @@
 -- What the server holds in memory, and what main has beside it.
-use Rattle.std.specs.Prelude.{◌≡◌, ℕ, ◌+◌, List, [], length, IsTrue, Ok}
+use Rattle.std.specs.Prelude.{◌≡◌, ℕ, ◌+◌, List, [], length, IsTrue}
 use Rattle.grid_outside.specs.Disk.{DiskState}
 use Rattle.frame_log.specs.Log.{IsLog, frames}
 use Rattle.grid_model.specs.Names.{Text}
-use Rattle.grid_model.specs.Rows.{Cat, empty_cat}
+use Rattle.grid_model.specs.Rows.{Cat}
 use Rattle.grid_model.specs.RowGrids.{grid_of}
-use Rattle.grid_model.specs.Applying.{apply_all}
+use Rattle.grid_model.specs.Applying.{IsMade}
 use Rattle.grid_model.specs.Commands.{State}
-use Rattle.grid_model.specs.declared.deltas.Delta.{Delta}
 use Rattle.grid_journal.specs.Journal.{Keeps}
 use Rattle.grid_server.specs.declared.server.Server.{Server}
 
@@ -20,10 +19,6 @@ pub record ClosesAt (main : Text) (place : ℕ) : Type 0 where
   pub records : List (List ℕ)
   pub log : IsLog 16 records main
   pub place_is : place ≡ 16 + length (frames records)
-
--- changes make the catalogue of the one without rows
-abbrev pub IsMade : Cat → Type 0
-IsMade c = (deltas : List Delta) × (apply_all empty_cat deltas ≡ Ok c)
 
 -- The catalogue is of the same run, stands for the same grid after the same commands, and has the same command that is not
 -- done. So orphans and the next vault number may be others, and so may ids and the text of the rules.

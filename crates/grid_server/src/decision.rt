@@ -4,8 +4,7 @@ ghost use Rattle.std.specs.List.Sorted.{IsStrictlyIncreasing};
 ghost use Rattle.grid_model.specs.Names.{parent as parent_of};
 ghost use Rattle.grid_model.specs.Commands.{is_there, has_user_named};
 ghost use Rattle.grid_model.specs.RowGrids.{grid_of};
-ghost use Rattle.grid_model.specs.Applying.{is_group_kind, is_storage};
-ghost use Rattle.grid_server.specs.Held.{IsMade};
+ghost use Rattle.grid_model.specs.Applying.{IsMade, is_group_kind, is_storage};
 ghost use Rattle.grid_server.specs.Wearing.{last_vault};
 ghost use Rattle.grid_server.specs.Deciding.{DecidesMaking, DecidesPutting, IsFree, IsRowFor, IsStoringFor, HasParentAt, NamesResource, is_user_id, slot_of};
 

@@ -1,10 +1,10 @@
 ghost use Rattle.std.specs.Prelude.{◌≡◌, ◌||◌, Some, is_some, option_map};
+ghost use Rattle.grid_model.specs.Applying.{IsMade};
 ghost use Rattle.grid_model.specs.Names.{Path as PathOf, same_text};
 ghost use Rattle.grid_model.specs.Requests.{any_resource};
 ghost use Rattle.grid_model.specs.Rows.{object as object_row, replicas_of};
 ghost use Rattle.grid_model.specs.RowPaths.{object_at};
-ghost use Rattle.grid_server.specs.Held.{IsMade};
-ghost use Rattle.grid_server.specs.Finding.{DecidesGetting, is_asked, slot_to_read, first_to_read, to_read, file_of};
+ghost use Rattle.grid_server.specs.Finding.{DecidesGetting, leaf_asked, is_asked, slot_to_read, first_to_read, to_read, file_of};
 
 use crate::decision::{Decision, open_slot, refuse};
 use grid_model::{ObjectRow, OldFile, Path, Refusal, ReplicaRow, Text};
@@ -29,7 +29,7 @@ fn replica_to_send(tables: &Tables, object: &ObjectRow, resource: &Text) -> Deci
     requires { IsMade tables.now }
     ensures { (p : PathOf) → object_at tables.now p ≡ Some object.now.id → object_row tables.now object.now.id ≡ Some object.now → DecidesGetting tables.now p resource.now result }
 {
-    let leaf = tables.resource_named(resource);
+    let leaf = leaf_asked(tables, resource);
     if !may_ask(leaf, resource) {
         return refuse(Refusal::NoResource);
     }
@@ -37,6 +37,16 @@ fn replica_to_send(tables: &Tables, object: &ObjectRow, resource: &Text) -> Deci
         None => refuse(Refusal::NoReplica),
         Some(file) => Decision::Send(file),
     }
+}
+
+// The resource that is asked; none for `-`.
+fn leaf_asked(tables: &Tables, resource: &Text) -> Option<u32>
+    ensures { result ≡ leaf_asked tables.now resource.now }
+{
+    if resource.has_bytes(b"-") {
+        return None;
+    }
+    tables.resource_named(resource)
 }
 
 // Whether a get may name the resource: it is there, with this id, or none is named.

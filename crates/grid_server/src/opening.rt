@@ -1,6 +1,6 @@
 ghost use Rattle.std.specs.Prelude.{◌≡◌, ◌+◌, ◌^◌, ◌<◌, ◌≤◌, ◌∷◌, [], IsTrue, IfOk, IsErrOf};
 ghost use Rattle.grid_outside.specs.Fault.{Rose};
-ghost use Rattle.grid_server.specs.Held.{IsMade};
+ghost use Rattle.grid_model.specs.Applying.{IsMade};
 ghost use Rattle.grid_journal.specs.Journal.{Keeps};
 ghost use Rattle.grid_server.specs.Opening.{Begun};
 ghost use Rattle.grid_server.specs.Stopping.{IsOfCommit, begin_error_of};

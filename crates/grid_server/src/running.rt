@@ -5,7 +5,7 @@ ghost use Rattle.grid_outside.specs.Fault.{Rose};
 ghost use Rattle.grid_model.specs.Names.{is_name};
 ghost use Rattle.grid_model.specs.Grid.{everybody};
 ghost use Rattle.grid_model.specs.Rows.{Cat};
-ghost use Rattle.grid_server.specs.Held.{IsMade};
+ghost use Rattle.grid_model.specs.Applying.{IsMade};
 ghost use Rattle.grid_journal.specs.Journal.{Keeps};
 ghost use Rattle.grid_journal.specs.Start.{start};
 ghost use Rattle.grid_journal.specs.Stands.{Stands};
