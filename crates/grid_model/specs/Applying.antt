@@ -1,11 +1,11 @@
 -- What a delta makes of the catalogue, or why it is refused: the cause is the number of the delta's kind, its tag. Which
 -- deltas there are and when they are refused is this project's own; that a resource is a leaf that stores or a node
 -- above others is of iRODS (iRODS documentation, composable resources).
-use Rattle.std.specs.Prelude.{ℕ, zero, suc, Bool, true, false, not, ◌&&◌, ◌||◌, ◌==◌, nat_lt, nat_le, List, [], ◌∷◌, length, None, Some, Result, Ok, Err, is_some, is_none, filter}
+use Rattle.std.specs.Prelude.{◌≡◌, ℕ, zero, suc, Bool, true, false, not, ◌&&◌, ◌||◌, ◌==◌, nat_lt, nat_le, List, [], ◌∷◌, length, None, Some, Result, Ok, Err, is_some, is_none, filter}
 use Rattle.std.specs.List.{list_any}
 use Rattle.std.specs.Ordering.{eq_by_cmp}
 use Rattle.grid_model.specs.Names.{Text, is_name, same_text}
-use Rattle.grid_model.specs.Rows.{Cat, user_cmp, member_cmp, collection_cmp, object_cmp, replica_cmp, triple_cmp, entry_cmp, resource_cmp, orphan_cmp, with_row, collection, resource, has_user, has_collection, has_object, item_there, is_member, same_item}
+use Rattle.grid_model.specs.Rows.{Cat, empty_cat, user_cmp, member_cmp, collection_cmp, object_cmp, replica_cmp, triple_cmp, entry_cmp, resource_cmp, orphan_cmp, with_row, collection, resource, has_user, has_collection, has_object, item_there, is_member, same_item}
 use Rattle.grid_model.specs.declared.deltas.Delta.{Delta}
 use Rattle.grid_model.specs.declared.deltas.Delta.TheVariants as delta
 use Rattle.grid_model.specs.declared.deltas.UserRow.{UserRow}
@@ -288,3 +288,7 @@ apply c delta.NoPending = where_fits (is_some c.pending) 21 (record c { pending 
 abbrev pub apply_all : Cat → List Delta → Result Cat ℕ
 apply_all c [] = Ok c
 apply_all c (d ∷ deltas) = elim (apply c d) [ Ok next ↦ apply_all next deltas | Err cause ↦ Err cause ]
+
+-- changes make the catalogue of the one without rows
+abbrev pub IsMade : Cat → Type 0
+IsMade c = (deltas : List Delta) × (apply_all empty_cat deltas ≡ Ok c)

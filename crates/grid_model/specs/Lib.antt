@@ -5,6 +5,7 @@ pub mod Deltas
 pub mod Digests
 pub mod Grid
 pub mod Inputs
+pub mod Levels
 pub mod Limits
 pub mod Lines
 pub mod Maps
