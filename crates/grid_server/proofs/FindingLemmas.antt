@@ -1,6 +1,6 @@
 -- Which file a get reads: the walk over rows is the walk over the replicas in the grid.
-use Rattle.std.proofs.Common.{◌≡◌, ◌==◌, ◌<◌, ◌≤◌, ◌+◌, ℕ, Bool, true, false, List, [], ◌∷◌, length, drop, get_or, Option, Some, None, Result, Ok, IsTrue, refl, sym, ap, ◌∙◌, subst, inl, inr, eq-eqb, eqb-true}
-use Rattle.std.specs.Prelude.{find, option_map, is_some, ◌&&◌, ◌||◌, nat_lt, ◌↔◌}
+use Rattle.std.proofs.Common.{◌≡◌, ◌==◌, ◌<◌, ◌≤◌, ◌+◌, ℕ, Bool, true, false, List, [], ◌∷◌, length, drop, get_or, Option, Some, None, Result, Ok, refl, sym, ap, ◌∙◌, subst, inl, inr, eq-eqb, eqb-true}
+use Rattle.std.specs.Prelude.{find, option_map, is_some, ◌&&◌, ◌||◌, nat_lt}
 use Rattle.std.proofs.lemmas.List.{drop_more}
 use Rattle.std.proofs.Math.ListN.{drop_of_length-le}
 use Rattle.std.proofs.lemmas.Bool.{and_parts, and_from, ltb-true}
@@ -50,10 +50,6 @@ same_both : (a b : Bool) → (a ≡ true → b ≡ true) → (b ≡ true → a �
 same_both true b one two = sym (one refl)
 same_both false true one two = two refl
 same_both false false one two = refl
-
--- whether a text is this one
-pub is_same_text : (b : Bool) (name other : Text) → IsTrue b ↔ (name ≡ other) → b ≡ same_text name other
-is_same_text b name other tells = same_both b (same_text name other) (λ e. (same_text-Decides name other).1 (tells.0 e)) (λ e. tells.1 ((same_text-Decides name other).0 e))
 
 -- ---- the walk over rows
 

@@ -1,6 +1,7 @@
 -- What the grid of a sound catalogue answers, by the rows that are found.
-use Rattle.std.proofs.Common.{◌≡◌, ℕ, Option, Some, None, refl, sym, ap, ◌∙◌}
-use Rattle.std.specs.Prelude.{find, option_map, is_some}
+use Rattle.std.proofs.Common.{◌≡◌, ℕ, Bool, Option, Some, None, refl, sym, ap, ◌∙◌}
+use Rattle.std.specs.Prelude.{◌↔◌, IsTrue, find, option_map, is_some}
+use Rattle.std.specs.Cmp.{both_ways}
 use Rattle.std.proofs.lemmas.Option.{same_Some}
 use Rattle.grid_model.specs.Maps.{get, has}
 use Rattle.grid_model.specs.Names.{Text, Path, same_path, same_text}
@@ -11,7 +12,7 @@ use Rattle.grid_model.specs.declared.deltas.UserRow.{UserRow}
 use Rattle.grid_model.specs.declared.deltas.CollectionRow.{CollectionRow}
 use Rattle.grid_model.specs.declared.deltas.ObjectRow.{ObjectRow}
 use Rattle.grid_model.specs.declared.deltas.ResourceRow.{ResourceRow}
-use Rattle.grid_model.proofs.Comparing.{text_cmp_total, path_cmp_total}
+use Rattle.grid_model.proofs.Comparing.{text_cmp_total, path_cmp_total, same_text-Decides}
 use Rattle.tables_laws.proofs.Rows.{in_from_find}
 use Rattle.tables_laws.proofs.Numbered.{found_in}
 use Rattle.tables_laws.proofs.RowLists.{find-congr}
@@ -24,6 +25,10 @@ is_some-option_map f None = refl
 is_some-option_map f (Some x) = refl
 
 -- ---- by names
+
+-- whether a name is this one
+pub is_same_text : (b : Bool) (name other : Text) → IsTrue b ↔ (name ≡ other) → b ≡ same_text name other
+is_same_text b name other tells = both_ways b (same_text name other) (λ e. (same_text-Decides name other).1 (tells.0 e)) (λ e. tells.1 ((same_text-Decides name other).0 e))
 
 pub get-users : (c : Cat) (name : Text) → get (grid_of c).users name ≡ option_map (λ r. r.kind) (find (λ r. same_text r.name name) c.users)
 get-users c name = get-rows text_cmp_total (λ (r : UserRow). r.name) (λ (r : UserRow). r.kind) c.users name

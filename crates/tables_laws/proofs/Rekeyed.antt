@@ -40,7 +40,7 @@ module _ {K V : Type 0} {R : K → K → Ordering} where
 
 -- what is found stands there
 module _ {K V : Type 0} (R : K → K → Ordering) where
-  in_from_find_entry : (q : K) (es : List (K × V)) (v : V) → find_entry R q es ≡ Some v → (e : K × V) × IsIn es e × (eq_by_cmp R q e.0 ≡ true) × (e.1 ≡ v)
+  pub in_from_find_entry : (q : K) (es : List (K × V)) (v : V) → find_entry R q es ≡ Some v → (e : K × V) × IsIn es e × (eq_by_cmp R q e.0 ≡ true) × (e.1 ≡ v)
   in_from_find_entry q [] v f = absurd cc
   in_from_find_entry q (e ∷ es) v f =
       elim (eq_by_cmp R q e.0) as (λ b. eq_by_cmp R q e.0 ≡ b → cond b (Some e.1) (find_entry R q es) ≡ Some v → (x : K × V) × IsIn (e ∷ es) x × (eq_by_cmp R q x.0 ≡ true) × (x.1 ≡ v)) [
@@ -50,7 +50,7 @@ module _ {K V : Type 0} (R : K → K → Ordering) where
 
 module _ {K V X : Type 0} {R : K → K → Ordering} (o : IsTotalOrder R) (same : IsAntisymmetric R) where
   -- each entry comes from a row
-  row_of : (key : X → K) (value : X → V) (rows : List X) (e : K × V) → IsIn (from_list {R = R} (entries_of key value rows)).entries e → (x : X) × IsIn rows x × ((key x, value x) ≡ e)
+  pub row_of : (key : X → K) (value : X → V) (rows : List X) (e : K × V) → IsIn (from_list {R = R} (entries_of key value rows)).entries e → (x : X) × IsIn rows x × ((key x, value x) ≡ e)
   row_of key value [] e here = absurd here
   row_of key value (r ∷ rows) e here =
       elim (in_from_put same (key r) (value r) (from_list {R = R} (entries_of key value rows)).entries e

@@ -3,7 +3,7 @@ use Rattle.std.specs.Prelude.{find, option_map}
 use Rattle.grid_model.specs.Names.{same_text}
 use Rattle.grid_model.specs.Requests.{any_resource}
 use Rattle.grid_model.specs.declared.deltas.ResourceRow.{ResourceRow}
-use Rattle.grid_server.proofs.FindingLemmas.{is_same_text}
+use Rattle.tables_laws.proofs.LookUps.{is_same_text}
 use Rattle.grid_server.proofs.finding.leaf_asked.Goals as goal
 
 pub returns-then-has_bytes : goal.returns-then-has_bytes

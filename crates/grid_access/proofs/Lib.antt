@@ -1,0 +1,4 @@
+pub mod Greatest
+pub mod Made
+pub mod MapEntries
+pub mod GivenLevels
