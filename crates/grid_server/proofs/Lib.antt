@@ -11,6 +11,7 @@ pub mod MakingLemmas
 pub mod OpenedLemmas
 pub mod OpeningLemmas
 pub mod PlainLemmas
+pub mod ReadLemmas
 pub mod RequestLemmas
 pub mod RunLemmas
 pub mod SendingLemmas

@@ -1,7 +1,7 @@
 -- What was served so far, turn by turn, and how it ends.
 use Rattle.std.proofs.Common.{◌≡◌, ◌⊎◌, inl, inr, ℕ, ◌+◌, ◌^◌, ◌<◌, ◌≤◌, Bool, true, false, List, [], ◌∷◌, ◌++◌, length, take, Option, Some, None, Result, Ok, Err, IsTrue, arith, refl, sym, subst, ap, ◌∙◌, append_assoc, length-append}
 use Rattle.std.specs.Prelude.{⊤}
-use Rattle.std.proofs.lemmas.List.{append-nil, take_at}
+use Rattle.std.proofs.lemmas.List.{append-nil}
 use Rattle.std.proofs.lemmas.Bool.{cases_lt}
 use Rattle.grid_outside.specs.Ambient.{AmbientState}
 use Rattle.grid_outside.specs.Device.{IsSettled}
@@ -13,7 +13,7 @@ use Rattle.grid_model.specs.Grid.{Grid}
 use Rattle.grid_model.specs.Rows.{Cat}
 use Rattle.grid_model.specs.RowGrids.{grid_of}
 use Rattle.grid_model.specs.Lines.{is_request}
-use Rattle.grid_model.specs.Inputs.{Asked, HasBody, Takes, none_taken, AreRequests, ends_blank, ends_in_line, ends_in_body, IsPart, of_line, of_body}
+use Rattle.grid_model.specs.Inputs.{Asked, none_taken}
 use Rattle.grid_model.specs.Requests.{Asks}
 use Rattle.grid_model.specs.Commands.{State, Done, Comes, act, After, none as nothing_done, state_after}
 use Rattle.grid_model.specs.Replies.{reply, replies}
@@ -27,19 +27,18 @@ use Rattle.grid_server.specs.declared.server.Server.{Server}
 use Rattle.grid_server.specs.declared.serving.Service.{Service}
 use Rattle.grid_server.specs.declared.serving.Taken.TheVariants as taken
 use Rattle.grid_server.specs.declared.line_reader.Ended.TheVariants as ended
-use Rattle.grid_server.specs.declared.line_reader.Passed.TheVariants as passed
 use Rattle.grid_journal.specs.Stands.{StandsFor}
 use Rattle.grid_server.specs.Held.{state_of, IsHeld}
 use Rattle.grid_server.specs.Keeping.{Rests, Quiet, last_of}
 use Rattle.grid_outside.specs.declared.outside.Wear.TheVariants as wear
-use Rattle.grid_server.specs.Reading.{Reader, ReadsLine, ReadsPart, Passes, PassesPart}
+use Rattle.grid_server.specs.Reading.{ReadsLine}
 use Rattle.grid_server.specs.Wearing.{AsksToPut, HasNumber, numbers_given, GivesNumbers, none as none_given}
 use Rattle.grid_server.specs.Answering.{Works, Answers, worked, not_begun, log_worn, vaults_worn}
-use Rattle.grid_server.specs.Turning.{Gets, with_body, cut_short, at_end, InBody, Turns, answered, stopped, idle, status_of}
+use Rattle.grid_server.specs.Turning.{Gets, Turns, answered, stopped, idle, status_of}
 use Rattle.grid_server.specs.Opening.{begun}
 use Rattle.grid_server.specs.Drawing.{marks_of, DrawsIfTold}
-use Rattle.grid_server.specs.Serving.{begins, Begins, OneImage, IsKept, IsLeft, last_change, ShowsAll, Ends, Serves}
-use Rattle.grid_server.proofs.InputLemmas.{push_request, push_blank, takes_of}
+use Rattle.grid_server.specs.Serving.{begins, Begins, OneImage, IsKept, IsLeft, last_change, ShowsAll, ReadAll, ReadPart, ReadMost, Ends, Serves}
+use Rattle.grid_server.proofs.ReadLemmas.{HasRead, begins_with, Went, went, Last, last, skipped, blank_end, long_line, long_body, broken_line, broken_body}
 use Rattle.grid_server.proofs.DrawingLemmas.{draws_none, draws_still, draws_more}
 use Rattle.grid_server.proofs.WearingLemmas.{GivesNumbers-push}
 use Rattle.grid_server.proofs.DoneLemmas.{last_change-push, Did, comes_less, After-push, did_held, did_less, replies-push, state_after-all, shows_part, shows_all, image_more, image_of, like_image, all_but_one, cut_or_whole}
@@ -50,17 +49,14 @@ use Rattle.grid_server.specs.Safe.{IsKnown}
 use Rattle.grid_server.specs.Stores.{StoresGo}
 use Rattle.grid_server.proofs.KeepingLemmas.{held_stands, quiet_rest}
 use Rattle.grid_server.proofs.CarryingLemmas.{adds_none}
-use Rattle.grid_server.proofs.RequestLemmas.{asks_held, held_request, body_held}
+use Rattle.grid_server.proofs.RequestLemmas.{asks_held}
 use Rattle.grid_server.proofs.TurnLemmas.{held_rests}
 use Rattle.grid_outside.specs.Files.{StoreState}
 
 -- the requests so far were handled, from so many moments on
 pub record Served {B : Type 0} (plugin : B → StoreState) (stores_old stores_now : List B) (ambient_old ambient_now : AmbientState) (found : Cat) (since : ℕ) (main_old main_now : DiskState) (from now : SourceState) (sink_old sink_now : SinkState) (service : Service) : Type 0 where
-  pub front : Text
-  pub split : from.left ≡ front ++ (service.reader.unread ++ now.left)
-  pub taken : service.reader.taken ≡ length front + length service.reader.unread
   pub asked : List Asked
-  pub takes : Takes front asked []
+  pub read : HasRead from now service.reader asked
   pub done : List Done
   pub end : State
   pub after : After (IsKnown plugin since found main_old stores_old) (begins (grid_of found)) asked done end
@@ -87,11 +83,8 @@ served_none plugin stores ambient found since main from sink service told main_l
     ap (λ (g : Grid). begins g) (sym grid ∙ ap grid_of (sym cat)) ∙ ap (λ b. (let s : State = record { grid = grid_of service.server.store.cat; logged_in = b } in s)) (sym nobody) in
     let stood : StandsFor main.holds (begun found) = (let P : Cat → Type 0 = λ c. StandsFor main.holds c in subst P cat (held_stands main service.server held told)) in
     record {
-      front = [];
-      split = sym (ap (λ (t : Text). t ++ from.left) unread);
-      taken = omega (arith, taken, ap length unread);
       asked = [];
-      takes = none_taken;
+      read = record { front = []; split = sym (ap (λ (t : Text). t ++ from.left) unread); taken = omega (arith, taken, ap length unread); takes = none_taken };
       done = [];
       end = begins (grid_of found);
       after = nothing_done;
@@ -115,10 +108,6 @@ served_none plugin stores ambient found since main from sink service told main_l
           image_of found [] sink.holds main.holds (begun found) 0 main_image sink_image (main_settled t main_image (omega (arith, main_last, late)) main_left) stood
           (sink_settled t sink_image (omega (arith, sink_last, late)) sink_left ∙ sym (append-nil sink.holds)) (inr (record { run = refl; within = omega arith; near = omega arith; grid = grid })) refl;
     }
-
--- a line and its newline, and more
-joins : (front line body more : Text) → front ++ (line ++ 0x0A ∷ (body ++ more)) ≡ (front ++ (line ++ 0x0A ∷ body)) ++ more
-joins front line body more = ap (λ (t : Text). front ++ t) (sym (append_assoc line (0x0A ∷ body) more)) ∙ sym (append_assoc front (line ++ 0x0A ∷ body) more)
 
 stop_is : (s t : Stop) → (let r : Result ⊤ Stop = Err s in r ≡ Err t) → s ≡ t
 stop_is s t is = cc
@@ -281,16 +270,12 @@ module _ {B : Type 0} (plugin : B → StoreState) (stores_old stores_mid stores_
       }
 
     -- it was done, kept and shown, and the run goes on
-    next_worked : (new : Service) (main_new : DiskState) (to : SourceState) (sink_new : SinkState) (front : Text) → from.left ≡ front ++ (new.reader.unread ++ to.left) → new.reader.taken ≡ length front + length new.reader.unread
-        → Takes front (served.asked ++ request ∷ []) [] → new.number ≡ old.number + 1 → Works plugin stores_mid stores_new ambient_mid ambient_new old.server asked (old.number + 1) since_now main_mid main_new sink_mid sink_new (Ok tt) new.server → Served plugin stores_old stores_new ambient_old ambient_new found since main_old main_new from to sink_old sink_new new
-    next_worked new main_new to sink_new front split taken takes number works =
+    next_worked : (new : Service) (main_new : DiskState) (to : SourceState) (sink_new : SinkState) → HasRead from to new.reader (served.asked ++ request ∷ []) → new.number ≡ old.number + 1 → Works plugin stores_mid stores_new ambient_mid ambient_new old.server asked (old.number + 1) since_now main_mid main_new sink_mid sink_new (Ok tt) new.server → Served plugin stores_old stores_new ambient_old ambient_new found since main_old main_new from to sink_old sink_new new
+    next_worked new main_new to sink_new read number works =
         let same : new.server.store.cat ≡ works.after = works.ends.0.cat in
         record {
-          front = front;
-          split = split;
-          taken = taken;
           asked = served.asked ++ request ∷ [];
-          takes = takes;
+          read = read;
           done = served.done ++ works.d ∷ [];
           end = works.d.state;
           after = after_more main_new sink_new (Ok tt) new.server works;
@@ -362,130 +347,8 @@ module _ {B : Type 0} (plugin : B → StoreState) (stores_old stores_mid stores_
           same_kept main_new q,
         ))
 
-  -- ---- the input, by how it was read
-
-  -- what stands behind a line that was read with its newline
-  behind_line : (reader : Reader) (between : SourceState) (held : Text) (reads : ReadsLine old.reader ended.Line reader mid between held) → from.left ≡ served.front ++ (reads.line ++ 0x0A ∷ (reader.unread ++ between.left))
-  behind_line reader between held reads =
-      served.split ∙ ap (λ (t : Text). served.front ++ t)
-      (ap (λ (t : Text). old.reader.unread ++ t) (reads.ends.1 source_told) ∙ sym (append_assoc old.reader.unread reads.got between.left) ∙ ap (λ (t : Text). t ++ between.left) reads.ends.0
-      ∙ append_assoc reads.line (0x0A ∷ reader.unread) between.left)
-
-  -- a line that the end of the input ended
-  last_line : (reader : Reader) (to : SourceState) (held : Text) (reads : ReadsLine old.reader ended.End reader mid to held) → from.left ≡ served.front ++ reads.line
-  last_line reader to held reads =
-      served.split ∙ ap (λ (t : Text). served.front ++ t) (ap (λ (t : Text). old.reader.unread ++ t) (reads.ends.2 source_told).0 ∙ reads.ends.0)
-
-  last_fits : (reader : Reader) (to : SourceState) (held : Text) (reads : ReadsLine old.reader ended.End reader mid to held) → length from.left ≤ 2 ^ 48
-  last_fits reader to held reads =
-      omega (arith, ap length (last_line reader to held reads), length-append served.front reads.line, ap length reads.ends.0, length-append old.reader.unread reads.got, served.taken, reads.ends.3, reads.ends.4)
-
-  abbrev so_far : Begins from.left (served.asked)
-  so_far = inl (old.reader.unread ++ mid.left, takes_of from.left served.front (old.reader.unread ++ mid.left) served.asked served.split served.takes)
-
-  -- a request of which the input has more behind it
-  record Went (new : Reader) (to : SourceState) (held body : Text) : Type 0 where
-    pub request : Asked
-    pub held_is : held ≡ take 4097 request.line
-    pub body_is : body ≡ request.body
-    pub front : Text
-    pub split : from.left ≡ front ++ (new.unread ++ to.left)
-    pub taken : new.taken ≡ length front + length new.unread
-    pub takes : Takes front (served.asked ++ request ∷ []) []
-
-  went : (new : Reader) (to : SourceState) (held body : Text) → is_request held ≡ true → Gets old.reader new mid to held body false → Went new to held body
-  went new to held body some (with_body {mid = reader} {between = between} {count = count} reads tells has passes) =
-      let line = reads.line in
-      let P : ℕ → Type 0 = λ n. HasBody line n in
-      let H : Text → Type 0 = λ t. HasBody t count in
-      let between_told : IsTrue between.tells = subst IsTrue (sym tells) source_told in
-      let rest : reader.unread ++ between.left ≡ body ++ (new.unread ++ to.left) =
-      ap (λ (t : Text). reader.unread ++ t) (passes.ends.2 between_told) ∙ sym (append_assoc reader.unread passes.got to.left) ∙ ap (λ (t : Text). t ++ to.left) passes.ends.0 ∙ append_assoc body new.unread to.left in
-      record {
-        request = record { line = line; body = body };
-        held_is = reads.held;
-        body_is = refl;
-        front = served.front ++ (line ++ 0x0A ∷ body);
-        split = behind_line reader between held reads ∙ ap (λ (t : Text). served.front ++ (line ++ 0x0A ∷ t)) rest ∙ joins served.front line body (new.unread ++ to.left);
-        taken = omega (
-          arith,
-          served.taken,
-          reads.ends.2,
-          passes.ends.3,
-          ap length reads.ends.0,
-          ap length passes.ends.0,
-          length-append old.reader.unread reads.got,
-          length-append line (10 ∷ reader.unread),
-          length-append reader.unread passes.got,
-          length-append body new.unread,
-          length-append served.front (line ++ 10 ∷ body),
-          length-append line (10 ∷ body),
-        );
-        takes = push_request served.front line body served.asked served.takes reads.is (sym (held_request held line reads.held) ∙ some) (subst P (sym passes.ends.1) (body_held line count (subst H reads.held has)));
-      }
-
-  -- a request with which the input has ended
-  record Last (to : SourceState) (held body : Text) : Type 0 where
-    pub request : Asked
-    pub held_is : held ≡ take 4097 request.line
-    pub body_is : body ≡ request.body
-    pub are : AreRequests from.left (served.asked ++ request ∷ [])
-    pub all : to.left ≡ []
-    pub fits : length from.left ≤ 2 ^ 48
-
-  last : (new : Reader) (to : SourceState) (held body : Text) → is_request held ≡ true → Gets old.reader new mid to held body true → Last to held body
-  last new to held body some (cut_short {mid = reader} {between = between} {count = count} reads tells has passes) =
-      let line = reads.line in
-      let H : Text → Type 0 = λ t. HasBody t count in
-      let between_told : IsTrue between.tells = subst IsTrue (sym tells) source_told in
-      let rest : reader.unread ++ between.left ≡ body = ap (λ (t : Text). reader.unread ++ t) (passes.ends.3 between_told).0 ∙ passes.ends.0 in
-      let split : from.left ≡ served.front ++ (line ++ 0x0A ∷ body) = behind_line reader between held reads ∙ ap (λ (t : Text). served.front ++ (line ++ 0x0A ∷ t)) rest in
-      record {
-        request = record { line = line; body = body };
-        held_is = reads.held;
-        body_is = refl;
-        are = record {
-          whole = served.asked;
-          left = line ++ 0x0A ∷ body;
-          last = record { line = line; body = body } ∷ [];
-          takes = takes_of from.left served.front (line ++ 0x0A ∷ body) served.asked split served.takes;
-          ends = ends_in_body line body refl reads.is (sym (held_request held line reads.held) ∙ some) (body_held line count (subst H reads.held has)) passes.ends.1;
-          are = refl;
-        };
-        all = (passes.ends.3 between_told).1;
-        fits = omega (
-          arith,
-          ap length split,
-          length-append served.front (line ++ 10 ∷ body),
-          length-append line (10 ∷ body),
-          served.taken,
-          reads.ends.2,
-          passes.ends.4,
-          passes.ends.5,
-          ap length reads.ends.0,
-          ap length passes.ends.0,
-          length-append old.reader.unread reads.got,
-          length-append line (10 ∷ reader.unread),
-          length-append reader.unread passes.got,
-        );
-      }
-  last new to held body some (at_end reads) =
-      let line = reads.line in
-      record {
-        request = record { line = line; body = [] };
-        held_is = reads.held;
-        body_is = refl;
-        are = record {
-          whole = served.asked;
-          left = line;
-          last = record { line = line; body = [] } ∷ [];
-          takes = takes_of from.left served.front line served.asked (last_line new to held reads) served.takes;
-          ends = ends_in_line reads.is (sym (held_request held line reads.held) ∙ some);
-          are = refl;
-        };
-        all = (reads.ends.2 source_told).1;
-        fits = last_fits new to held reads;
-      }
+  so_far : Begins from.left served.asked
+  so_far = begins_with from mid old.reader served.asked served.read
 
   -- ---- one turn
 
@@ -493,9 +356,9 @@ module _ {B : Type 0} (plugin : B → StoreState) (stores_old stores_mid stores_
   asks_same : (held : Text) (asked : Result Verb Refusal) (body other : Text) → body ≡ other → Asks held body asked → Asks held other asked
   asks_same held asked body other is asks = let P : Text → Type 0 = λ t. Asks held t asked in subst P is asks
 
-  next_handled : (new : Service) (main_new : DiskState) (to : SourceState) (sink_new : SinkState) (asked : Result Verb Refusal) (held body : Text) (w : Went new.reader to held body) → Asks held body asked
+  next_handled : (new : Service) (main_new : DiskState) (to : SourceState) (sink_new : SinkState) (asked : Result Verb Refusal) (held body : Text) (w : Went from mid old.reader served.asked served.read source_told new.reader to held body) → Asks held body asked
       → Answers plugin stores_mid stores_new ambient_mid ambient_new old.server asked (old.number + 1) since_now main_mid main_new sink_mid sink_new (Ok tt) new.server → new.number ≡ old.number + 1 → Served plugin stores_old stores_new ambient_old ambient_new found since main_old main_new from to sink_old sink_new new
-  next_handled new main_new to sink_new asked held body w asks (worked works) number = next_worked w.request asked held w.held_is (asks_same held asked body w.request.body w.body_is asks) new main_new to sink_new w.front w.split w.taken w.takes number works
+  next_handled new main_new to sink_new asked held body w asks (worked works) number = next_worked w.request asked held w.held_is (asks_same held asked body w.request.body w.body_is asks) new main_new to sink_new w.read number works
   next_handled new main_new to sink_new asked held body w asks (not_begun is main sink drawn) number = absurd (cc)
   next_handled new main_new to sink_new asked held body w asks (log_worn place d is comes numbered changed far closes main sink drawn) number = absurd (cc)
   next_handled new main_new to sink_new asked held body w asks (vaults_worn is puts far main sink drawn) number = absurd (cc)
@@ -503,20 +366,8 @@ module _ {B : Type 0} (plugin : B → StoreState) (stores_old stores_mid stores_
   next_skipped : (new : Service) (main_new : DiskState) (to : SourceState) (sink_new : SinkState) (held : Text) (reads : ReadsLine old.reader ended.Line new.reader mid to held) → is_request held ≡ false
       → new.server ≡ old.server → new.number ≡ old.number → Rests main_mid main_new → Rests sink_mid sink_new → DrawsIfTold [] ambient_mid ambient_new → Served plugin stores_old stores_new ambient_old ambient_new found since main_old main_new from to sink_old sink_new new
   next_skipped new main_new to sink_new held reads none server number main_rests sink_rests drawn = record {
-    front = served.front ++ (reads.line ++ 0x0A ∷ []);
-    split = behind_line new.reader to held reads ∙ joins served.front reads.line [] (new.reader.unread ++ to.left);
-    taken = omega (
-      arith,
-      served.taken,
-      reads.ends.2,
-      ap length reads.ends.0,
-      length-append old.reader.unread reads.got,
-      length-append reads.line (10 ∷ new.reader.unread),
-      length-append served.front (reads.line ++ 10 ∷ []),
-      length-append reads.line (10 ∷ []),
-    );
+    read = skipped from mid old.reader served.asked served.read source_told new.reader to held reads none;
     asked = served.asked;
-    takes = push_blank served.front reads.line served.asked served.takes reads.is (sym (held_request held reads.line reads.held) ∙ none);
     done = served.done;
     end = served.end;
     after = served.after;
@@ -544,7 +395,7 @@ module _ {B : Type 0} (plugin : B → StoreState) (stores_old stores_mid stores_
       → Served plugin stores_old stores_new ambient_old ambient_new found since main_old main_new from to sink_old sink_new new
   next_served new main_new to sink_new o (answered asked true finds handles) e = absurd (cc)
   next_served new main_new to sink_new o (answered asked false finds handles) e =
-      next_handled new main_new to sink_new asked finds.0 finds.1 (went new.reader to finds.0 finds.1 finds.3 finds.2) finds.4 handles.answers handles.number
+      next_handled new main_new to sink_new asked finds.0 finds.1 (went from mid old.reader served.asked served.read source_told new.reader to finds.0 finds.1 finds.3 finds.2) finds.4 handles.answers handles.number
   next_served new main_new to sink_new o (stopped asked over stop finds handles) e = absurd (cc)
   next_served new main_new to sink_new o (idle taken.Skipped finds is idles) e = next_skipped new main_new to sink_new finds.0 finds.1 finds.2 idles.server idles.number idles.main idles.sink idles.drawn
   next_served new main_new to sink_new o (idle taken.Over finds is idles) e = absurd (cc)
@@ -555,7 +406,7 @@ module _ {B : Type 0} (plugin : B → StoreState) (stores_old stores_mid stores_
 
   -- ---- the end
 
-  end_answered : (new : Service) (main_new : DiskState) (to : SourceState) (sink_new : SinkState) (asked : Result Verb Refusal) (held body : Text) (l : Last to held body) → Asks held body asked
+  end_answered : (new : Service) (main_new : DiskState) (to : SourceState) (sink_new : SinkState) (asked : Result Verb Refusal) (held body : Text) (l : Last from mid old.reader served.asked served.read source_told to held body) → Asks held body asked
       → Answers plugin stores_mid stores_new ambient_mid ambient_new old.server asked (old.number + 1) since_now main_mid main_new sink_mid sink_new (Ok tt) new.server → Serves plugin stores_old stores_new ambient_old ambient_new found since main_old main_new from to sink_old sink_new status.Done
   end_answered new main_new to sink_new asked held body l asks (not_begun is main sink drawn) = absurd (cc)
   end_answered new main_new to sink_new asked held body l asks (log_worn place d is comes numbered changed far closes main sink drawn) = absurd (cc)
@@ -565,7 +416,7 @@ module _ {B : Type 0} (plugin : B → StoreState) (stores_old stores_mid stores_
       let all : IsTrue sink_old.tells → sink_new.holds ≡ sink_old.holds ++ replies 1 (served.done ++ w.d ∷ []) = more_shown l.request asked held l.held_is asks main_new sink_new (Ok tt) new.server w w.ends.1 in
       record {
         asked = served.asked ++ l.request ∷ [];
-        first = inr l.are;
+        first = inr l.read.are;
         done = served.done ++ w.d ∷ [];
         end = w.d.state;
         after = after_more l.request asked held l.held_is asks main_new sink_new (Ok tt) new.server w;
@@ -574,122 +425,30 @@ module _ {B : Type 0} (plugin : B → StoreState) (stores_old stores_mid stores_
         shown = λ told. shows_all sink_old.holds (served.done ++ w.d ∷ []) sink_new.holds (all told);
         caused = caused_more plugin since since_now served.done w.d stores_old stores_mid stores_new first_went then_went served.caused w.caused;
         drawn = draws_more served.done w.d ambient_old ambient_mid ambient_new served.drawn w.drawn;
-        ends = (record { are = l.are; all = l.all; fits = l.fits }, all, left_more l.request asked held l.held_is asks main_new sink_new (Ok tt) new.server w w.ends.0.held w.ends.0.state w.ends.0.cat);
+        ends = (l.read, all, left_more l.request asked held l.held_is asks main_new sink_new (Ok tt) new.server w w.ends.0.held w.ends.0.state w.ends.0.cat);
         images = more_images l.request asked held l.held_is asks main_new sink_new (Ok tt) new.server w;
       }
 
   end_stopped : (new : Service) (main_new : DiskState) (to : SourceState) (sink_new : SinkState) (asked : Result Verb Refusal) (over : Bool) (stop : Stop) (held body : Text) → Gets old.reader new.reader mid to held body over → is_request held ≡ true
       → Asks held body asked → Answers plugin stores_mid stores_new ambient_mid ambient_new old.server asked (old.number + 1) since_now main_mid main_new sink_mid sink_new (Err stop) new.server → Serves plugin stores_old stores_new ambient_old ambient_new found since main_old main_new from to sink_old sink_new (status_of stop)
   end_stopped new main_new to sink_new asked false stop held body gets some asks a =
-      let w = went new.reader to held body some gets in
-      let rest = new.reader.unread ++ to.left in
-      stops w.request asked held w.held_is (asks_same held asked body w.request.body w.body_is asks) new.server main_new to sink_new stop so_far (inl (rest, takes_of from.left w.front rest (served.asked ++ w.request ∷ []) w.split w.takes)) a
+      let w = went from mid old.reader served.asked served.read source_told new.reader to held body some gets in
+      stops w.request asked held w.held_is (asks_same held asked body w.request.body w.body_is asks) new.server main_new to sink_new stop so_far (begins_with from to new.reader (served.asked ++ w.request ∷ []) w.read) a
   end_stopped new main_new to sink_new asked true stop held body gets some asks a =
-      let l = last new.reader to held body some gets in
-      stops l.request asked held l.held_is (asks_same held asked body l.request.body l.body_is asks) new.server main_new to sink_new stop so_far (inr l.are) a
+      let l = last from mid old.reader served.asked served.read source_told new.reader to held body some gets in
+      stops l.request asked held l.held_is (asks_same held asked body l.request.body l.body_is asks) new.server main_new to sink_new stop so_far (inr l.read.are) a
 
-  end_blank : (new : Service) (main_new : DiskState) (to : SourceState) (sink_new : SinkState) (held : Text) (reads : ReadsLine old.reader ended.End new.reader mid to held) → is_request held ≡ false
-      → Rests main_mid main_new → Rests sink_mid sink_new → DrawsIfTold [] ambient_mid ambient_new → Serves plugin stores_old stores_new ambient_old ambient_new found since main_old main_new from to sink_old sink_new status.Done
-  end_blank new main_new to sink_new held reads none main_rests sink_rests drawn =
-      let are : AreRequests from.left served.asked =
-      record {
-        whole = served.asked;
-        left = reads.line;
-        last = [];
-        takes = takes_of from.left served.front reads.line served.asked (last_line new.reader to held reads) served.takes;
-        ends = ends_blank reads.is (sym (held_request held reads.line reads.held) ∙ none);
-        are = sym (append-nil served.asked);
-      } in
-      ends_quiet main_new to sink_new status.Done (inr are) (quiet main_new main_rests) sink_rests drawn
-      (record { are = are; all = (reads.ends.2 source_told).1; fits = last_fits new.reader to held reads }, same_shown sink_new sink_rests, same_left main_new main_rests)
+  end_done : (main_new : DiskState) (to : SourceState) (sink_new : SinkState) → ReadAll served.asked from to → Rests main_mid main_new → Rests sink_mid sink_new → DrawsIfTold [] ambient_mid ambient_new → Serves plugin stores_old stores_new ambient_old ambient_new found since main_old main_new from to sink_old sink_new status.Done
+  end_done main_new to sink_new all main_rests sink_rests drawn =
+      ends_quiet main_new to sink_new status.Done (inr all.are) (quiet main_new main_rests) sink_rests drawn (all, same_shown sink_new sink_rests, same_left main_new main_rests)
 
-  -- more bytes than are read stand behind these
-  ends_long : (main_new : DiskState) (to : SourceState) (sink_new : SinkState) (rest : Text) (byte : ℕ) → from.left ≡ (served.front ++ rest) ++ byte ∷ to.left → length (served.front ++ rest) ≡ 2 ^ 48 → IsPart rest
-      → Rests main_mid main_new → Rests sink_mid sink_new → DrawsIfTold [] ambient_mid ambient_new → Serves plugin stores_old stores_new ambient_old ambient_new found since main_old main_new from to sink_old sink_new (status.Long (2 ^ 48 + 1))
-  ends_long main_new to sink_new rest byte split size part main_rests sink_rests drawn =
-      let front = served.front ++ rest in
-      ends_quiet main_new to sink_new (status.Long (2 ^ 48 + 1)) so_far (quiet main_new main_rests) sink_rests drawn (
-        refl,
-        record {
-          taken = front ++ byte ∷ [];
-          split = split ∙ sym (append_assoc front (byte ∷ []) to.left);
-          size = omega (arith, size, length-append front (byte ∷ []));
-          left = rest;
-          takes = takes_of (take (2 ^ 48) (front ++ byte ∷ [])) served.front rest served.asked (take_at front (byte ∷ []) (2 ^ 48) size) served.takes;
-          part = part;
-        },
-        same_shown sink_new sink_rests,
-        same_left main_new main_rests,
-      )
+  end_long : (main_new : DiskState) (to : SourceState) (sink_new : SinkState) → ReadMost served.asked from to → Rests main_mid main_new → Rests sink_mid sink_new → DrawsIfTold [] ambient_mid ambient_new → Serves plugin stores_old stores_new ambient_old ambient_new found since main_old main_new from to sink_old sink_new (status.Long (2 ^ 48 + 1))
+  end_long main_new to sink_new most main_rests sink_rests drawn =
+      ends_quiet main_new to sink_new (status.Long (2 ^ 48 + 1)) so_far (quiet main_new main_rests) sink_rests drawn (refl, most, same_shown sink_new sink_rests, same_left main_new main_rests)
 
-  end_long_line : (new : Service) (main_new : DiskState) (to : SourceState) (sink_new : SinkState) (held : Text) → ReadsLine old.reader ended.Long new.reader mid to held → Rests main_mid main_new → Rests sink_mid sink_new → DrawsIfTold [] ambient_mid ambient_new
-      → Serves plugin stores_old stores_new ambient_old ambient_new found since main_old main_new from to sink_old sink_new (status.Long (2 ^ 48 + 1))
-  end_long_line new main_new to sink_new held reads main_rests sink_rests drawn =
-      let byte = reads.ends.2.0 in
-      let split : from.left ≡ (served.front ++ reads.line) ++ byte ∷ to.left =
-      served.split ∙ ap (λ (t : Text). served.front ++ t)
-      (ap (λ (t : Text). old.reader.unread ++ t) (reads.ends.2.1 source_told ∙ append_assoc reads.got (byte ∷ []) to.left) ∙ sym (append_assoc old.reader.unread reads.got (byte ∷ to.left))
-      ∙ ap (λ (t : Text). t ++ byte ∷ to.left) reads.ends.0)
-      ∙ sym (append_assoc served.front reads.line (byte ∷ to.left)) in
-      let size : length (served.front ++ reads.line) ≡ 2 ^ 48 =
-      omega (arith, length-append served.front reads.line, ap length reads.ends.0, length-append old.reader.unread reads.got, served.taken, reads.ends.3) in
-      ends_long main_new to sink_new reads.line byte split size (of_line reads.is) main_rests sink_rests drawn
-
-  end_long_body : (new : Service) (main_new : DiskState) (to : SourceState) (sink_new : SinkState) (reader : Reader) (between : SourceState) (count : ℕ) (body : Text) (in_body : InBody old.reader reader mid between count)
-      → Passes reader count passed.Long new.reader between to body → Rests main_mid main_new → Rests sink_mid sink_new → DrawsIfTold [] ambient_mid ambient_new → Serves plugin stores_old stores_new ambient_old ambient_new found since main_old main_new from to sink_old sink_new (status.Long (2 ^ 48 + 1))
-  end_long_body new main_new to sink_new reader between count body in_body passes main_rests sink_rests drawn =
-      let reads = in_body.reads in
-      let line = reads.line in
-      let byte = passes.ends.3.0 in
-      let H : Text → Type 0 = λ t. HasBody t count in
-      let between_told : IsTrue between.tells = subst IsTrue (sym in_body.tells) source_told in
-      let rest : reader.unread ++ between.left ≡ body ++ byte ∷ to.left =
-      ap (λ (t : Text). reader.unread ++ t) (passes.ends.3.1 between_told ∙ append_assoc passes.got (byte ∷ []) to.left) ∙ sym (append_assoc reader.unread passes.got (byte ∷ to.left)) ∙ ap (λ (t : Text). t ++ byte ∷ to.left) passes.ends.0 in
-      let split : from.left ≡ (served.front ++ (line ++ 0x0A ∷ body)) ++ byte ∷ to.left =
-      behind_line reader between in_body.held reads ∙ ap (λ (t : Text). served.front ++ (line ++ 0x0A ∷ t)) rest ∙ joins served.front line body (byte ∷ to.left) in
-      let size : length (served.front ++ (line ++ 0x0A ∷ body)) ≡ 2 ^ 48 =
-      omega (
-        arith,
-        served.taken,
-        reads.ends.2,
-        passes.ends.4,
-        ap length reads.ends.0,
-        ap length passes.ends.0,
-        length-append old.reader.unread reads.got,
-        length-append line (10 ∷ reader.unread),
-        length-append reader.unread passes.got,
-        length-append served.front (line ++ 10 ∷ body),
-        length-append line (10 ∷ body),
-      ) in
-      ends_long main_new to sink_new (line ++ 0x0A ∷ body) byte split size
-      (of_body line body refl reads.is (sym (held_request in_body.held line reads.held) ∙ in_body.some) (body_held line count (subst H reads.held in_body.has)) passes.ends.1) main_rests sink_rests drawn
-
-  -- the source failed behind these
-  ends_broken : (main_new : DiskState) (to : SourceState) (sink_new : SinkState) (rest : Text) → from.left ≡ (served.front ++ rest) ++ to.left → IsPart rest → Rests main_mid main_new → Rests sink_mid sink_new → DrawsIfTold [] ambient_mid ambient_new
-      → Serves plugin stores_old stores_new ambient_old ambient_new found since main_old main_new from to sink_old sink_new status.SourceFault
-  ends_broken main_new to sink_new rest split part main_rests sink_rests drawn =
-      ends_quiet main_new to sink_new status.SourceFault so_far (quiet main_new main_rests) sink_rests drawn
-      (record { taken = served.front ++ rest; split = split; left = rest; takes = takes_of (served.front ++ rest) served.front rest served.asked refl served.takes; part = part }, same_shown sink_new sink_rests, same_left main_new main_rests)
-
-  end_broken_line : (main_new : DiskState) (to : SourceState) (sink_new : SinkState) → ReadsPart old.reader mid to → Rests main_mid main_new → Rests sink_mid sink_new → DrawsIfTold [] ambient_mid ambient_new → Serves plugin stores_old stores_new ambient_old ambient_new found since main_old main_new from to sink_old sink_new status.SourceFault
-  end_broken_line main_new to sink_new part main_rests sink_rests drawn =
-      let rest = old.reader.unread ++ part.got in
-      ends_broken main_new to sink_new rest
-      (served.split ∙ ap (λ (t : Text). served.front ++ t) (ap (λ (t : Text). old.reader.unread ++ t) (part.took source_told) ∙ sym (append_assoc old.reader.unread part.got to.left)) ∙ sym (append_assoc served.front rest to.left))
-      (of_line part.is) main_rests sink_rests drawn
-
-  end_broken_body : (main_new : DiskState) (to : SourceState) (sink_new : SinkState) (reader : Reader) (between : SourceState) (count : ℕ) (in_body : InBody old.reader reader mid between count)
-      → PassesPart reader count between to → Rests main_mid main_new → Rests sink_mid sink_new → DrawsIfTold [] ambient_mid ambient_new → Serves plugin stores_old stores_new ambient_old ambient_new found since main_old main_new from to sink_old sink_new status.SourceFault
-  end_broken_body main_new to sink_new reader between count in_body part main_rests sink_rests drawn =
-      let reads = in_body.reads in
-      let line = reads.line in
-      let body = reader.unread ++ part.got in
-      let H : Text → Type 0 = λ t. HasBody t count in
-      let between_told : IsTrue between.tells = subst IsTrue (sym in_body.tells) source_told in
-      let rest : reader.unread ++ between.left ≡ body ++ to.left = ap (λ (t : Text). reader.unread ++ t) (part.took between_told) ∙ sym (append_assoc reader.unread part.got to.left) in
-      ends_broken main_new to sink_new (line ++ 0x0A ∷ body)
-      (behind_line reader between in_body.held reads ∙ ap (λ (t : Text). served.front ++ (line ++ 0x0A ∷ t)) rest ∙ joins served.front line body to.left)
-      (of_body line body refl reads.is (sym (held_request in_body.held line reads.held) ∙ in_body.some) (body_held line count (subst H reads.held in_body.has)) part.short) main_rests sink_rests drawn
+  end_broken : (main_new : DiskState) (to : SourceState) (sink_new : SinkState) → ReadPart served.asked from to → Rests main_mid main_new → Rests sink_mid sink_new → DrawsIfTold [] ambient_mid ambient_new → Serves plugin stores_old stores_new ambient_old ambient_new found since main_old main_new from to sink_old sink_new status.SourceFault
+  end_broken main_new to sink_new part main_rests sink_rests drawn =
+      ends_quiet main_new to sink_new status.SourceFault so_far (quiet main_new main_rests) sink_rests drawn (part, same_shown sink_new sink_rests, same_left main_new main_rests)
 
   end_early : (main_new : DiskState) (to : SourceState) (sink_new : SinkState) → Rests main_mid main_new → Rests sink_mid sink_new → DrawsIfTold [] ambient_mid ambient_new → Serves plugin stores_old stores_new ambient_old ambient_new found since main_old main_new from to sink_old sink_new status.Memory
   end_early main_new to sink_new main_rests sink_rests drawn = ends_quiet main_new to sink_new status.Memory so_far (quiet main_new main_rests) sink_rests drawn (same_kept main_new (quiet main_new main_rests))
@@ -704,16 +463,16 @@ module _ {B : Type 0} (plugin : B → StoreState) (stores_old stores_mid stores_
       by_turn : (o : Option Status) → Turns plugin stores_mid stores_new ambient_mid ambient_new old new since_now main_mid main_new mid to sink_mid sink_new o → (s : Status) → o ≡ Some s → Serves plugin stores_old stores_new ambient_old ambient_new found since main_old main_new from to sink_old sink_new s
       by_turn o (answered asked false finds handles) s e = absurd (cc)
       by_turn o (answered asked true finds handles) s e =
-          ends status.Done s (cc) (end_answered new main_new to sink_new asked finds.0 finds.1 (last new.reader to finds.0 finds.1 finds.3 finds.2) finds.4 handles.answers)
+          ends status.Done s (cc) (end_answered new main_new to sink_new asked finds.0 finds.1 (last from mid old.reader served.asked served.read source_told new.reader to finds.0 finds.1 finds.3 finds.2) finds.4 handles.answers)
       by_turn o (stopped asked over stop finds handles) s e = ends (status_of stop) s (cc) (end_stopped new main_new to sink_new asked over stop finds.0 finds.1 finds.2 finds.3 finds.4 handles.answers)
       by_turn o (idle taken.Skipped finds is idles) s e = absurd (cc)
-      by_turn o (idle taken.Over finds is idles) s e = ends status.Done s (cc) (end_blank new main_new to sink_new finds.0 finds.1 finds.2 idles.main idles.sink idles.drawn)
+      by_turn o (idle taken.Over finds is idles) s e = ends status.Done s (cc) (end_done main_new to sink_new (blank_end from mid old.reader served.asked served.read source_told new.reader to finds.0 finds.1 finds.2) idles.main idles.sink idles.drawn)
       by_turn o (idle (taken.Request asked over) finds is idles) s e = absurd is
-      by_turn o (idle taken.Long (inl line) is idles) s e = ends (status.Long (2 ^ 48 + 1)) s (cc) (end_long_line new main_new to sink_new line.0 line.1 idles.main idles.sink idles.drawn)
+      by_turn o (idle taken.Long (inl line) is idles) s e = ends (status.Long (2 ^ 48 + 1)) s (cc) (end_long main_new to sink_new (long_line from mid old.reader served.asked served.read source_told new.reader to line.0 line.1) idles.main idles.sink idles.drawn)
       by_turn o (idle taken.Long (inr body) is idles) s e =
-          ends (status.Long (2 ^ 48 + 1)) s (cc) (end_long_body new main_new to sink_new body.0 body.1 body.2 body.3 body.4 body.5 idles.main idles.sink idles.drawn)
-      by_turn o (idle taken.Fault (inl part) is idles) s e = ends status.SourceFault s (cc) (end_broken_line main_new to sink_new part idles.main idles.sink idles.drawn)
-      by_turn o (idle taken.Fault (inr body) is idles) s e = ends status.SourceFault s (cc) (end_broken_body main_new to sink_new body.0 body.1 body.2 body.3 body.4 idles.main idles.sink idles.drawn)
+          ends (status.Long (2 ^ 48 + 1)) s (cc) (end_long main_new to sink_new (long_body from mid old.reader served.asked served.read source_told new.reader to body.0 body.1 body.2 body.3 body.4 body.5) idles.main idles.sink idles.drawn)
+      by_turn o (idle taken.Fault (inl part) is idles) s e = ends status.SourceFault s (cc) (end_broken main_new to sink_new (broken_line from mid old.reader served.asked served.read source_told to part) idles.main idles.sink idles.drawn)
+      by_turn o (idle taken.Fault (inr body) is idles) s e = ends status.SourceFault s (cc) (end_broken main_new to sink_new (broken_body from mid old.reader served.asked served.read source_told to body.0 body.1 body.2 body.3 body.4) idles.main idles.sink idles.drawn)
       by_turn o (idle taken.Memory finds is idles) s e = ends status.Memory s (cc) (end_early main_new to sink_new idles.main idles.sink idles.drawn)
 
 -- a run over which nothing was read, whatever it comes to
