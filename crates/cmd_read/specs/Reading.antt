@@ -1,0 +1,85 @@
+-- What words ask for, or why they are refused. A refusal's number counts the words from 0, the session's.
+use Rattle.std.specs.Prelude.{◌≡◌, ◌⊎◌, ℕ, ◌+◌, Bool, true, false, ◌&&◌, List, [], ◌∷◌, Option, Some, None, Result, Ok, Err, nat_lt, max}
+use Rattle.std.specs.List.{find}
+use Rattle.grid_model.specs.Names.{Text, SpellsPath, SpellsName}
+use Rattle.grid_model.specs.Places.{IsRefusedAt}
+use Rattle.cmd_read.specs.Table.{Form, a_path, a_path_text, a_new_name, Value, Means, Asks, Way, has_form, among, number_of, table}
+use Rattle.cmd_read.specs.declared.request.Verb.{Verb}
+use Rattle.cmd_read.specs.declared.request.Request.{Request}
+use Rattle.cmd_read.specs.declared.error.ReadError.{ReadError}
+use Rattle.cmd_read.specs.declared.error.ReadError.TheVariants.{BadWord, UnknownCommand, BadPath, BadName}
+
+-- a session: a number below 64
+abbrev pub small : Option ℕ → Option ℕ
+small None = None
+small (Some n) = elim (nat_lt n 64) [ true ↦ Some n | false ↦ None ]
+
+abbrev pub session_of : Text → Option ℕ
+session_of w = small (number_of w)
+
+-- there are as many words as forms, and each is of its form
+abbrev pub fits : List Form → List Text → Bool
+fits [] [] = true
+fits [] (w ∷ ws) = false
+fits (f ∷ fs) [] = false
+fits (f ∷ fs) (w ∷ ws) = has_form f w && fits fs ws
+
+-- how many words from the left are of their forms
+abbrev pub fitting : List Form → List Text → ℕ
+fitting [] ws = 0
+fitting (f ∷ fs) [] = 0
+fitting (f ∷ fs) (w ∷ ws) = elim (has_form f w) [ true ↦ 1 + fitting fs ws | false ↦ 0 ]
+
+-- the same of the way that goes furthest: then comes the first word that is not of its form, is missing or is one too many
+abbrev pub furthest : List Way → List Text → ℕ
+furthest [] ws = 0
+furthest (way ∷ ways) ws = max (fitting way.forms ws) (furthest ways ws)
+
+-- the way in which the words ask
+abbrev pub chosen : List Way → List Text → Option Way
+chosen ways ws = find (λ way. fits way.forms ws) ways
+
+-- The words stand for values, of which this verb is made.
+abbrev pub Makes : (fs : List Form) → List Text → Asks fs → Verb → Type 0
+Makes [] [] v verb = v ≡ verb
+Makes [] (w ∷ ws) v verb = ⊥
+Makes (f ∷ fs) [] v verb = ⊥
+Makes (f ∷ fs) (w ∷ ws) v verb = (x : Value f) × Means f w x × Makes fs ws (v x) verb
+
+-- The word is to be a path or a new name, and is none.
+abbrev pub Spoils : Form → Text → ReadError → Type 0
+Spoils a_path w (BadPath place) = IsRefusedAt SpellsPath w place
+Spoils a_path_text w (BadPath place) = IsRefusedAt SpellsPath w place
+Spoils a_new_name w (BadName place) = IsRefusedAt SpellsName w place
+Spoils f w other = ⊥
+
+-- This is why the first of the words is refused that is to be a path or a new name and is none.
+abbrev pub IsSpoilt : List Form → List Text → ReadError → Type 0
+IsSpoilt (f ∷ fs) (w ∷ ws) why = Spoils f w why ⊎ (((x : Value f) × Means f w x) × IsSpoilt fs ws why)
+IsSpoilt fs ws why = ⊥
+
+-- words behind a verb, of which some may fit a way to ask for it
+abbrev pub AsksBy : Option Way → ℕ → List Text → Verb → Type 0
+AsksBy None furthest ws verb = ⊥
+AsksBy (Some way) furthest ws verb = Makes way.forms ws way.makes verb
+
+abbrev pub IsRefusedBy : Option Way → ℕ → List Text → ReadError → Type 0
+IsRefusedBy None furthest ws why = why ≡ BadWord (2 + furthest)
+IsRefusedBy (Some way) furthest ws why = IsSpoilt way.forms ws why
+
+-- The words behind a verb ask for this, in one of the ways.
+abbrev pub AsksFor : List Way → List Text → Verb → Type 0
+AsksFor ways ws verb = AsksBy (chosen ways ws) (furthest ways ws) ws verb
+
+-- The words behind a verb are refused so.
+abbrev pub Refuses : List Way → List Text → ReadError → Type 0
+Refuses ways ws why = IsRefusedBy (chosen ways ws) (furthest ways ws) ws why
+
+-- the same for the ways that were found for a verb
+abbrev pub AsksIn : Option (List Way) → List Text → Verb → Type 0
+AsksIn None ws verb = ⊥
+AsksIn (Some ways) ws verb = AsksFor ways ws verb
+
+abbrev pub RefusesIn : Option (List Way) → List Text → ReadError → Type 0
+RefusesIn None ws why = ⊥
+RefusesIn (Some ways) ws why = Refuses ways ws why
