@@ -19,7 +19,7 @@ pub(crate) fn bad_word(index: u64) -> ReadError
 pub(crate) fn is_word(word: &Text, bytes: &[u8]) -> bool
     ensures { result ≡ same_text bytes.now word.now }
 {
-    bytes == word.as_slice()
+    word.has_bytes(bytes)
 }
 
 /// The first of the words, which has this number, and those behind it. Refused where it is missing.
