@@ -1,3 +1,6 @@
 pub mod Asking
+pub mod Counting
+pub mod Finding
 pub mod Numbers
+pub mod Once
 pub mod SameWords

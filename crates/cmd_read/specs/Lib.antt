@@ -1,2 +1,4 @@
-pub mod Table
+pub mod Counting
+pub mod Finding
 pub mod Reading
+pub mod Table

@@ -75,11 +75,24 @@ AsksFor ways ws verb = AsksBy (chosen ways ws) (furthest ways ws) ws verb
 abbrev pub Refuses : List Way → List Text → ReadError → Type 0
 Refuses ways ws why = IsRefusedBy (chosen ways ws) (furthest ways ws) ws why
 
--- the same for the ways that were found for a verb
-abbrev pub AsksIn : Option (List Way) → List Text → Verb → Type 0
-AsksIn None ws verb = ⊥
-AsksIn (Some ways) ws verb = AsksFor ways ws verb
+-- what is read of the words behind a verb, for which these ways were found in the table
+abbrev pub ReadsVerb : Option (List Way) → List Text → Result Verb ReadError → Type 0
+ReadsVerb None ws answer = answer ≡ Err UnknownCommand
+ReadsVerb (Some ways) ws (Ok verb) = AsksFor ways ws verb
+ReadsVerb (Some ways) ws (Err why) = Refuses ways ws why
 
-abbrev pub RefusesIn : Option (List Way) → List Text → ReadError → Type 0
-RefusesIn None ws why = ⊥
-RefusesIn (Some ways) ws why = Refuses ways ws why
+-- what is read of the words behind that of a session
+abbrev pub ReadsIn : ℕ → List Text → Result Request ReadError → Type 0
+ReadsIn session [] answer = answer ≡ Err (BadWord 1)
+ReadsIn session (v ∷ ws) (Ok request) = (request.session ≡ session) × ReadsVerb (among table v) ws (Ok request.verb)
+ReadsIn session (v ∷ ws) (Err why) = ReadsVerb (among table v) ws (Err why)
+
+-- the same where the first word is none of a session
+abbrev pub ReadsBehind : Option ℕ → List Text → Result Request ReadError → Type 0
+ReadsBehind None ws answer = answer ≡ Err (BadWord 0)
+ReadsBehind (Some session) ws answer = ReadsIn session ws answer
+
+-- The words are read as this request, or are refused so.
+abbrev pub Reads : List Text → Result Request ReadError → Type 0
+Reads [] answer = answer ≡ Err (BadWord 0)
+Reads (w ∷ ws) answer = ReadsBehind (session_of w) ws answer

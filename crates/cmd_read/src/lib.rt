@@ -2,13 +2,19 @@
 #![tactic(auto)]
 
 mod choices;
+mod count;
 mod error;
+mod laws;
 mod longer;
 mod number;
+mod reading;
 mod request;
 mod rows;
 mod ways;
 mod words;
 
+pub use count::body_count;
 pub use error::ReadError;
+pub use laws::words_are_read_once;
+pub use reading::read_request;
 pub use request::{Request, Verb};

@@ -1,6 +1,6 @@
 ghost use Rattle.std.specs.Prelude.{◌≡◌, ◌≢◌, None, IfOk, IfErr, IfSome, IfNone};
 ghost use Rattle.cmd_read.specs.Table.{among, of_sessions, of_users, of_resources, of_rules, of_collections, of_objects, of_uploads, of_metadata};
-ghost use Rattle.cmd_read.specs.Reading.{AsksIn, RefusesIn};
+ghost use Rattle.cmd_read.specs.Finding.{AsksIn, RefusesIn};
 ghost use Rattle.cmd_read.specs.declared.error.ReadError.TheVariants.{Memory};
 
 use crate::longer::{
