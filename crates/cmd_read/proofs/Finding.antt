@@ -1,6 +1,6 @@
 -- The rows of a part of the table are those of the whole.
-use Rattle.std.proofs.Common.{◌≡◌, true, false, Bool, List, [], ◌∷◌, ◌++◌, refl, ◌∙◌}
-use Rattle.std.specs.Prelude.{Option, Some, None, Ok, Err}
+use Rattle.std.proofs.Common.{◌≡◌, true, false, Bool, List, [], ◌∷◌, ◌++◌, refl, sym, subst, ◌∙◌}
+use Rattle.std.specs.Prelude.{Option, Some, None, Result, Ok, Err, IfSome, IfNone, IfErr, IsErr, IsErrAnd}
 use Rattle.grid_model.specs.Names.{Text, same_text}
 use Rattle.cmd_read.specs.Table.{among, Row, Way}
 use Rattle.cmd_read.specs.Reading.{ReadsVerb}
@@ -48,3 +48,15 @@ found_err before g after v ws why none refuses = rw (among_behind before (g ++ a
 
 pub found_none : (rows : List Row) (v : Text) (ws : List Text) → among rows v ≡ None → ReadsVerb (among rows v) ws (Err UnknownCommand)
 found_none rows v ws none = rw none refl
+
+-- what a call told of the value that it gave
+pub told_none : (o : Option Verb) (P : Type 0) → IfNone o P → o ≡ None → P
+told_none None P h e = h
+told_none (Some x) P h e = absurd (cc e)
+
+pub told_some : (o : Option Verb) (P : Verb → Type 0) (x : Verb) → IfSome o P → o ≡ Some x → P x
+told_some o P x h e = let Q : Option Verb → Type 0 = λ z. IfSome z P in subst Q e h
+
+pub told_err : (r : Result Verb ReadError) (P : ReadError → Type 0) (e : ReadError) → IsErr r × IsErrAnd r (λ x. x ≡ e) → P e → IfErr r P
+told_err (Ok x) P e h p = tt
+told_err (Err x) P e h p = subst P (sym h.1) p
