@@ -1,7 +1,7 @@
 -- Words that stand for values of the forms of a way ask in that way.
-use Rattle.std.proofs.Common.{rules, ◌≡◌, ℕ, Bool, true, false, List, [], ◌∷◌, refl, sym, ap, subst, ◌∙◌}
-use Rattle.std.specs.Prelude.{◌&&◌, Some, None, is_some}
-use Rattle.grid_model.specs.Names.{Text, same_text}
+use Rattle.std.proofs.Common.{◌≡◌, true, false, List, [], ◌∷◌, refl, ap}
+use Rattle.std.specs.Prelude.{is_some}
+use Rattle.grid_model.specs.Names.{Text}
 use Rattle.grid_model.proofs.Comparing.{same_text-Decides}
 use Rattle.cmd_read.specs.Table.{Form, a_text, a_number, a_path, a_path_text, a_new_name, a_choice, a_mode, a_level, a_user_kind, a_coordinating_kind, a_state, a_kind_with_path, a_kind_with_name, the_word, Value, has_form, Means, Asks, Way, way}
 use Rattle.cmd_read.specs.Reading.{fits, Makes, AsksFor}

@@ -1,5 +1,5 @@
 -- The count that words promise.
-use Rattle.std.proofs.Common.{arith, length, get_or, ◌≤◌, ◌≡◌, ℕ, true, false, List, [], ◌∷◌, ◌++◌, refl, sym, ap, subst, ◌∙◌}
+use Rattle.std.proofs.Common.{arith, length, get_or, ◌≤◌, ◌≡◌, ℕ, true, false, List, [], ◌∷◌, ◌++◌, refl, sym, ap, ◌∙◌}
 use Rattle.std.specs.Prelude.{Option, Some, None, IfSome, IfNone, codes}
 use Rattle.std.specs.List.{list_any}
 use Rattle.grid_model.specs.Names.{Text, same_text}

@@ -1,5 +1,5 @@
 -- Which words are numbers, and what reading digits tells of that.
-use Rattle.std.proofs.Common.{rules, arith, ◌≡◌, ◌≢◌, ℕ, zero, suc, ◌^◌, ◌<◌, Bool, true, false, List, [], ◌∷◌, get_or, length, refl, sym, ap, subst, ◌∙◌, inl, inr}
+use Rattle.std.proofs.Common.{rules, arith, ◌≡◌, ◌≢◌, ℕ, zero, suc, ◌^◌, ◌<◌, Bool, true, false, get_or, length, refl, sym, ap, subst, ◌∙◌, inl, inr}
 use Rattle.std.specs.Prelude.{◌⊎◌, ◌&&◌, Option, Some, None, Result, Ok, Err, nat_lt, decimal}
 use Rattle.std.specs.Result.{OkIff}
 use Rattle.std.specs.Str.Parse.{AllDigits, digits_value, ParsesUnsigned}

@@ -10,7 +10,7 @@ use Rattle.cmd_read.specs.Reading.{Makes, Spoils, IsSpoilt, AsksBy, IsRefusedBy,
 use Rattle.cmd_read.specs.declared.request.Verb.{Verb}
 use Rattle.cmd_read.specs.declared.request.Request.{Request}
 use Rattle.cmd_read.specs.declared.error.ReadError.{ReadError}
-use Rattle.cmd_read.specs.declared.error.ReadError.TheVariants.{BadWord, UnknownCommand, BadPath, BadName, Memory}
+use Rattle.cmd_read.specs.declared.error.ReadError.TheVariants.{BadPath, BadName}
 
 some_once : {A : Type 0} (o : Option A) (x y : A) → o ≡ Some x → o ≡ Some y → x ≡ y
 some_once o x y h k = cc (h, k)

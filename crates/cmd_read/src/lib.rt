@@ -5,11 +5,13 @@ mod choices;
 mod count;
 mod error;
 mod laws;
-mod longer;
 mod number;
 mod reading;
 mod request;
 mod rows;
+#[cfg(test)]
+mod tests;
+mod verbs;
 mod ways;
 mod words;
 

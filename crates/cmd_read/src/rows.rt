@@ -3,8 +3,9 @@ ghost use Rattle.cmd_read.specs.Table.{among, of_sessions, of_users, of_resource
 ghost use Rattle.cmd_read.specs.Finding.{AsksIn, RefusesIn};
 ghost use Rattle.cmd_read.specs.declared.error.ReadError.TheVariants.{Memory};
 
-use crate::longer::{
-    read_chmod, read_get, read_lsmeta, read_mkresc, read_mkuser, read_modresc, read_open, read_put, read_triple,
+use crate::verbs::{
+    read_chmod, read_get, read_lsmeta, read_mkresc, read_mkuser, read_modresc, read_open, read_put,
+    read_triple,
 };
 use crate::ways::{
     no_words, one_name, one_number, one_path, one_text, path_and_text, two_paths, two_texts,
@@ -245,11 +246,23 @@ pub(crate) fn read_metadata(
 {
     if is_word(verb, b"addmeta") {
         let triple = read_triple(alloc, words)?;
-        return Ok(Some(Verb::AddMeta { item: triple.item, name: triple.name, attribute: triple.attribute, value: triple.value, unit: triple.unit }));
+        return Ok(Some(Verb::AddMeta {
+            item: triple.item,
+            name: triple.name,
+            attribute: triple.attribute,
+            value: triple.value,
+            unit: triple.unit,
+        }));
     }
     if is_word(verb, b"rmmeta") {
         let triple = read_triple(alloc, words)?;
-        return Ok(Some(Verb::RmMeta { item: triple.item, name: triple.name, attribute: triple.attribute, value: triple.value, unit: triple.unit }));
+        return Ok(Some(Verb::RmMeta {
+            item: triple.item,
+            name: triple.name,
+            attribute: triple.attribute,
+            value: triple.value,
+            unit: triple.unit,
+        }));
     }
     if is_word(verb, b"lsmeta") {
         let asked = read_lsmeta(alloc, words)?;

@@ -1,5 +1,4 @@
 use Rattle.std.proofs.Common.{rules, ◌≡◌, ◌∷◌, [], ◌++◌, true, sym, ◌∙◌}
-use Rattle.cmd_read.specs.Table.{number_of}
 use Rattle.cmd_read.specs.Counting.{promises}
 use Rattle.cmd_read.proofs.Counting.{counts, counts_none}
 use Rattle.cmd_read.proofs.count.body_count.Goals as goal

@@ -8,7 +8,8 @@ ghost use Rattle.cmd_read.specs.declared.request.Verb.TheVariants.{MkUser, ModRe
 ghost use Rattle.cmd_read.specs.declared.error.ReadError.TheVariants.{Memory};
 
 use crate::choices::{
-    choice_of, coordinating_kind_of, is_storage, kind_with_name, kind_with_path, level_of, mode_of, state_of, user_kind_of,
+    choice_of, coordinating_kind_of, is_storage, kind_with_name, kind_with_path, level_of, mode_of,
+    state_of, user_kind_of,
 };
 use crate::number::number_of;
 use crate::words::{bad_word, front, new_name_of, no_more, path_of, path_text_of, text_of};
@@ -16,6 +17,7 @@ use crate::{ReadError, Verb};
 use grid_model::{ItemKind, Text};
 use std::alloc::Global;
 
+/// A new user: a new name and a kind.
 pub(crate) fn read_mkuser(alloc: Global, words: &[Text]) -> Result<Verb, ReadError>
     ensures verb { IfOk result (λ verb. AsksFor (way (a_new_name ∷ a_user_kind ∷ []) MkUser ∷ []) words.now verb) }
     ensures refused { IfErr result (λ why. why ≢ Memory → Refuses (way (a_new_name ∷ a_user_kind ∷ []) MkUser ∷ []) words.now why) }
@@ -28,6 +30,7 @@ pub(crate) fn read_mkuser(alloc: Global, words: &[Text]) -> Result<Verb, ReadErr
     Ok(Verb::MkUser { name, kind })
 }
 
+/// A new resource: a new name and a kind, with a slot where it keeps files itself.
 pub(crate) fn read_mkresc(alloc: Global, words: &[Text]) -> Result<Verb, ReadError>
     ensures verb { IfOk result (λ verb. AsksFor ways_to_make words.now verb) }
     ensures refused { IfErr result (λ why. why ≢ Memory → Refuses ways_to_make words.now why) }
@@ -47,6 +50,7 @@ pub(crate) fn read_mkresc(alloc: Global, words: &[Text]) -> Result<Verb, ReadErr
     Ok(Verb::MkCoordinating { name, kind })
 }
 
+/// A resource and its state.
 pub(crate) fn read_modresc(alloc: Global, words: &[Text]) -> Result<Verb, ReadError>
     ensures verb { IfOk result (λ verb. AsksFor (way (a_text ∷ a_state ∷ []) ModResc ∷ []) words.now verb) }
     ensures refused { IfErr result (λ why. why ≢ Memory → Refuses (way (a_text ∷ a_state ∷ []) ModResc ∷ []) words.now why) }
@@ -59,6 +63,7 @@ pub(crate) fn read_modresc(alloc: Global, words: &[Text]) -> Result<Verb, ReadEr
     Ok(Verb::ModResc { name, up })
 }
 
+/// A level, the name of a user or a group, and a path.
 pub(crate) fn read_chmod(alloc: Global, words: &[Text]) -> Result<Verb, ReadError>
     ensures verb { IfOk result (λ verb. AsksFor (way (a_level ∷ a_text ∷ a_path ∷ []) ChMod ∷ []) words.now verb) }
     ensures refused { IfErr result (λ why. why ≢ Memory → Refuses (way (a_level ∷ a_text ∷ a_path ∷ []) ChMod ∷ []) words.now why) }
@@ -73,6 +78,7 @@ pub(crate) fn read_chmod(alloc: Global, words: &[Text]) -> Result<Verb, ReadErro
     Ok(Verb::ChMod { level, name, path })
 }
 
+/// An object: a path, a resource, a mode and a count.
 pub(crate) fn read_put(alloc: Global, words: &[Text]) -> Result<Verb, ReadError>
     ensures verb { IfOk result (λ verb. AsksFor (way (a_path ∷ a_text ∷ a_mode ∷ a_number ∷ []) Put ∷ []) words.now verb) }
     ensures refused { IfErr result (λ why. why ≢ Memory → Refuses (way (a_path ∷ a_text ∷ a_mode ∷ a_number ∷ []) Put ∷ []) words.now why) }
@@ -94,6 +100,7 @@ pub(crate) fn read_put(alloc: Global, words: &[Text]) -> Result<Verb, ReadError>
     })
 }
 
+/// An upload: a path, a resource and a mode.
 pub(crate) fn read_open(alloc: Global, words: &[Text]) -> Result<Verb, ReadError>
     ensures verb { IfOk result (λ verb. AsksFor (way (a_path ∷ a_text ∷ a_mode ∷ []) Open ∷ []) words.now verb) }
     ensures refused { IfErr result (λ why. why ≢ Memory → Refuses (way (a_path ∷ a_text ∷ a_mode ∷ []) Open ∷ []) words.now why) }
@@ -112,6 +119,7 @@ pub(crate) fn read_open(alloc: Global, words: &[Text]) -> Result<Verb, ReadError
     })
 }
 
+/// A path, and a resource or none.
 pub(crate) fn read_get(alloc: Global, words: &[Text]) -> Result<Verb, ReadError>
     ensures verb { IfOk result (λ verb. AsksFor (way (a_path ∷ a_choice ∷ []) Get ∷ []) words.now verb) }
     ensures refused { IfErr result (λ why. why ≢ Memory → Refuses (way (a_path ∷ a_choice ∷ []) Get ∷ []) words.now why) }
@@ -125,7 +133,7 @@ pub(crate) fn read_get(alloc: Global, words: &[Text]) -> Result<Verb, ReadError>
 }
 
 /// An item and what is said of it.
-#[derive(Debug, Drop)]
+#[derive(Drop)]
 pub(crate) struct Triple {
     pub(crate) item: ItemKind,
     pub(crate) name: Text,
@@ -134,6 +142,7 @@ pub(crate) struct Triple {
     pub(crate) unit: Text,
 }
 
+/// An item, by its path or its name, and three texts.
 pub(crate) fn read_triple(alloc: Global, words: &[Text]) -> Result<Triple, ReadError>
     ensures triple { IfOk result (λ t. (verb : ItemKind → Word → Word → Word → Word → Verb) → AsksFor (ways_to_triples verb) words.now (verb t.item t.name t.attribute t.value t.unit)) }
     ensures refused { IfErr result (λ why. why ≢ Memory → (verb : ItemKind → Word → Word → Word → Word → Verb) → Refuses (ways_to_triples verb) words.now why) }
@@ -149,7 +158,13 @@ pub(crate) fn read_triple(alloc: Global, words: &[Text]) -> Result<Triple, ReadE
         let attribute = text_of(alloc, attribute)?;
         let value = text_of(alloc, value)?;
         let unit = text_of(alloc, unit)?;
-        return Ok(Triple { item, name, attribute, value, unit });
+        return Ok(Triple {
+            item,
+            name,
+            attribute,
+            value,
+            unit,
+        });
     }
     let item = kind_with_name(item).ok_or(bad_word(2))?;
     let (name, rest) = front(rest, 3)?;
@@ -161,9 +176,16 @@ pub(crate) fn read_triple(alloc: Global, words: &[Text]) -> Result<Triple, ReadE
     let attribute = text_of(alloc, attribute)?;
     let value = text_of(alloc, value)?;
     let unit = text_of(alloc, unit)?;
-    Ok(Triple { item, name, attribute, value, unit })
+    Ok(Triple {
+        item,
+        name,
+        attribute,
+        value,
+        unit,
+    })
 }
 
+/// An item, by its path or its name.
 pub(crate) fn read_lsmeta(alloc: Global, words: &[Text]) -> Result<Verb, ReadError>
     ensures verb { IfOk result (λ verb. AsksFor ways_to_items words.now verb) }
     ensures refused { IfErr result (λ why. why ≢ Memory → Refuses ways_to_items words.now why) }
