@@ -3,7 +3,7 @@ use Rattle.std.proofs.Common.{◌≡◌, true, false, List, [], ◌∷◌, refl,
 use Rattle.std.specs.Prelude.{is_some}
 use Rattle.grid_model.specs.Names.{Text}
 use Rattle.grid_model.proofs.Comparing.{same_text-Decides}
-use Rattle.cmd_read.specs.Table.{Form, a_text, a_number, a_path, a_path_text, a_new_name, a_choice, a_mode, a_level, a_user_kind, a_coordinating_kind, a_state, a_kind_with_path, a_kind_with_name, the_word, Value, has_form, Means, Asks, Way, way}
+use Rattle.cmd_read.specs.Table.{Form, a_text, a_number, a_path, a_path_text, a_new_name, a_resource_or_none, a_mode, a_level, a_user_kind, a_coordinating_kind, a_state, a_kind_with_path, a_kind_with_name, the_word, Value, has_form, Means, Asks, Way, way}
 use Rattle.cmd_read.specs.Reading.{fits, Makes, AsksFor}
 use Rattle.cmd_read.specs.declared.request.Verb.{Verb}
 
@@ -13,7 +13,7 @@ means_form a_number w x m = ap is_some m
 means_form a_path w x m = refl
 means_form a_path_text w x m = refl
 means_form a_new_name w x m = refl
-means_form a_choice w x m = refl
+means_form a_resource_or_none w x m = refl
 means_form a_mode w x m = ap is_some m
 means_form a_level w x m = ap is_some m
 means_form a_user_kind w x m = ap is_some m

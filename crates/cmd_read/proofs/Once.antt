@@ -1,11 +1,11 @@
 -- No words are read in two ways.
-use Rattle.std.proofs.Common.{◌≡◌, ℕ, List, [], ◌∷◌, refl, sym, ap, subst, ◌∙◌, inl, inr}
+use Rattle.std.proofs.Common.{◌≡◌, ℕ, ◌+◌, List, [], ◌∷◌, refl, sym, ap, subst, ◌∙◌, inl, inr}
 use Rattle.std.specs.Prelude.{Option, Some, None, Result, Ok, Err}
 use Rattle.grid_model.specs.Names.{Text, SpellsPath, SpellsName}
 use Rattle.grid_model.proofs.PathSpelling.{SpellsPath-unique}
 use Rattle.grid_model.proofs.Refusals.{IsRefusedAt-unique}
 use Rattle.grid_model.specs.Places.{IsRefusedAt}
-use Rattle.cmd_read.specs.Table.{Form, a_text, a_number, a_path, a_path_text, a_new_name, a_choice, a_mode, a_level, a_user_kind, a_coordinating_kind, a_state, a_kind_with_path, a_kind_with_name, the_word, Value, Means, Asks, Way, among, table}
+use Rattle.cmd_read.specs.Table.{Form, a_text, a_number, a_path, a_path_text, a_new_name, a_resource_or_none, a_mode, a_level, a_user_kind, a_coordinating_kind, a_state, a_kind_with_path, a_kind_with_name, the_word, Value, Means, Asks, Way, among, table}
 use Rattle.cmd_read.specs.Reading.{Makes, Spoils, IsSpoilt, AsksBy, IsRefusedBy, chosen, furthest, session_of, ReadsVerb, ReadsIn, ReadsBehind, Reads}
 use Rattle.cmd_read.specs.declared.request.Verb.{Verb}
 use Rattle.cmd_read.specs.declared.request.Request.{Request}
@@ -21,7 +21,7 @@ means_once a_number w x y h k = some_once _ x y h k
 means_once a_path w x y h k = SpellsPath-unique w x y h k
 means_once a_path_text w x y h k = sym h.0 ∙ k.0
 means_once a_new_name w x y h k = sym h.text_is ∙ k.text_is
-means_once a_choice w x y h k = sym h ∙ k
+means_once a_resource_or_none w x y h k = sym h ∙ k
 means_once a_mode w x y h k = some_once _ x y h k
 means_once a_level w x y h k = some_once _ x y h k
 means_once a_user_kind w x y h k = some_once _ x y h k
@@ -77,24 +77,24 @@ makes_not (f ∷ fs) (w ∷ ws) v verb why m (inr h) = makes_not fs ws (v m.0) v
 makes_not [] ws v verb why m h = absurd h
 makes_not (f ∷ fs) [] v verb why m h = absurd h
 
-asks_once : (o : Option Way) (n : ℕ) (ws : List Text) (a b : Verb) → AsksBy o n ws a → AsksBy o n ws b → a ≡ b
-asks_once None n ws a b h k = absurd h
-asks_once (Some way) n ws a b h k = makes_once way.forms ws way.makes a b h k
+asks_once : (o : Option Way) (ws : List Text) (a b : Verb) → AsksBy o ws a → AsksBy o ws b → a ≡ b
+asks_once None ws a b h k = absurd h
+asks_once (Some way) ws a b h k = makes_once way.forms ws way.makes a b h k
 
 refused_once : (o : Option Way) (n : ℕ) (ws : List Text) (a b : ReadError) → IsRefusedBy o n ws a → IsRefusedBy o n ws b → a ≡ b
 refused_once None n ws a b h k = h ∙ sym k
 refused_once (Some way) n ws a b h k = spoilt_once way.forms ws a b h k
 
-asks_not : (o : Option Way) (n : ℕ) (ws : List Text) (verb : Verb) (why : ReadError) → AsksBy o n ws verb → ¬ IsRefusedBy o n ws why
+asks_not : (o : Option Way) (n : ℕ) (ws : List Text) (verb : Verb) (why : ReadError) → AsksBy o ws verb → ¬ IsRefusedBy o n ws why
 asks_not None n ws verb why h k = absurd h
 asks_not (Some way) n ws verb why h k = makes_not way.forms ws way.makes verb why h k
 
 verb_once : (o : Option (List Way)) (ws : List Text) (a b : Result Verb ReadError) → ReadsVerb o ws a → ReadsVerb o ws b → a ≡ b
 verb_once None ws a b h k = h ∙ sym k
-verb_once (Some ways) ws (Ok a) (Ok b) h k = ap Ok (asks_once (chosen ways ws) (furthest ways ws) ws a b h k)
-verb_once (Some ways) ws (Ok a) (Err b) h k = absurd (asks_not (chosen ways ws) (furthest ways ws) ws a b h k)
-verb_once (Some ways) ws (Err a) (Ok b) h k = absurd (asks_not (chosen ways ws) (furthest ways ws) ws b a k h)
-verb_once (Some ways) ws (Err a) (Err b) h k = ap Err (refused_once (chosen ways ws) (furthest ways ws) ws a b h k)
+verb_once (Some ways) ws (Ok a) (Ok b) h k = ap Ok (asks_once (chosen ways ws) ws a b h k)
+verb_once (Some ways) ws (Ok a) (Err b) h k = absurd (asks_not (chosen ways ws) (2 + furthest ways ws) ws a b h k)
+verb_once (Some ways) ws (Err a) (Ok b) h k = absurd (asks_not (chosen ways ws) (2 + furthest ways ws) ws b a k h)
+verb_once (Some ways) ws (Err a) (Err b) h k = ap Err (refused_once (chosen ways ws) (2 + furthest ways ws) ws a b h k)
 
 same_verb : (a b : Verb) (x y : Result Verb ReadError) → x ≡ Ok a → y ≡ Ok b → x ≡ y → a ≡ b
 same_verb a b x y h k e = cc (h, k, e)

@@ -9,13 +9,14 @@ use Rattle.cmd_read.specs.declared.request.Request.{Request}
 use Rattle.cmd_read.specs.declared.error.ReadError.{ReadError}
 use Rattle.cmd_read.specs.declared.error.ReadError.TheVariants.{BadWord, UnknownCommand, BadPath, BadName}
 
--- a session: a number below 64
-abbrev pub small : Option ℕ → Option ℕ
-small None = None
-small (Some n) = elim (nat_lt n 64) [ true ↦ Some n | false ↦ None ]
+-- a number that is one of a session: below 64
+abbrev pub as_session : Option ℕ → Option ℕ
+as_session None = None
+as_session (Some n) = elim (nat_lt n 64) [ true ↦ Some n | false ↦ None ]
 
+-- the session that a word numbers
 abbrev pub session_of : Text → Option ℕ
-session_of w = small (number_of w)
+session_of w = as_session (number_of w)
 
 -- there are as many words as forms, and each is of its form
 abbrev pub fits : List Form → List Text → Bool
@@ -35,7 +36,7 @@ abbrev pub furthest : List Way → List Text → ℕ
 furthest [] ws = 0
 furthest (way ∷ ways) ws = max (fitting way.forms ws) (furthest ways ws)
 
--- the way in which the words ask
+-- the first way that the words fit
 abbrev pub chosen : List Way → List Text → Option Way
 chosen ways ws = find (λ way. fits way.forms ws) ways
 
@@ -58,36 +59,37 @@ abbrev pub IsSpoilt : List Form → List Text → ReadError → Type 0
 IsSpoilt (f ∷ fs) (w ∷ ws) why = Spoils f w why ⊎ (((x : Value f) × Means f w x) × IsSpoilt fs ws why)
 IsSpoilt fs ws why = ⊥
 
--- words behind a verb, of which some may fit a way to ask for it
-abbrev pub AsksBy : Option Way → ℕ → List Text → Verb → Type 0
-AsksBy None furthest ws verb = ⊥
-AsksBy (Some way) furthest ws verb = Makes way.forms ws way.makes verb
+-- the words behind a verb ask for this in the way, if there is one
+abbrev pub AsksBy : Option Way → List Text → Verb → Type 0
+AsksBy None ws verb = ⊥
+AsksBy (Some way) ws verb = Makes way.forms ws way.makes verb
 
-abbrev pub IsRefusedBy : Option Way → ℕ → List Text → ReadError → Type 0
-IsRefusedBy None furthest ws why = why ≡ BadWord (2 + furthest)
-IsRefusedBy (Some way) furthest ws why = IsSpoilt way.forms ws why
-
--- The words behind a verb ask for this, in one of the ways.
+-- They ask for this in one of the ways.
 abbrev pub AsksFor : List Way → List Text → Verb → Type 0
-AsksFor ways ws verb = AsksBy (chosen ways ws) (furthest ways ws) ws verb
+AsksFor ways ws verb = AsksBy (chosen ways ws) ws verb
 
--- The words behind a verb are refused so.
+-- the words are refused so in the way, or where there is none by the number of the first wrong one
+abbrev pub IsRefusedBy : Option Way → ℕ → List Text → ReadError → Type 0
+IsRefusedBy None wrong ws why = why ≡ BadWord wrong
+IsRefusedBy (Some way) wrong ws why = IsSpoilt way.forms ws why
+
+-- They are refused so, as they fit none of the ways, or a path or a new name in them is none.
 abbrev pub Refuses : List Way → List Text → ReadError → Type 0
-Refuses ways ws why = IsRefusedBy (chosen ways ws) (furthest ways ws) ws why
+Refuses ways ws why = IsRefusedBy (chosen ways ws) (2 + furthest ways ws) ws why
 
--- what is read of the words behind a verb, for which these ways were found in the table
+-- The words behind a verb, to which the table gives these ways, are read so.
 abbrev pub ReadsVerb : Option (List Way) → List Text → Result Verb ReadError → Type 0
 ReadsVerb None ws answer = answer ≡ Err UnknownCommand
 ReadsVerb (Some ways) ws (Ok verb) = AsksFor ways ws verb
 ReadsVerb (Some ways) ws (Err why) = Refuses ways ws why
 
--- what is read of the words behind that of a session
+-- The words behind that of a session, the verb first, are read so.
 abbrev pub ReadsIn : ℕ → List Text → Result Request ReadError → Type 0
 ReadsIn session [] answer = answer ≡ Err (BadWord 1)
 ReadsIn session (v ∷ ws) (Ok request) = (request.session ≡ session) × ReadsVerb (among table v) ws (Ok request.verb)
 ReadsIn session (v ∷ ws) (Err why) = ReadsVerb (among table v) ws (Err why)
 
--- the same where the first word is none of a session
+-- the same, where the first word may be no session
 abbrev pub ReadsBehind : Option ℕ → List Text → Result Request ReadError → Type 0
 ReadsBehind None ws answer = answer ≡ Err (BadWord 0)
 ReadsBehind (Some session) ws answer = ReadsIn session ws answer

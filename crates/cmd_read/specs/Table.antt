@@ -20,12 +20,15 @@ abbrev pub among : {A : Type 0} → List (Text × A) → Text → Option A
 among [] w = None
 among (x ∷ xs) w = elim (same_text x.0 w) [ true ↦ Some x.1 | false ↦ among xs w ]
 
+-- whether a put makes a new object only
 abbrev pub modes : List (Text × Mode)
 modes = (codes "new", New) ∷ (codes "over", Over) ∷ []
 
+-- what a user may do
 abbrev pub levels : List (Text × Level)
 levels = (codes "null", Null) ∷ (codes "read", Read) ∷ (codes "write", Write) ∷ (codes "own", Own) ∷ []
 
+-- the kinds of new users
 abbrev pub user_kinds : List (Text × UserKind)
 user_kinds = (codes "rodsadmin", Rodsadmin) ∷ (codes "rodsuser", Rodsuser) ∷ []
 
@@ -59,7 +62,7 @@ pub data Form : Type 0 where
   -- the name of a new user, group or resource
   a_new_name : Form
   -- a resource, or `-` for none
-  a_choice : Form
+  a_resource_or_none : Form
   a_mode : Form
   a_level : Form
   a_user_kind : Form
@@ -77,7 +80,7 @@ Value a_number = ℕ
 Value a_path = Path
 Value a_path_text = Text
 Value a_new_name = Text
-Value a_choice = Option Text
+Value a_resource_or_none = Option Text
 Value a_mode = Mode
 Value a_level = Level
 Value a_user_kind = UserKind
@@ -101,8 +104,8 @@ has_form (the_word t) w = same_text t w
 has_form other w = true
 
 -- the resource that is asked for
-abbrev pub choice : Text → Option Text
-choice w = elim (same_text (codes "-") w) [ true ↦ None | false ↦ Some w ]
+abbrev pub named_resource : Text → Option Text
+named_resource w = elim (same_text (codes "-") w) [ true ↦ None | false ↦ Some w ]
 
 -- The word stands for the value.
 abbrev pub Means : (f : Form) → Text → Value f → Type 0
@@ -111,7 +114,7 @@ Means a_number w n = number_of w ≡ Some n
 Means a_path w path = SpellsPath w path
 Means a_path_text w text = (w ≡ text) × (path : Path) × SpellsPath w path
 Means a_new_name w name = SpellsName w name
-Means a_choice w resource = choice w ≡ resource
+Means a_resource_or_none w resource = named_resource w ≡ resource
 Means a_mode w mode = among modes w ≡ Some mode
 Means a_level w level = among levels w ≡ Some level
 Means a_user_kind w kind = among user_kinds w ≡ Some kind
@@ -131,6 +134,7 @@ pub record Way : Type 0 where
   pub forms : List Form
   pub makes : Asks forms
 
+-- the same, written in one line
 abbrev pub way : (fs : List Form) → Asks fs → Way
 way fs v = record { forms = fs; makes = v }
 
@@ -142,6 +146,7 @@ Row = Text × List Way
 abbrev pub row : Text → (fs : List Form) → Asks fs → Row
 row t fs v = (t, way fs v ∷ [])
 
+-- sessions and the run
 abbrev pub of_sessions : List Row
 of_sessions =
     row (codes "login") (a_text ∷ []) verb.Login
@@ -149,6 +154,7 @@ of_sessions =
     ∷ row (codes "quit") [] verb.Quit
     ∷ []
 
+-- users and groups
 abbrev pub of_users : List Row
 of_users =
     row (codes "mkuser") (a_new_name ∷ a_user_kind ∷ []) verb.MkUser
@@ -164,6 +170,7 @@ ways_to_make =
     ∷ way (a_new_name ∷ a_coordinating_kind ∷ []) verb.MkCoordinating
     ∷ []
 
+-- resources and their trees
 abbrev pub of_resources : List Row
 of_resources =
     (codes "mkresc", ways_to_make)
@@ -171,6 +178,7 @@ of_resources =
     ∷ row (codes "modresc") (a_text ∷ a_state ∷ []) verb.ModResc
     ∷ []
 
+-- rules, queries and single calls
 abbrev pub of_rules : List Row
 of_rules =
     row (codes "rules") (a_number ∷ []) verb.Rules
@@ -180,6 +188,7 @@ of_rules =
     ∷ row (codes "exec") (a_text ∷ []) verb.Exec
     ∷ []
 
+-- collections and access
 abbrev pub of_collections : List Row
 of_collections =
     row (codes "mkdir") (a_path ∷ []) verb.MkDir
@@ -191,16 +200,18 @@ of_collections =
     ∷ row (codes "noinherit") (a_path ∷ []) verb.NoInherit
     ∷ []
 
+-- objects and replicas
 abbrev pub of_objects : List Row
 of_objects =
     row (codes "put") (a_path ∷ a_text ∷ a_mode ∷ a_number ∷ []) verb.Put
-    ∷ row (codes "get") (a_path ∷ a_choice ∷ []) verb.Get
+    ∷ row (codes "get") (a_path ∷ a_resource_or_none ∷ []) verb.Get
     ∷ row (codes "repl") (a_path ∷ a_text ∷ []) verb.Repl
     ∷ row (codes "chksum") (a_path ∷ []) verb.ChkSum
     ∷ row (codes "trim") (a_path ∷ a_text ∷ []) verb.Trim
     ∷ row (codes "rm") (a_path ∷ []) verb.Rm
     ∷ []
 
+-- uploads in parts
 abbrev pub of_uploads : List Row
 of_uploads =
     row (codes "open") (a_path ∷ a_text ∷ a_mode ∷ []) verb.Open
@@ -209,16 +220,18 @@ of_uploads =
     ∷ row (codes "abort") [] verb.Abort
     ∷ []
 
--- an item by its path, or by its name
+-- what is said of an item, which stands there by its path or by its name
 abbrev pub ways_to_triples : (ItemKind → Text → Text → Text → Text → Verb) → List Way
 ways_to_triples v =
     way (a_kind_with_path ∷ a_path_text ∷ a_text ∷ a_text ∷ a_text ∷ []) v
     ∷ way (a_kind_with_name ∷ a_text ∷ a_text ∷ a_text ∷ a_text ∷ []) v
     ∷ []
 
+-- the item alone
 abbrev pub ways_to_items : List Way
 ways_to_items = way (a_kind_with_path ∷ a_path_text ∷ []) verb.LsMeta ∷ way (a_kind_with_name ∷ a_text ∷ []) verb.LsMeta ∷ []
 
+-- metadata of items
 abbrev pub of_metadata : List Row
 of_metadata =
     (codes "addmeta", ways_to_triples verb.AddMeta)

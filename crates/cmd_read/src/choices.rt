@@ -1,6 +1,6 @@
 ghost use Rattle.std.specs.Prelude.{◌≡◌, IfOk, IfSome, None, codes};
 ghost use Rattle.grid_model.specs.Names.{same_text};
-ghost use Rattle.cmd_read.specs.Table.{among, modes, levels, user_kinds, coordinating_kinds, states, kinds_with_path, kinds_with_name, choice};
+ghost use Rattle.cmd_read.specs.Table.{among, modes, levels, user_kinds, coordinating_kinds, states, kinds_with_path, kinds_with_name, named_resource};
 
 use crate::words::is_word;
 use grid_model::{ItemKind, Level, Mode, ResourceKind, Text, UserKind};
@@ -97,8 +97,8 @@ pub(crate) fn kind_with_name(word: &Text) -> Option<ItemKind>
 }
 
 /// The resource that a get asks for: `-` asks for none. Fails for want of memory alone.
-pub(crate) fn choice_of(alloc: Global, word: &Text) -> Result<Option<Text>, AllocError>
-    ensures { IfOk result (λ resource. choice word.now ≡ resource) }
+pub(crate) fn resource_of(alloc: Global, word: &Text) -> Result<Option<Text>, AllocError>
+    ensures { IfOk result (λ resource. named_resource word.now ≡ resource) }
 {
     match word.as_slice() {
         b"-" => Ok(None),

@@ -1,15 +1,15 @@
 ghost use Rattle.std.specs.Prelude.{◌≡◌, ◌≢◌, ℕ, [], ◌∷◌, IfOk, IfErr};
 ghost use Rattle.grid_model.specs.Names.{Text as Word};
 ghost use Rattle.grid_model.specs.declared.grid.ItemKind.{ItemKind};
-ghost use Rattle.cmd_read.specs.Table.{way, ways_to_make, ways_to_triples, ways_to_items, a_text, a_new_name, a_number, a_path, a_choice, a_mode, a_level, a_user_kind, a_state};
+ghost use Rattle.cmd_read.specs.Table.{way, ways_to_make, ways_to_triples, ways_to_items, a_text, a_new_name, a_number, a_path, a_resource_or_none, a_mode, a_level, a_user_kind, a_state};
 ghost use Rattle.cmd_read.specs.Reading.{AsksFor, Refuses};
 ghost use Rattle.cmd_read.specs.declared.request.Verb.{Verb};
 ghost use Rattle.cmd_read.specs.declared.request.Verb.TheVariants.{MkUser, ModResc, ChMod, Put, Open, Get};
 ghost use Rattle.cmd_read.specs.declared.error.ReadError.TheVariants.{Memory};
 
 use crate::choices::{
-    choice_of, coordinating_kind_of, is_storage, kind_with_name, kind_with_path, level_of, mode_of,
-    state_of, user_kind_of,
+    coordinating_kind_of, is_storage, kind_with_name, kind_with_path, level_of, mode_of,
+    resource_of, state_of, user_kind_of,
 };
 use crate::number::number_of;
 use crate::words::{bad_word, front, new_name_of, no_more, path_of, path_text_of, text_of};
@@ -121,14 +121,14 @@ pub(crate) fn read_open(alloc: Global, words: &[Text]) -> Result<Verb, ReadError
 
 /// A path, and a resource or none.
 pub(crate) fn read_get(alloc: Global, words: &[Text]) -> Result<Verb, ReadError>
-    ensures verb { IfOk result (λ verb. AsksFor (way (a_path ∷ a_choice ∷ []) Get ∷ []) words.now verb) }
-    ensures refused { IfErr result (λ why. why ≢ Memory → Refuses (way (a_path ∷ a_choice ∷ []) Get ∷ []) words.now why) }
+    ensures verb { IfOk result (λ verb. AsksFor (way (a_path ∷ a_resource_or_none ∷ []) Get ∷ []) words.now verb) }
+    ensures refused { IfErr result (λ why. why ≢ Memory → Refuses (way (a_path ∷ a_resource_or_none ∷ []) Get ∷ []) words.now why) }
 {
     let (path, rest) = front(words, 2)?;
     let (resource, rest) = front(rest, 3)?;
     no_more(rest, 4)?;
     let path = path_of(alloc, path)?;
-    let resource = choice_of(alloc, resource)?;
+    let resource = resource_of(alloc, resource)?;
     Ok(Verb::Get { path, resource })
 }
 
