@@ -1,5 +1,6 @@
 pub mod Asking
 pub mod Counting
+pub mod Each
 pub mod Finding
 pub mod Numbers
 pub mod Once

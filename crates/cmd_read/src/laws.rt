@@ -10,6 +10,11 @@ pub fn words_are_read_once()
     ensures { (words : List Text) (one other : Result Request ReadError) → Reads words one → Reads words other → one ≡ other }
 {}
 
+/// All words are read, or are refused for a reason other than memory.
+pub fn all_words_are_read()
+    ensures { (words : List Text) → (answer : Result Request ReadError) × Reads words answer }
+{}
+
 /// The number of a word is the one below 2^64 that is written so in decimal.
 pub fn numbers_are_decimal()
     ensures { (word : Text) (number : ℕ) → (number_of word ≡ Some number) ↔ ((word ≡ decimal number) × (number < 2 ^ 64)) }

@@ -17,6 +17,6 @@ mod words;
 
 pub use count::body_count;
 pub use error::ReadError;
-pub use laws::{numbers_are_decimal, words_are_read_once};
+pub use laws::{all_words_are_read, numbers_are_decimal, words_are_read_once};
 pub use reading::read_request;
 pub use request::{Request, Verb};

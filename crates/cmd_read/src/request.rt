@@ -50,7 +50,7 @@ pub enum Verb {
         name: Text,
         kind: ResourceKind,
     },
-    /// The one resource is the other's child from now on, the last of them.
+    /// The child is the last of the parent's children from now on.
     AddChild {
         parent: Text,
         child: Text,
