@@ -33,6 +33,7 @@ fn promises(words: &[Text]) -> bool
     }
 }
 
+// Whether the verb is one of these three.
 fn has_body(verb: &Text) -> bool
     ensures { result ≡ has_body verb.now }
 {
