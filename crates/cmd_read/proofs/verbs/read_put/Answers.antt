@@ -1,0 +1,11 @@
+use Rattle.std.proofs.Common.{rules, ◌≡◌, [], ◌∷◌, refl}
+use Rattle.cmd_read.specs.Table.{a_mode, a_number, a_path, a_text}
+use Rattle.cmd_read.specs.declared.request.Verb.TheVariants.{Put}
+use Rattle.cmd_read.proofs.Asking.{asks_first}
+use Rattle.cmd_read.proofs.verbs.read_put.Goals as goal
+
+pub returns-clause-verb : goal.returns-clause-verb
+returns-clause-verb c =
+    let words : c.args.words.now ≡ c.in_ok-path.path.now ∷ c.in_ok-resource.resource.now ∷ c.in_ok-mode.mode.now ∷ c.in_ok-count.count.now ∷ [] = search rules in
+    rw words (asks_first (a_path ∷ a_text ∷ a_mode ∷ a_number ∷ []) Put [] (c.in_ok-path.path.now ∷ c.in_ok-resource.resource.now ∷ c.in_ok-mode.mode.now ∷ c.in_ok-count.count.now ∷ []) (Put c.in_ok-path-2.path c.in_ok-resource-2.resource c.in_ok-mode-2.mode c.in_ok-count-2.count)
+    (c.in_ok-path-2.path, search rules, (c.in_ok-resource-2.resource, search rules, (c.in_ok-mode-2.mode, search rules, (c.in_ok-count-2.count, search rules, refl)))))
