@@ -66,14 +66,6 @@ begun_well old new deltas main_old main_new m is commits keeps tells settled roo
       room,
     )
 
-pub begun_in_vain : (j : Journal) (main_old main_new : DiskState) (e : JournalError) → IsOfCommit e → (e ≢ journal.DiskFault → Rests main_old main_new)
-    → ((what : Wear) (at : ℕ) → e ≡ journal.Worn what at → (at ≡ j.log.gate) × (2 ^ 62 < at)) → (IsTrue main_old.tells → Keeps j.cat j main_old.holds) → BeginEnds j.cat main_old main_new (Err (begin_error_of e))
-begun_in_vain j main_old main_new journal.Memory of same worn keeps = same (λ e. cc)
-begun_in_vain j main_old main_new journal.DiskFault of same worn keeps = tt
-begun_in_vain j main_old main_new (journal.Worn what at) of same worn keeps = (same (λ e. cc), (worn what at refl).1, λ told. closes_at j.cat j main_old.holds at (worn what at refl).0 (keeps told))
-begun_in_vain j main_old main_new (journal.NotEmpty side len) of same worn keeps = absurd of
-begun_in_vain j main_old main_new (journal.NotACatalogue side at) of same worn keeps = absurd of
-
 -- a log closes at one place
 pub one_close : (main : Text) (m n : ℕ) → ClosesAt main m → ClosesAt main n → m ≡ n
 one_close main m n a b =
@@ -81,7 +73,7 @@ one_close main m n a b =
     let records : b.records ≡ a.records = cc in
     a.place_is ∙ ap (λ (r : List (List ℕ)). 16 + length (frames r)) (sym records) ∙ sym b.place_is
 
--- a commit was done, so there was room
+-- there was room
 pub room_of : (j : Journal) (main : DiskState) → j.cat.numbers.run ≢ 2 ^ 64 - 1 → (2 ^ 62 < j.log.gate → ⊥) → (IsTrue main.tells → Keeps j.cat j main.holds) → HasRoom j.cat main
 room_of j main run gate keeps = (
   run,
@@ -92,3 +84,11 @@ room_of j main run gate keeps = (
   where
     omega_le : (a b : ℕ) → a ≡ b → (2 ^ 62 < b → ⊥) → a ≤ 2 ^ 62
     omega_le a b e never = elim (cases_lt (2 ^ 62) b) [ inl lt ↦ absurd (never lt) | inr le ↦ omega (arith, e, le) ]
+
+pub begun_in_vain : (j : Journal) (main_old main_new : DiskState) (e : JournalError) → IsOfCommit e → (e ≢ journal.DiskFault → Rests main_old main_new) → j.cat.numbers.run ≢ 2 ^ 64 - 1 → (e ≡ journal.DiskFault → 2 ^ 62 < j.log.gate → ⊥)
+    → ((what : Wear) (at : ℕ) → e ≡ journal.Worn what at → (at ≡ j.log.gate) × (2 ^ 62 < at)) → (IsTrue main_old.tells → Keeps j.cat j main_old.holds) → BeginEnds j.cat main_old main_new (Err (begin_error_of e))
+begun_in_vain j main_old main_new journal.Memory of same run gate worn keeps = same (λ e. cc)
+begun_in_vain j main_old main_new journal.DiskFault of same run gate worn keeps = room_of j main_old run (gate refl) keeps
+begun_in_vain j main_old main_new (journal.Worn what at) of same run gate worn keeps = (same (λ e. cc), run, (worn what at refl).1, λ told. closes_at j.cat j main_old.holds at (worn what at refl).0 (keeps told))
+begun_in_vain j main_old main_new (journal.NotEmpty side len) of same run gate worn keeps = absurd of
+begun_in_vain j main_old main_new (journal.NotACatalogue side at) of same run gate worn keeps = absurd of

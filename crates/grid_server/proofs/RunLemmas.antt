@@ -143,7 +143,7 @@ serves_unbegun plugin stores ambient found since main_old main_new source sink e
 
     by : (e : BeginError) → BeginEnds found main_old main_new (Err e) → Ends found [] [] (begins (grid_of found)) found.numbers.next_vault main_new source source sink sink (unbegun e)
     by (opening.Runs place) w = ((refl, w.1, w.2), nothing_shown, kept w.0)
-    by (opening.Log place) w = ((w.1, (let P : Text → Type 0 = λ m. ClosesAt m place in subst P (sym (w.0.stays told)) (w.2 told)), inl (refl, (kept w.0).stands)), nothing_shown, kept w.0)
+    by (opening.Log place) w = ((w.2, (let P : Text → Type 0 = λ m. ClosesAt m place in subst P (sym (w.0.stays told)) (w.3 told)), inl (refl, w.1, (kept w.0).stands)), nothing_shown, kept w.0)
     by opening.Disk w = tt
     by opening.Memory w = kept w
 
@@ -288,6 +288,16 @@ complete_init zone admin stores main_old main_new spare sink_old sink_new s (inr
 
 pub looked_rests : (old new : DiskState) → Looks old new → old.faults ≤ new.faults → Rests old new
 looked_rests old new looks later = record { faults = later; tells = looks.tells; last = looks.last; stays = looks.holds; left = λ t image left. (looks.left t image).0 left }
+
+-- at rest once, and again
+pub rests_more : (old mid new : DiskState) → Rests old mid → Rests mid new → Rests old new
+rests_more old mid new first then = record {
+  faults = omega (arith, first.faults, then.faults);
+  tells = then.tells ∙ first.tells;
+  last = then.last ∙ first.last;
+  stays = λ told. then.stays (subst IsTrue (sym first.tells) told) ∙ first.stays told;
+  left = λ t image left. first.left t image (then.left t image left);
+}
 
 -- of a device that is the same afterwards
 pub rests_then : {M : Type 0} (state : M → DiskState) (old : DiskState) (a b : M) → b ≡ a → Rests old (state a) → Rests old (state b)

@@ -22,9 +22,9 @@ HasRoom found main = (found.numbers.run ≢ 2 ^ 64 - 1) × (IsTrue main.tells �
 -- a run was begun over this catalogue, or why not
 abbrev pub BeginEnds : Cat → DiskState → DiskState → Result Server BeginError → Type 0
 BeginEnds found main_old main_new (Ok s) = IsHeld main_new s × (s.store.cat ≡ begun found) × (s.logged_in ≡ false) × (grid_of (begun found) ≡ grid_of found) × (IsTrue main_old.tells → IsSettled main_new) × HasRoom found main_old
-BeginEnds found main_old main_new (Err opening.Disk) = Unit {0}
+BeginEnds found main_old main_new (Err opening.Disk) = HasRoom found main_old
 BeginEnds found main_old main_new (Err opening.Memory) = Rests main_old main_new
-BeginEnds found main_old main_new (Err (opening.Log place)) = Rests main_old main_new × (2 ^ 62 < place) × (IsTrue main_old.tells → ClosesAt main_old.holds place)
+BeginEnds found main_old main_new (Err (opening.Log place)) = Rests main_old main_new × (found.numbers.run ≢ 2 ^ 64 - 1) × (2 ^ 62 < place) × (IsTrue main_old.tells → ClosesAt main_old.holds place)
 BeginEnds found main_old main_new (Err (opening.Runs place)) = Rests main_old main_new × (place ≡ found.numbers.run) × (place ≡ 2 ^ 64 - 1)
 
 -- what a stop leaves of main: the catalogue that was found, or that of the run that was begun

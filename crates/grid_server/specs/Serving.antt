@@ -162,7 +162,7 @@ pub record NextPuts (input : Text) (asked : List Asked) (end : State) : Type 0 w
 abbrev pub WearsOut : Cat → Text → List Asked → List Done → State → ℕ → DiskState → ℕ → Wear → Type 0
 WearsOut found input asked done end number main place wear.Runs = (asked ≡ []) × (place ≡ found.numbers.run) × (place ≡ 2 ^ 64 - 1)
 WearsOut found input asked done end number main place wear.Vaults = (place ≡ number) × (last_vault < number) × IsLeft main.holds found done end number × NextPuts input asked end
-WearsOut found input asked done end number main place wear.Log = (2 ^ 62 < place) × ClosesAt main.holds place × (((asked ≡ []) × StandsFor main.holds found) ⊎ NextChanges input asked end number)
+WearsOut found input asked done end number main place wear.Log = (2 ^ 62 < place) × ClosesAt main.holds place × (((asked ≡ []) × (found.numbers.run ≢ 2 ^ 64 - 1) × StandsFor main.holds found) ⊎ NextChanges input asked end number)
 
 -- what each status says. After a fault of a disk it says nothing of main, and `images` below is all that does
 abbrev pub Ends : Cat → List Asked → List Done → State → ℕ → DiskState → SourceState → SourceState → SinkState → SinkState → Status → Type 0

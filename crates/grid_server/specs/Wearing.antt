@@ -47,13 +47,15 @@ pub data GivesNumbers : State → ℕ → List Asked → List Done → State →
 
 -- ---- room behind the log
 
--- the gate of the last record of the log on main stands at this place
-pub record HasLastAt (main : Text) (place : ℕ) : Type 0 where
-  pub before : List (List ℕ)
+-- records were added to a log, and the gate of the last of them stands at this place
+pub record AddsTo (old new : Text) (place : ℕ) : Type 0 where
+  pub records : List (List ℕ)
+  pub log_old : IsLog 16 records old
+  pub more : List (List ℕ)
   pub body : List ℕ
-  pub log : IsLog 16 (before ++ body ∷ []) main
-  pub place_is : place ≡ 16 + length (frames before)
+  pub log : IsLog 16 ((records ++ more) ++ body ∷ []) new
+  pub place_is : place ≡ 16 + length (frames (records ++ more))
 
--- the disk holds what it held, or the last record of its log was added where there was room: behind a gate up to 2^62
+-- the disk holds what it held, or records were added to its log, the last of them where there was room: at a gate up to 2^62
 abbrev pub AddsInRoom : DiskState → DiskState → Type 0
-AddsInRoom old new = IsTrue old.tells → (new.holds ≡ old.holds) ⊎ ((place : ℕ) × (place ≤ 2 ^ 62) × HasLastAt new.holds place)
+AddsInRoom old new = IsTrue old.tells → (new.holds ≡ old.holds) ⊎ ((place : ℕ) × (place ≤ 2 ^ 62) × AddsTo old.holds new.holds place)

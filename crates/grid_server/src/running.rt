@@ -76,9 +76,10 @@ pub fn run<D: Disk, S: Source, K: Sink, A: Ambient, P: Plugin>(
     ensures whole { (found : Cat) → AsksFor words.now task.serve → Stands (D.disk outside.old.main).holds (D.disk outside.old.spare).holds (Ok found) →
         KeepWhole P.plugin outside.old.moments found (D.disk outside.old.main) (D.disk outside.new.main) outside.old.stores.items outside.new.stores.items }
 
-    // The numbers of runs, or the room of the log, had run out before.
+    // The numbers of runs, or the room of the log, had run out before: nothing is touched.
     ensures worn { (found : Cat) → AsksFor words.now task.serve → IsTrue (D.disk outside.old.main).tells → Stands (D.disk outside.old.main).holds (D.disk outside.old.spare).holds (Ok found) →
-        found.stores ≡ vec_len outside.old.stores → ¬ HasRoom found (D.disk outside.old.main) → IsNotBegun result }
+        found.stores ≡ vec_len outside.old.stores → ¬ HasRoom found (D.disk outside.old.main) →
+        IsNotBegun result × Rests (D.disk outside.old.main) (D.disk outside.new.main) × (source.new ≡ source.old) × (sink.new ≡ sink.old) × (outside.new.stores ≡ outside.old.stores) }
 
     // A record is added to the log only where it has room.
     ensures in_room { AsksFor words.now task.serve → ¬ (result ≡ Status.DiskFault) → AddsInRoom (D.disk outside.old.main) (D.disk outside.new.main) }
@@ -161,7 +162,8 @@ fn serve<D: Disk, S: Source, K: Sink, A: Ambient, P: Plugin>(
         Stands (D.disk outside.old.main).holds (D.disk outside.old.spare).holds (Ok found) → found.stores ≡ vec_len outside.old.stores →
         Serves P.plugin outside.old.stores.items outside.new.stores.items (A.ambient outside.old.ambient) (A.ambient outside.new.ambient) found outside.old.moments (D.disk outside.old.main) (D.disk outside.new.main) (S.source source.old) (S.source source.new) (K.sink sink.old) (K.sink sink.new) result }
     ensures worn { (found : Cat) → IsTrue (D.disk outside.old.main).tells → Stands (D.disk outside.old.main).holds (D.disk outside.old.spare).holds (Ok found) →
-        found.stores ≡ vec_len outside.old.stores → ¬ HasRoom found (D.disk outside.old.main) → IsNotBegun result }
+        found.stores ≡ vec_len outside.old.stores → ¬ HasRoom found (D.disk outside.old.main) →
+        IsNotBegun result × Rests (D.disk outside.old.main) (D.disk outside.new.main) × (source.new ≡ source.old) × (sink.new ≡ sink.old) × (outside.new.stores ≡ outside.old.stores) }
     ensures stores { (found : Cat) → IsTrue (D.disk outside.old.main).tells →
         Stands (D.disk outside.old.main).holds (D.disk outside.old.spare).holds (Ok found) → found.stores ≢ vec_len outside.old.stores →
         RefusesStores found.stores (vec_len outside.old.stores) (K.sink sink.old) (K.sink sink.new) result × Rests (D.disk outside.old.main) (D.disk outside.new.main) × (source.new ≡ source.old) × (outside.new.stores ≡ outside.old.stores) }
@@ -213,7 +215,8 @@ fn serve_over<D: Disk, S: Source, K: Sink, A: Ambient, P: Plugin>(
     requires stores { (0 < vec_len outside.old.stores) × (vec_len outside.old.stores ≤ 16) }
     ensures serve { IsTrue (D.disk outside.old.main).tells → IsTrue (S.source source.old).tells → store.cat.stores ≡ vec_len outside.old.stores →
         Serves P.plugin outside.old.stores.items outside.new.stores.items (A.ambient outside.old.ambient) (A.ambient outside.new.ambient) store.cat outside.old.moments (D.disk outside.old.main) (D.disk outside.new.main) (S.source source.old) (S.source source.new) (K.sink sink.old) (K.sink sink.new) result }
-    ensures worn { store.cat.stores ≡ vec_len outside.old.stores → ¬ HasRoom store.cat (D.disk outside.old.main) → IsNotBegun result }
+    ensures worn { store.cat.stores ≡ vec_len outside.old.stores → ¬ HasRoom store.cat (D.disk outside.old.main) →
+        IsNotBegun result × Rests (D.disk outside.old.main) (D.disk outside.new.main) × (source.new ≡ source.old) × (sink.new ≡ sink.old) × (outside.new.stores ≡ outside.old.stores) }
     ensures stores { store.cat.stores ≢ vec_len outside.old.stores →
         RefusesStores store.cat.stores (vec_len outside.old.stores) (K.sink sink.old) (K.sink sink.new) result × (outside.new.main ≡ outside.old.main) × (source.new ≡ source.old) × (outside.new.stores ≡ outside.old.stores) }
     ensures stores_only { (had given : ℕ) → result ≡ Status.Stores had given → (had ≢ given) × (given ≡ vec_len outside.old.stores) × (had ≡ store.cat.stores) }

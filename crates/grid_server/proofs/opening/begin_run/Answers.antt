@@ -70,6 +70,7 @@ returns-in-Err-clause-begins g c =
           subst R (sym c.begin_error_of.ensures)
           (begun_in_vain store main_old main_new c.in-Err.error (of_commit c.in-Err.error (λ side at. ((λ e. (done.no_other side at).0 (ap Err e)), (λ e. (done.no_other side at).1 (ap Err e)))))
           (λ ne. rests_where g.D.Disk.disk c.args.main.now c.commit.new.main (done.unchanged c.in-Err.error refl ne).0)
+          (λ e. c.if-last.false (ap (λ (n : Numbers). n.run) (c.numbers-last.ensures ∙ ap (λ (c : Cat). c.numbers) c.tables.ensures) ∙ e)) (λ disk far. (let worn = (done.worn Log store.log.gate).1 (refl, refl, far) in cc))
           (λ what at e. (((done.worn what at).0 (ap Err e)).1, omega (arith, ((done.worn what at).0 (ap Err e)).1, ((done.worn what at).0 (ap Err e)).2))) c.requires.keeps);
       main = goes_between c.args.moments.now _ _ main_old main_new done.span;
       leaves = λ told settled. done.any_moment told settled store.cat (begun store.cat) (c.requires.keeps told) is;

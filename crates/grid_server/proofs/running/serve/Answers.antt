@@ -2,7 +2,7 @@ use Rattle.std.proofs.Common.{List, ℕ, arith, ◌≡◌, IsTrue, Err, subst, s
 use Rattle.grid_model.specs.Rows.{Cat}
 use Rattle.grid_outside.specs.declared.outside.Wear.TheVariants.{Log}
 use Rattle.grid_model.specs.declared.grid.Side.TheVariants.{Main}
-use Rattle.grid_server.proofs.RunLemmas.{one_cat, no_both, stands_for, serves_found, unread_fault, unread_memory, refuses_there, refused_at, looked_rests, rests_then, other_stores}
+use Rattle.grid_server.proofs.RunLemmas.{one_cat, no_both, stands_for, serves_found, unread_fault, unread_memory, refuses_there, refused_at, looked_rests, rests_more, rests_then, other_stores}
 use Rattle.grid_server.specs.Opening.{HasRoom}
 use Rattle.grid_server.specs.Held.{ClosesAt}
 use Rattle.grid_server.specs.Safe.{KeepWhole}
@@ -136,10 +136,20 @@ returns-in-Ok-clause-worn g c = λ found told stood stores none.
     let same : c.in-Ok.store.cat ≡ found = one_cat main_old.holds spare c.in-Ok.store.cat found (c.in-Ok.ensures.stands told spare) stood in
     let P : Cat → Type 0 = λ x. ¬ HasRoom x main_old in
     let none_held : ¬ HasRoom c.in-Ok.store.cat main_old = subst P (sym same) none in
+    let worn =
     c.serve_over.ensures.worn (ap (λ (x : Cat). x.stores) same ∙ stores)
-    (λ room. none_held (room.0, λ told place closes. room.1 (subst IsTrue (sym c.open.ensures.looks.tells) told) place (let C : List ℕ → Type 0 = λ m. ClosesAt m place in subst C (sym (c.open.ensures.looks.holds told)) closes)))
+    (λ room. none_held (room.0, λ told place closes. room.1 (subst IsTrue (sym c.open.ensures.looks.tells) told) place (let C : List ℕ → Type 0 = λ m. ClosesAt m place in subst C (sym (c.open.ensures.looks.holds told)) closes))) in
+    (worn.0, rests_more main_old main_new (g.D.Disk.disk c.serve_over.new.outside.main) (looked_rests main_old main_new c.open.ensures.looks c.open.ensures.later) worn.1, worn.2, worn.3, worn.4)
 
 pub returns-in-Err-NotACatalogue-clause-worn : goal.returns-in-Err-NotACatalogue-clause-worn
 returns-in-Err-NotACatalogue-clause-worn g c = λ found told stood.
     let spare = (g.D.Disk.disk c.args.outside.now.spare).holds in
     absurd (no_both (g.D.Disk.disk c.args.outside.now.main).holds spare found c.in-Err-NotACatalogue.side c.in-Err-NotACatalogue.at stood (c.in-Err-NotACatalogue.ensures.not_a_catalogue c.in-Err-NotACatalogue.side c.in-Err-NotACatalogue.at (ap Err c.in-Err-NotACatalogue.field-0-is) told spare))
+
+pub returns-in-Err-DiskFault-clause-worn : goal.returns-in-Err-DiskFault-clause-worn
+returns-in-Err-DiskFault-clause-worn g c = λ found told stood stores none.
+    (tt, looked_rests (g.D.Disk.disk c.args.outside.now.main) (g.D.Disk.disk c.open.new.main) c.open.ensures.looks c.open.ensures.later, refl, refl, refl)
+
+pub returns-in-Err-Memory-clause-worn : goal.returns-in-Err-Memory-clause-worn
+returns-in-Err-Memory-clause-worn g c = λ found told stood stores none.
+    (tt, looked_rests (g.D.Disk.disk c.args.outside.now.main) (g.D.Disk.disk c.open.new.main) c.open.ensures.looks c.open.ensures.later, refl, refl, refl)

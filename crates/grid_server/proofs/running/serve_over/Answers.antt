@@ -99,3 +99,31 @@ returns-in-Ok-clause-worn g c = λ stores none. absurd (none c.in-Ok.ensures.beg
 pub returns-in-Ok-clause-in_room : goal.returns-in-Ok-clause-in_room
 returns-in-Ok-clause-in_room g c not_disk =
     room_more (g.D.Disk.disk c.args.outside.now.main) (g.D.Disk.disk c.begin_run.new.main) (g.D.Disk.disk c.serve_all.new.outside.main) c.in-Ok.ensures.begins.main.tells (c.in-Ok.ensures.in_room (λ e. cc)) (c.serve_all.ensures.in_room not_disk)
+
+pub returns-in-Err-Runs-clause-worn : goal.returns-in-Err-Runs-clause-worn
+returns-in-Err-Runs-clause-worn g c = λ stores none.
+    let main_old = g.D.Disk.disk c.args.outside.now.main in
+    let main_new = g.D.Disk.disk c.begin_run.new.main in
+    let B : BeginError → Type 0 = λ e. Begun c.args.store.cat c.args.outside.now.moments main_old main_new (Err e) in
+    (tt, (subst B c.in-Err-Runs.field-0-is c.in-Err-Runs.ensures.begins).ends.0, refl, refl, refl)
+
+pub returns-in-Err-Log-clause-worn : goal.returns-in-Err-Log-clause-worn
+returns-in-Err-Log-clause-worn g c = λ stores none.
+    let main_old = g.D.Disk.disk c.args.outside.now.main in
+    let main_new = g.D.Disk.disk c.begin_run.new.main in
+    let B : BeginError → Type 0 = λ e. Begun c.args.store.cat c.args.outside.now.moments main_old main_new (Err e) in
+    (tt, (subst B c.in-Err-Log.field-0-is c.in-Err-Log.ensures.begins).ends.0, refl, refl, refl)
+
+pub returns-in-Err-Memory-clause-worn : goal.returns-in-Err-Memory-clause-worn
+returns-in-Err-Memory-clause-worn g c = λ stores none.
+    let main_old = g.D.Disk.disk c.args.outside.now.main in
+    let main_new = g.D.Disk.disk c.begin_run.new.main in
+    let B : BeginError → Type 0 = λ e. Begun c.args.store.cat c.args.outside.now.moments main_old main_new (Err e) in
+    (tt, (subst B c.in-Err-Memory.field-0-is c.in-Err-Memory.ensures.begins).ends, refl, refl, refl)
+
+pub returns-in-Err-Disk-clause-worn : goal.returns-in-Err-Disk-clause-worn
+returns-in-Err-Disk-clause-worn g c = λ stores none.
+    let main_old = g.D.Disk.disk c.args.outside.now.main in
+    let main_new = g.D.Disk.disk c.begin_run.new.main in
+    let B : BeginError → Type 0 = λ e. Begun c.args.store.cat c.args.outside.now.moments main_old main_new (Err e) in
+    absurd (none (subst B c.in-Err-Disk.field-0-is c.in-Err-Disk.ensures.begins).ends)
