@@ -29,6 +29,7 @@ use Rattle.grid_server.specs.declared.server.Server.{Server}
 use Rattle.grid_server.specs.declared.server.Stop.{Stop}
 use Rattle.grid_server.specs.declared.server.Stop.TheVariants as stop
 use Rattle.grid_server.proofs.DrawingLemmas.{draws_untold}
+use Rattle.grid_server.proofs.WearingLemmas.{keeps_self}
 use Rattle.grid_server.proofs.KeepingLemmas.{held_stands, closes_at, goes_nowhere, goes_act, rests_same, like_self, like_first, like_both, quiet_rest}
 use Rattle.grid_outside.specs.Files.{StoreState}
 use Rattle.grid_server.specs.Causes.{AreCaused}
@@ -48,6 +49,7 @@ module _ (old : Server) (d : Done) (n from : ℕ) (main_old main_new : DiskState
           run = refl;
           last = sym (ap (λ b. last_of b n old.store.cat.numbers.last) unchanged);
           next_vault = omega arith;
+          keeps = keeps_self old.store.cat;
           pending = refl;
           same = λ unchanged. refl;
         };
@@ -155,6 +157,7 @@ module _ {B : Type 0} (plugin : B → StoreState) (stores_old stores_new : List 
         stores = c.follows.stores;
         run = c.follows.run;
         last = c.follows.last ∙ ap (λ b. last_of b n old.store.cat.numbers.last) unchanged;
+        keeps = c.follows.keeps;
         pending = c.follows.pending;
       } in
       not_begun refl (record {

@@ -15,6 +15,8 @@ use Rattle.grid_model.specs.declared.refusal.Refusal.{Refusal}
 use Rattle.grid_journal.specs.Stands.{StandsFor}
 use Rattle.grid_server.specs.Held.{IsLike}
 use Rattle.grid_server.specs.Keeping.{Follows, last_of}
+use Rattle.grid_server.specs.Wearing.{KeepsNumbers}
+use Rattle.grid_server.proofs.WearingLemmas.{keeps_then}
 use Rattle.grid_server.specs.Answering.{OneOf, not_kept, kept}
 use Rattle.grid_server.specs.Serving.{begins, last_change, Shows, IsCut, AllButOne, IsBefore, IsAfter, OneImage}
 use Rattle.grid_server.proofs.RequestLemmas.{asks_held}
@@ -176,14 +178,15 @@ all_but_one old done d new shown = record { whole = shown.whole; shows = shown.s
 -- ---- images
 
 -- main and the sink hold these, and so do their images
-pub image_of : (found : Cat) (done : List Done) (old holds : Text) (c : Cat) (whole : ℕ) (main sink : Text) → main ≡ holds → StandsFor holds c → sink ≡ old ++ replies 1 done → IsBefore found c (length done) ⊎ IsAfter found done c (length done) → c.pending ≡ found.pending
+pub image_of : (found : Cat) (done : List Done) (old holds : Text) (c : Cat) (whole : ℕ) (main sink : Text) → main ≡ holds → StandsFor holds c → sink ≡ old ++ replies 1 done → IsBefore found c (length done) ⊎ IsAfter found done c (length done) → KeepsNumbers found c → c.pending ≡ found.pending
     → OneImage found done old main sink
-image_of found done old holds c whole main sink main_is stood sink_is reached pending = record {
+image_of found done old holds c whole main sink main_is stood sink_is reached keeps pending = record {
   cat = c;
   stands = (let P : Text → Type 0 = λ m. StandsFor m c in subst P (sym main_is) stood);
   whole = length done;
   shows = shows_whole old done sink sink_is;
   reached = reached;
+  keeps = keeps;
   pending = pending;
 }
 
@@ -194,6 +197,7 @@ image_more found done d old main sink image = record {
   whole = image.whole;
   shows = shows_more old done d image.whole sink image.shows;
   reached = by image.reached;
+  keeps = image.keeps;
   pending = image.pending;
 }
   where
@@ -207,23 +211,23 @@ image_more found done d old main sink image = record {
     })
 
 -- main has a catalogue that differs in nothing that is seen, and nothing more is shown
-pub like_image : (found : Cat) (done : List Done) (old main sink : Text) (c d : Cat) → c.numbers.run ≡ found.numbers.run + 1 → c.numbers.last ≤ length done → c.pending ≡ found.pending
+pub like_image : (found : Cat) (done : List Done) (old main sink : Text) (c d : Cat) → c.numbers.run ≡ found.numbers.run + 1 → c.numbers.last ≤ length done → KeepsNumbers found c → c.pending ≡ found.pending
     → grid_of c ≡ (state_after (begins (grid_of found)) done (length done)).grid → IsLike c d → StandsFor main d → sink ≡ old ++ replies 1 done → OneImage found done old main sink
-like_image found done old main sink c d run last pending grid like stood sink_is =
+like_image found done old main sink c d run last keeps pending grid like stood sink_is =
     image_of found done old main d (length done) main sink refl stood sink_is (inr (record {
       run = like.run ∙ run;
       within = omega (arith, last, like.last);
       near = omega (arith, last, like.last);
       grid = like.grid ∙ grid ∙ ap (λ (k : ℕ). (state_after (begins (grid_of found)) done k).grid) (let most : length done ≡ max (length done) d.numbers.last = omega (arith, last, like.last) in most);
-    })) (like.pending ∙ pending)
+    })) (keeps_then found c d keeps like.keeps) (like.pending ∙ pending)
 
 -- While a request is answered: nothing is seen to be changed and nothing of its reply is shown, or main has the catalogue
 -- after it.
 pub cut_or_whole : (found : Cat) (done : List Done) (d : Done) (old before main sink : Text) (c after : Cat) (n : ℕ) → n ≡ length done + 1 → before ≡ old ++ replies 1 done → c.numbers.run ≡ found.numbers.run + 1 → c.numbers.last ≤ length done
-    → c.pending ≡ found.pending → grid_of c ≡ (state_after (begins (grid_of found)) done (length done)).grid → {given : ℕ} → Follows c d n given after → OneOf c after (reply n d.answer) before main sink → OneImage found (done ++ d ∷ []) old main sink
-cut_or_whole found done d old before main sink c after n n_is before_is run last pending grid follows (not_kept other like stood sink_is) =
-    image_more found done d old main sink (like_image found done old main sink c other run last pending grid like stood (sink_is ∙ before_is))
-cut_or_whole found done d old before main sink c after n n_is before_is run last pending grid follows (kept stood adds) =
+    → KeepsNumbers found c → c.pending ≡ found.pending → grid_of c ≡ (state_after (begins (grid_of found)) done (length done)).grid → {given : ℕ} → Follows c d n given after → OneOf c after (reply n d.answer) before main sink → OneImage found (done ++ d ∷ []) old main sink
+cut_or_whole found done d old before main sink c after n n_is before_is run last keeps pending grid follows (not_kept other like stood sink_is) =
+    image_more found done d old main sink (like_image found done old main sink c other run last keeps pending grid like stood (sink_is ∙ before_is))
+cut_or_whole found done d old before main sink c after n n_is before_is run last keeps pending grid follows (kept stood adds) =
     let shown = shows_part old before done d n sink n_is before_is adds in
     record {
       cat = after;
@@ -236,6 +240,7 @@ cut_or_whole found done d old before main sink c after n n_is before_is run last
         near = (place shown.whole shown.whole_is d.changed refl).2;
         grid = (place shown.whole shown.whole_is d.changed refl).1;
       });
+      keeps = keeps_then found c after keeps follows.keeps;
       pending = follows.pending ∙ pending;
     }
   where

@@ -19,6 +19,7 @@ use Rattle.grid_journal.proofs.DeltaLemmas.{apply_all_after}
 use Rattle.grid_journal.specs.declared.error.JournalError.{JournalError}
 use Rattle.grid_journal.specs.declared.error.JournalError.TheVariants as journal
 use Rattle.grid_server.specs.Held.{ClosesAt, IsLike, IsHeld}
+use Rattle.grid_server.proofs.WearingLemmas.{keeps_self, keeps_then}
 use Rattle.grid_server.specs.Stopping.{IsOfCommit, stop_of}
 use Rattle.grid_server.specs.Keeping.{Goes, Rests, CommitEnds, Quiet, KeptOrNot, not_kept, kept}
 use Rattle.grid_server.specs.declared.server.Server.{Server}
@@ -81,7 +82,7 @@ pub made_more : (c d : Cat) (deltas : List Delta) → IsMade c → apply_all c d
 made_more c d deltas made e = (made.0 ++ deltas, apply_all_after made.0 deltas empty_cat c made.1 ∙ e)
 
 pub like_self : (c : Cat) → IsLike c c
-like_self c = record { grid = refl; stores = refl; run = refl; last = refl; pending = refl }
+like_self c = record { grid = refl; stores = refl; run = refl; last = refl; keeps = keeps_self c; pending = refl }
 
 pub like_then : (a b c : Cat) → IsLike a b → IsLike b c → IsLike a c
 like_then a b c first then = record {
@@ -89,6 +90,7 @@ like_then a b c first then = record {
   stores = then.stores ∙ first.stores;
   run = then.run ∙ first.run;
   last = then.last ∙ first.last;
+  keeps = keeps_then a b c first.keeps then.keeps;
   pending = then.pending ∙ first.pending;
 }
 

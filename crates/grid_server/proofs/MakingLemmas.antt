@@ -30,6 +30,7 @@ use Rattle.grid_server.specs.declared.server.Stop.{Stop}
 use Rattle.grid_server.specs.declared.server.Stop.TheVariants as stop
 use Rattle.grid_server.proofs.OpenedLemmas.{paths_made, vault_made}
 use Rattle.grid_server.proofs.DecidingLemmas.{sound_of}
+use Rattle.grid_server.proofs.WearingLemmas.{keeps_rows}
 use Rattle.grid_server.proofs.KeepingLemmas.{held_stands, goes_nowhere, like_self, quiet_rest, rests_same}
 use Rattle.grid_server.proofs.CarryingLemmas.{carries_commit}
 
@@ -73,7 +74,7 @@ module _ (old : Server) (m : IsMade old.store.cat) (row : CollectionRow) (p : Pa
       ∙ ap (λ (q : Path). record (grid_of c) { collections = put (grid_of c).collections q row.inherit }) path ∙ ap (λ b. record (grid_of c) { collections = put (grid_of c).collections p b }) new.plain
 
   follows : Follows c (made (state_of old) p) n 0 grown
-  follows = record { grid = grid_grown; stores = refl; run = refl; last = refl; next_vault = omega arith; pending = refl; same = λ no. absurd (cc) }
+  follows = record { grid = grid_grown; stores = refl; run = refl; last = refl; next_vault = omega arith; keeps = keeps_rows c one.collections last (omega arith); pending = refl; same = λ no. absurd (cc) }
 
   module _ (from : ℕ) (main_old : DiskState) (held : IsHeld main_old old) (main_last : main_old.last ≤ from) where
     pub carries_grown : (main_new : DiskState) (result : Result ⊤ Stop) (mid : Server) → IsCommitted old grown from main_old main_new result mid → Carries old (made (state_of old) p) n 0 from main_old main_new result mid

@@ -25,6 +25,8 @@ use Rattle.frame_log.proofs.Reading.{reads_as_log}
 use Rattle.grid_server.specs.Keeping.{Rests}
 use Rattle.grid_server.specs.Opening.{begun, BeginEnds, HasRoom}
 use Rattle.grid_server.specs.Stopping.{IsOfCommit, begin_error_of}
+use Rattle.grid_server.specs.Wearing.{KeepsNumbers}
+use Rattle.grid_server.proofs.WearingLemmas.{keeps_rows}
 use Rattle.grid_server.proofs.OpenedLemmas.{vault_made}
 use Rattle.grid_server.proofs.KeepingLemmas.{closes_at, made_more}
 
@@ -38,6 +40,9 @@ applied_run c m =
 
 pub grid_begun : (c : Cat) → IsMade c → grid_of (begun c) ≡ grid_of c
 grid_begun c m = grid-unseen c (begun c) (delta.Numbers (next_run c)) refl (applied_run c m)
+
+pub keeps_run : (c : Cat) → KeepsNumbers c (begun c)
+keeps_run c = keeps_rows c c.collections (next_run c) (omega arith)
 
 -- the deltas lead to the catalogue of the next run
 pub is_begun : (c : Cat) → IsMade c → (tables : Cat) → tables ≡ c → (n : Numbers) → n ≡ tables.numbers → (deltas : List Delta)

@@ -31,6 +31,8 @@ use Rattle.grid_server.specs.Serving.{begins, Shows, OneImage, IsKept, Ends, Ser
 use Rattle.grid_server.specs.Running.{Refuses, RefusesStores, Inits, Says, IsComplete}
 use Rattle.grid_server.specs.Tasks.{AsksFor, to_serve, to_init, init, serve}
 use Rattle.grid_server.proofs.DrawingLemmas.{draws_none}
+use Rattle.grid_server.proofs.WearingLemmas.{keeps_self}
+use Rattle.grid_server.proofs.OpeningLemmas.{keeps_run}
 use Rattle.grid_server.proofs.DoneLemmas.{shows_all, image_of}
 use Rattle.grid_outside.specs.Files.{StoreState}
 use Rattle.grid_server.proofs.StoresLemmas.{stores_same}
@@ -74,6 +76,7 @@ early found done old main sink grid (inl stood) same = record {
   whole = 0;
   shows = shows_none old done sink same;
   reached = inl (record { run = refl; grid = refl; none_shown = refl });
+  keeps = keeps_self found;
   pending = refl;
 }
 early found done old main sink grid (inr stood) same = record {
@@ -82,6 +85,19 @@ early found done old main sink grid (inr stood) same = record {
   whole = 0;
   shows = shows_none old done sink same;
   reached = inr (record { run = refl; within = omega arith; near = omega arith; grid = grid ∙ ap (λ (s : State). s.grid) (sym (state_after-none (begins (grid_of found)) done)) });
+  keeps = keeps_run found;
+  pending = refl;
+}
+
+-- nothing was done, and main stands for what it stood for
+still_kept : (found : Cat) (old new : Text) → new ≡ old → StandsFor old found → IsKept new found [] (begins (grid_of found)) found.numbers.next_vault
+still_kept found old new same stood = record {
+  cat = found;
+  stands = (let P : Text → Type 0 = λ m. StandsFor m found in subst P (sym same) stood);
+  grid = refl;
+  run = inl (refl, refl);
+  next_vault = omega arith;
+  keeps = keeps_self found;
   pending = refl;
 }
 
@@ -138,12 +154,12 @@ serves_unbegun plugin stores ambient found since main_old main_new source sink e
     nothing_shown : IsTrue sink.tells → sink.holds ≡ sink.holds ++ []
     nothing_shown sink_told = sym (append-nil sink.holds)
 
-    kept : Rests main_old main_new → IsKept main_new.holds (grid_of found)
-    kept rests = record { cat = found; stands = (let P : Text → Type 0 = λ m. StandsFor m found in subst P (sym (rests.stays told)) stood); grid = refl }
+    kept : Rests main_old main_new → IsKept main_new.holds found [] (begins (grid_of found)) found.numbers.next_vault
+    kept rests = still_kept found main_old.holds main_new.holds (rests.stays told) stood
 
     by : (e : BeginError) → BeginEnds found main_old main_new (Err e) → Ends found [] [] (begins (grid_of found)) found.numbers.next_vault main_new source source sink sink (unbegun e)
     by (opening.Runs place) w = ((refl, w.1, w.2), nothing_shown, kept w.0)
-    by (opening.Log place) w = ((w.2, (let P : Text → Type 0 = λ m. ClosesAt m place in subst P (sym (w.0.stays told)) (w.3 told)), inl (refl, w.1, (kept w.0).stands)), nothing_shown, kept w.0)
+    by (opening.Log place) w = ((w.2, (let P : Text → Type 0 = λ m. ClosesAt m place in subst P (sym (w.0.stays told)) (w.3 told)), inl (refl, w.1, (let P : Text → Type 0 = λ m. StandsFor m found in subst P (sym (w.0.stays told)) stood))), nothing_shown, kept w.0)
     by opening.Disk w = tt
     by opening.Memory w = kept w
 
@@ -192,14 +208,14 @@ module _ {B : Type 0} (plugin : B → StoreState) (stores : List B) (ambient : A
     ends = ends;
     images = λ sink_told main_settled sink_settled t main_image sink_image late main_left sink_left.
         image_of found [] sink.holds main_old.holds found 0 main_image sink_image (main_settled t main_image (omega (arith, main_last, late)) ((looks.left t main_image).0 main_left)) stood
-        (sink_settled t sink_image (omega (arith, sink_last, late)) sink_left ∙ sym (append-nil sink.holds)) (inl (record { run = refl; grid = refl; none_shown = refl })) refl;
+        (sink_settled t sink_image (omega (arith, sink_last, late)) sink_left ∙ sym (append-nil sink.holds)) (inl (record { run = refl; grid = refl; none_shown = refl })) (keeps_self found) refl;
   }
 
   pub unread_fault : Serves plugin stores stores ambient ambient found since main_old main_new source source sink sink status.DiskFault
   unread_fault = unread status.DiskFault tt
 
   pub unread_memory : Serves plugin stores stores ambient ambient found since main_old main_new source source sink sink status.Memory
-  unread_memory = unread status.Memory (record { cat = found; stands = (let P : Text → Type 0 = λ m. StandsFor m found in subst P (sym (looks.holds told)) stood); grid = refl })
+  unread_memory = unread status.Memory (still_kept found main_old.holds main_new.holds (looks.holds told) stood)
 
 -- ---- where a catalogue is refused
 

@@ -32,7 +32,7 @@ use Rattle.grid_server.specs.Held.{state_of, IsHeld}
 use Rattle.grid_server.specs.Keeping.{Rests, Quiet, last_of}
 use Rattle.grid_outside.specs.declared.outside.Wear.TheVariants as wear
 use Rattle.grid_server.specs.Reading.{ReadsLine}
-use Rattle.grid_server.specs.Wearing.{AsksToPut, HasNumber, numbers_given, GivesNumbers, none as none_given}
+use Rattle.grid_server.specs.Wearing.{AsksToPut, HasNumber, numbers_given, GivesNumbers, none as none_given, KeepsNumbers}
 use Rattle.grid_server.specs.Answering.{Works, Answers, worked, not_begun, log_worn, vaults_worn}
 use Rattle.grid_server.specs.Turning.{Gets, Turns, answered, stopped, idle, status_of}
 use Rattle.grid_server.specs.Opening.{begun}
@@ -40,7 +40,8 @@ use Rattle.grid_server.specs.Drawing.{marks_of, DrawsIfTold}
 use Rattle.grid_server.specs.Serving.{begins, Begins, OneImage, IsKept, IsLeft, last_change, ShowsAll, ReadAll, ReadPart, ReadMost, Ends, Serves}
 use Rattle.grid_server.proofs.ReadLemmas.{HasRead, begins_with, Went, went, Last, last, skipped, blank_end, long_line, long_body, broken_line, broken_body}
 use Rattle.grid_server.proofs.DrawingLemmas.{draws_none, draws_still, draws_more}
-use Rattle.grid_server.proofs.WearingLemmas.{GivesNumbers-push}
+use Rattle.grid_server.proofs.WearingLemmas.{GivesNumbers-push, keeps_then}
+use Rattle.grid_server.proofs.OpeningLemmas.{keeps_run}
 use Rattle.grid_server.proofs.DoneLemmas.{last_change-push, Did, comes_less, After-push, did_held, did_less, replies-push, state_after-all, shows_part, shows_all, image_more, image_of, like_image, all_but_one, cut_or_whole}
 use Rattle.grid_server.proofs.CausesLemmas.{caused_none, caused_on, caused_more}
 use Rattle.grid_server.proofs.StoresLemmas.{stores_same}
@@ -66,6 +67,7 @@ pub record Served {B : Type 0} (plugin : B → StoreState) (stores_old stores_no
   pub run : service.server.store.cat.numbers.run ≡ found.numbers.run + 1
   pub last : service.server.store.cat.numbers.last ≤ length done
   pub last_is : service.server.store.cat.numbers.last ≡ last_change 1 0 done
+  pub keeps : KeepsNumbers found service.server.store.cat
   pub pending : service.server.store.cat.pending ≡ found.pending
   pub caused : AreCaused plugin (marks_of done) stores_old stores_now
   pub drawn : DrawsIfTold (marks_of done) ambient_old ambient_now
@@ -97,6 +99,7 @@ served_none plugin stores ambient found since main from sink service told main_l
       run = ap (λ (c : Cat). c.numbers.run) cat;
       last = omega (arith, ap (λ (c : Cat). c.numbers.last) cat);
       last_is = ap (λ (c : Cat). c.numbers.last) cat;
+      keeps = (let K : Cat → Type 0 = λ c. KeepsNumbers found c in subst K (sym cat) (keeps_run found));
       pending = ap (λ (c : Cat). c.pending) cat;
       caused = caused_none plugin 0 [] stores stores (λ slot. refl) tt (stores_same plugin 0 stores);
       drawn = draws_none ambient;
@@ -106,8 +109,12 @@ served_none plugin stores ambient found since main from sink service told main_l
       held = held;
       images = λ sink_told main_settled sink_settled t main_image sink_image late main_left sink_left.
           image_of found [] sink.holds main.holds (begun found) 0 main_image sink_image (main_settled t main_image (omega (arith, main_last, late)) main_left) stood
-          (sink_settled t sink_image (omega (arith, sink_last, late)) sink_left ∙ sym (append-nil sink.holds)) (inr (record { run = refl; within = omega arith; near = omega arith; grid = grid })) refl;
+          (sink_settled t sink_image (omega (arith, sink_last, late)) sink_left ∙ sym (append-nil sink.holds)) (inr (record { run = refl; within = omega arith; near = omega arith; grid = grid })) (keeps_run found) refl;
     }
+
+-- what is left is kept
+kept_left : {main : Text} {found : Cat} {done : List Done} {end : State} {number : ℕ} → IsLeft main found done end number → IsKept main found done end number
+kept_left left = record { cat = left.cat; stands = left.stands; grid = left.grid; run = inr (left.run, left.last); next_vault = omega (arith, left.next_vault); keeps = left.keeps; pending = left.pending }
 
 stop_is : (s t : Stop) → (let r : Result ⊤ Stop = Err s in r ≡ Err t) → s ≡ t
 stop_is s t is = cc
@@ -126,8 +133,16 @@ module _ {B : Type 0} (plugin : B → StoreState) (stores_old stores_mid stores_
   same_shown : (sink_new : SinkState) → Rests sink_mid sink_new → ShowsAll served.done sink_old sink_new
   same_shown sink_new rests told = rests.stays (sink_told told) ∙ served.shown told
 
-  same_kept : (main_new : DiskState) → Quiet old.server.store.cat since_now main_mid main_new → IsKept main_new.holds served.end.grid
-  same_kept main_new q = record { cat = q.cat; stands = q.stands main_told; grid = q.like.grid ∙ ap (λ (s : State). s.grid) (sym served.state) }
+  same_kept : (main_new : DiskState) → Quiet old.server.store.cat since_now main_mid main_new → IsKept main_new.holds found served.done served.end old.server.store.cat.numbers.next_vault
+  same_kept main_new q = record {
+    cat = q.cat;
+    stands = q.stands main_told;
+    grid = q.like.grid ∙ ap (λ (s : State). s.grid) (sym served.state);
+    run = inr (q.like.run ∙ served.run, q.like.last ∙ served.last_is);
+    next_vault = q.like.keeps.rises;
+    keeps = keeps_then found old.server.store.cat q.cat served.keeps q.like.keeps;
+    pending = q.like.pending ∙ served.pending;
+  }
 
   -- main has what the requests so far left
   same_left : (main_new : DiskState) → Rests main_mid main_new → IsLeft main_new.holds found served.done served.end old.server.store.cat.numbers.next_vault
@@ -138,6 +153,7 @@ module _ {B : Type 0} (plugin : B → StoreState) (stores_old stores_mid stores_
     run = served.run;
     last = served.last_is;
     next_vault = refl;
+    keeps = served.keeps;
     pending = served.pending;
   }
 
@@ -151,7 +167,7 @@ module _ {B : Type 0} (plugin : B → StoreState) (stores_old stores_mid stores_
       by_time (inl now) =
           let l = q.leaves main_told (served.main_settled main_settled) t main now main_left in
           let shown : sink ≡ sink_old.holds ++ replies 1 served.done = served.sink_settled told sink_settled t sink (omega (arith, now, sink_last)) (sink_rests.left t sink sink_left) ∙ served.shown told in
-          like_image found served.done sink_old.holds main sink old.server.store.cat l.0 served.run served.last served.pending grid_before l.1 l.2 shown
+          like_image found served.done sink_old.holds main sink old.server.store.cat l.0 served.run served.last served.keeps served.pending grid_before l.1 l.2 shown
 
   -- a run that ends without another request
   ends_quiet : (main_new : DiskState) (to : SourceState) (sink_new : SinkState) (s : Status) → Begins from.left served.asked → Quiet old.server.store.cat since_now main_mid main_new → Rests sink_mid sink_new → DrawsIfTold [] ambient_mid ambient_new
@@ -218,7 +234,7 @@ module _ {B : Type 0} (plugin : B → StoreState) (stores_old stores_mid stores_
               (served.images told main_settled sink_settled t main sink late (works.main.earlier t main before main_left) (works.sink.earlier t sink before sink_left))
           by_time (inl now) =
               cut_or_whole found served.done works.d sink_old.holds sink_mid.holds main sink old.server.store.cat works.after (old.number + 1) (omega (arith, served.number)) (served.shown told) served.run served.last
-              served.pending grid_before works.follows
+              served.keeps served.pending grid_before works.follows
               (works.leaves main_told (sink_told told) (served.main_settled main_settled) (served.sink_settled told sink_settled) t main sink now main_left sink_left)
 
       more_shown : (IsTrue sink_mid.tells → sink_new.holds ≡ sink_mid.holds ++ reply (old.number + 1) works.d.answer) → IsTrue sink_old.tells → sink_new.holds ≡ sink_old.holds ++ replies 1 (served.done ++ works.d ∷ [])
@@ -226,11 +242,6 @@ module _ {B : Type 0} (plugin : B → StoreState) (stores_old stores_mid stores_
           let next_number : 1 + length served.done ≡ old.number + 1 = omega (arith, served.number) in
           added (sink_told told) ∙ ap (λ (t : Text). t ++ reply (old.number + 1) works.d.answer) (served.shown told) ∙ append_assoc sink_old.holds (replies 1 served.done) (reply (old.number + 1) works.d.answer)
           ∙ ap (λ (k : ℕ). sink_old.holds ++ (replies 1 served.done ++ reply k works.d.answer)) (sym next_number) ∙ ap (λ (t : Text). sink_old.holds ++ t) (sym (replies-push 1 served.done works.d))
-
-      -- main stands for the grid after it
-      kept_more : IsHeld main_new new → state_of new ≡ works.d.state → IsKept main_new.holds works.d.state.grid
-      kept_more works_held state =
-          record { cat = new.store.cat; stands = held_stands main_new new works_held (subst IsTrue (sym works.main.tells) main_told); grid = ap (λ (s : State). s.grid) state }
 
       more_last : last_of works.d.changed (old.number + 1) old.server.store.cat.numbers.last ≡ last_change 1 0 (served.done ++ works.d ∷ [])
       more_last =
@@ -246,6 +257,7 @@ module _ {B : Type 0} (plugin : B → StoreState) (stores_old stores_mid stores_
         run = ap (λ (c : Cat). c.numbers.run) cat ∙ works.follows.run ∙ served.run;
         last = ap (λ (c : Cat). c.numbers.last) cat ∙ works.follows.last ∙ more_last;
         next_vault = ap (λ (c : Cat). c.numbers.next_vault) cat ∙ works.follows.next_vault;
+        keeps = (let K : Cat → Type 0 = λ c. KeepsNumbers found c in subst K (sym cat) (keeps_then found old.server.store.cat works.after served.keeps works.follows.keeps));
         pending = ap (λ (c : Cat). c.pending) cat ∙ works.follows.pending ∙ served.pending;
       }
 
@@ -288,6 +300,7 @@ module _ {B : Type 0} (plugin : B → StoreState) (stores_old stores_mid stores_
           run = ap (λ (c : Cat). c.numbers.run) same ∙ works.follows.run ∙ served.run;
           last = omega (arith, ap (λ (c : Cat). c.numbers.last) same, works.follows.last, last_within works.d.changed, served.last, length-append served.done (works.d ∷ []));
           last_is = ap (λ (c : Cat). c.numbers.last) same ∙ works.follows.last ∙ more_last main_new sink_new (Ok tt) new.server works;
+          keeps = (let K : Cat → Type 0 = λ c. KeepsNumbers found c in subst K (sym same) (keeps_then found old.server.store.cat works.after served.keeps works.follows.keeps));
           pending = ap (λ (c : Cat). c.pending) same ∙ works.follows.pending ∙ served.pending;
           caused = caused_more plugin since since_now served.done works.d stores_old stores_mid stores_new first_went then_went served.caused works.caused;
           drawn = draws_more served.done works.d ambient_old ambient_mid ambient_new served.drawn works.drawn;
@@ -304,7 +317,7 @@ module _ {B : Type 0} (plugin : B → StoreState) (stores_old stores_mid stores_
     stops new main_new to sink_new stop.Disk first begins_more (worked w) = cut main_new sink_new (Err stop.Disk) new w to status.DiskFault begins_more (λ told. (
         let P : Text → Type 0 = λ t. AddsPart (reply (old.number + 1) w.d.answer) sink_mid.holds t in subst P (sym (w.ends told)) (adds_none (reply (old.number + 1) w.d.answer) sink_mid.holds))) tt
     stops new main_new to sink_new stop.Sink first begins_more (worked w) = cut main_new sink_new (Err stop.Sink) new w to status.SinkFault begins_more w.ends.1 (left_more main_new sink_new (Err stop.Sink) new w w.ends.0.held w.ends.0.state w.ends.0.cat)
-    stops new main_new to sink_new stop.Memory first begins_more (worked w) = cut main_new sink_new (Err stop.Memory) new w to status.Memory begins_more w.ends.1 (kept_more main_new sink_new (Err stop.Memory) new w w.ends.0.held w.ends.0.state)
+    stops new main_new to sink_new stop.Memory first begins_more (worked w) = cut main_new sink_new (Err stop.Memory) new w to status.Memory begins_more w.ends.1 (kept_left (left_more main_new sink_new (Err stop.Memory) new w w.ends.0.held w.ends.0.state w.ends.0.cat))
     stops new main_new to sink_new (stop.Worn what place) first begins_more (worked w) = absurd w.ends
     stops new main_new to sink_new s first begins_more (not_begun is q sink drawn) =
         let S : Stop → Type 0 = λ x. Serves plugin stores_old stores_new ambient_old ambient_new found since main_old main_new from to sink_old sink_new (status_of x) in
@@ -380,6 +393,7 @@ module _ {B : Type 0} (plugin : B → StoreState) (stores_old stores_mid stores_
     run = ap (λ (s : Server). s.store.cat.numbers.run) server ∙ served.run;
     last = omega (arith, ap (λ (s : Server). s.store.cat.numbers.last) server, served.last);
     last_is = ap (λ (s : Server). s.store.cat.numbers.last) server ∙ served.last_is;
+    keeps = (let K : Server → Type 0 = λ s. KeepsNumbers found s.store.cat in subst K (sym server) served.keeps);
     pending = ap (λ (s : Server). s.store.cat.pending) server ∙ served.pending;
     caused = caused_on plugin since since_now (marks_of served.done) stores_old stores_mid stores_new first_went then_went served.caused;
     drawn = draws_still (marks_of served.done) ambient_old ambient_mid ambient_new served.drawn drawn;
@@ -491,8 +505,8 @@ ends_at_once plugin stores ambient found since main from sink server told main_l
       shown = λ sink_told. shows_all sink.holds [] sink.holds (sym (append-nil sink.holds));
       caused = caused_none plugin 0 [] stores stores (λ slot. refl) tt (stores_same plugin 0 stores);
       drawn = draws_none ambient;
-      ends = record { cat = begun found; stands = stood; grid = grid };
+      ends = record { cat = begun found; stands = stood; grid = grid; run = inr (refl, refl); next_vault = omega arith; keeps = keeps_run found; pending = refl };
       images = λ sink_told main_settled sink_settled t main_image sink_image late main_left sink_left.
           image_of found [] sink.holds main.holds (begun found) 0 main_image sink_image (main_settled t main_image (omega (arith, main_last, late)) main_left) stood
-          (sink_settled t sink_image (omega (arith, sink_last, late)) sink_left ∙ sym (append-nil sink.holds)) (inr (record { run = refl; within = omega arith; near = omega arith; grid = grid })) refl;
+          (sink_settled t sink_image (omega (arith, sink_last, late)) sink_left ∙ sym (append-nil sink.holds)) (inr (record { run = refl; within = omega arith; near = omega arith; grid = grid })) (keeps_run found) refl;
     }

@@ -34,7 +34,7 @@ use Rattle.tables_laws.proofs.Places.{place_is}
 use Rattle.tables_laws.proofs.Standing.{ReplicaStands, ResourceStands}
 use Rattle.tables_laws.proofs.Sound.{IsSound}
 use Rattle.tables_laws.proofs.StoredFiles.{grid-stored_file}
-use Rattle.grid_server.specs.Held.{state_of, IsLike}
+use Rattle.grid_server.specs.Held.{state_of}
 use Rattle.grid_server.specs.declared.server.Server.{Server}
 use Rattle.grid_server.specs.Deciding.{IsStoring, slot_of}
 use Rattle.grid_model.specs.Deltas.{text, digest, is_byte}
@@ -171,14 +171,8 @@ module _ (c : Cat) (m : IsMade c) (st : Storing) (p : Path) (leaf body : Text) (
   pub applied_begun : apply_all c (begun_deltas c st.slot) ≡ Ok begun
   applied_begun = ap (then_all (delta.Orphan orphan ∷ [])) applied_numbers ∙ ap (then_all []) applied_orphan
 
-  pub begun_like : IsLike c begun
-  begun_like = record {
-    grid = grid-unseen counted begun (delta.Orphan orphan) refl applied_orphan ∙ grid-unseen c counted (delta.Numbers drawn) refl applied_numbers;
-    stores = refl;
-    run = refl;
-    last = refl;
-    pending = refl;
-  }
+  pub grid_begun : grid_of begun ≡ grid_of c
+  grid_begun = grid-unseen counted begun (delta.Orphan orphan) refl applied_orphan ∙ grid-unseen c counted (delta.Numbers drawn) refl applied_numbers
 
   made_begun : IsMade begun
   made_begun = made_more c begun (begun_deltas c st.slot) m applied_begun
@@ -270,7 +264,7 @@ module _ (c : Cat) (m : IsMade c) (st : Storing) (p : Path) (leaf body : Text) (
     pub grid_kept : grid_of kept ≡ with_object (grid_of c) p (object_with leaf st.body time)
     grid_kept =
         grid-stored_file begun kept v object_row replica_row last (sound_of begun made_begun) ok.fresh refl applied_stored
-        ∙ ap (λ (g : Grid). with_object g (collection_place (collection_path begun) st.collection ++ st.name ∷ []) (object_with (resource_name begun st.leaf) st.body time)) begun_like.grid
+        ∙ ap (λ (g : Grid). with_object g (collection_place (collection_path begun) st.collection ++ st.name ∷ []) (object_with (resource_name begun st.leaf) st.body time)) grid_begun
         ∙ ap (λ (q : Path). with_object (grid_of c) q (object_with (resource_name begun st.leaf) st.body time)) place_is_path
         ∙ ap (λ (l : Text). with_object (grid_of c) p (object_with l st.body time)) leaf_name
 

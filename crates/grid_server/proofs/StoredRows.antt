@@ -17,6 +17,8 @@ use Rattle.tables_laws.proofs.Numbered.{same_number, put_found, put_other}
 use Rattle.tables_laws.proofs.Standing.{ReplicaStands}
 use Rattle.tables_laws.proofs.Replicas.{same_object}
 use Rattle.grid_model.specs.Applying.{IsMade}
+use Rattle.grid_server.specs.Held.{IsLike}
+use Rattle.grid_server.specs.Wearing.{KeepsNumbers}
 use Rattle.grid_server.specs.Deciding.{IsStoring}
 use Rattle.grid_server.specs.declared.decision.Storing.{Storing}
 use Rattle.grid_server.proofs.StoredLemmas as rows
@@ -105,6 +107,17 @@ module _ (c : Cat) (m : IsMade c) (st : Storing) (p : Path) (leaf body : Text) (
     | inr was ↦ inr (omega (arith, low_orphan o was, n.1), (contains_of c.orphans o was, n.1, n.2))
   ]
 
+  -- no number was given again
+  pub keeps_begun : KeepsNumbers c begun
+  keeps_begun = record {
+    rises = omega arith;
+    names = λ slot name row low its. elim (begun_names slot name row its) [ inl new ↦ absurd (omega (arith, low, new.1)) | inr old ↦ old.1 ];
+  }
+
+  -- nothing is seen of it
+  pub begun_like : IsLike c begun
+  begun_like = record { grid = rows.grid_begun c m st p leaf body ok; stores = refl; run = refl; last = refl; keeps = keeps_begun; pending = refl }
+
   -- the file of the orphan is named by it alone
   pub orphan_named : IsNamed begun st.slot v
   orphan_named = record {
@@ -183,6 +196,13 @@ module _ (c : Cat) (m : IsMade c) (st : Storing) (p : Path) (leaf body : Text) (
           | inl is ↦ absurd (not_it o.vault v (ap (λ (o : OrphanRow). o.vault) (sym is)) old.1)
           | inr was ↦ inr (omega (arith, low_orphan o was, its.1), (contains_of begun.orphans o old.0, its.1, its.2))
         ]
+
+    -- no number was given again
+    pub keeps_kept : KeepsNumbers c kept
+    keeps_kept = record {
+      rises = omega arith;
+      names = λ slot name row low its. elim (kept_names slot name row its) [ inl new ↦ absurd (omega (arith, low, new.1)) | inr old ↦ keeps_begun.names slot name row low old.1 ];
+    }
 
     -- and what a row named below it still names
     still_names : (slot name : ℕ) (x : Naming) → name < v → Names begun slot name x → Names kept slot name x

@@ -27,6 +27,7 @@ use Rattle.grid_server.specs.declared.server.Stop.{Stop}
 use Rattle.grid_server.specs.declared.server.Stop.TheVariants as stop
 use Rattle.grid_server.proofs.KeepingLemmas.{held_stands, closes_at, goes_nowhere, goes_more, goes_between, goes_since, rests_same, like_self, like_then, like_first, quiet_rest, quiet_more}
 use Rattle.grid_server.proofs.StoredLemmas as rows
+use Rattle.grid_server.proofs.StoredRows.{begun_like, keeps_kept}
 
 -- an error of one result, as that of another
 pub err_as : {T U : Type 0} (s e : Stop) → IsErrOf {T = T} {E = Stop} (Err s) e → IsErrOf {T = U} {E = Stop} (Err s) e
@@ -70,7 +71,7 @@ module _ (old : Server) (st : Storing) (p : Path) (leaf body : Text) (ok : IsSto
   then = rows.kept c m st p leaf body ok time n
 
   like : IsLike c first
-  like = rows.begun_like c m st p leaf body ok
+  like = begun_like c m st p leaf body ok
 
   abbrev good : ℕ → Done
   good word = stored (state_of old) p leaf st.body word time
@@ -82,6 +83,7 @@ module _ (old : Server) (st : Storing) (p : Path) (leaf body : Text) (ok : IsSto
     run = refl;
     last = refl;
     next_vault = refl;
+    keeps = keeps_kept c m st p leaf body ok time n;
     pending = refl;
     same = λ no. absurd (cc);
   }
@@ -154,7 +156,7 @@ module _ (old : Server) (st : Storing) (p : Path) (leaf body : Text) (ok : IsSto
       pub store_failed : Carries old (failed (state_of old) st.slot []) n 1 from main_old main_mid (Ok tt) mid
       store_failed = record {
         after = first;
-        follows = record { grid = like.grid; stores = like.stores; run = like.run; last = like.last; next_vault = refl; pending = like.pending; same = λ no. like.grid };
+        follows = record { grid = like.grid; stores = like.stores; run = like.run; last = like.last; next_vault = refl; keeps = like.keeps; pending = like.pending; same = λ no. like.grid };
         ends = record {
           held = committed.ends.0;
           state =

@@ -10,6 +10,9 @@ use Rattle.grid_model.specs.Names.{Text}
 use Rattle.grid_model.specs.Inputs.{Asked}
 use Rattle.grid_model.specs.Requests.{Asks}
 use Rattle.grid_model.specs.Rows.{Cat}
+use Rattle.grid_model.specs.Whole.{Naming, by_replica, by_orphan, Names}
+use Rattle.grid_model.specs.declared.deltas.CollectionRow.{CollectionRow}
+use Rattle.grid_model.specs.declared.deltas.Numbers.{Numbers}
 use Rattle.grid_model.specs.Commands.{State, Done, act}
 use Rattle.grid_model.specs.declared.deltas.Delta.{Delta}
 use Rattle.grid_model.specs.declared.requests.Verb.{Verb}
@@ -17,7 +20,7 @@ use Rattle.grid_model.specs.declared.refusal.Refusal.{Refusal}
 use Rattle.grid_journal.specs.Journal.{Journal, Keeps}
 use Rattle.grid_journal.specs.Store.{Commits}
 use Rattle.grid_server.specs.Keeping.{Rests}
-use Rattle.grid_server.specs.Wearing.{HasNumber, numbers_given, GivesNumbers, none, next, AddsTo, AddsInRoom}
+use Rattle.grid_server.specs.Wearing.{HasNumber, numbers_given, GivesNumbers, none, next, KeepsNumbers, AddsTo, AddsInRoom}
 
 -- ---- numbers of vault files
 
@@ -25,6 +28,23 @@ pub GivesNumbers-push : {s end : State} {number last : ℕ} {all : List Asked} {
     → GivesNumbers s number all done end last → GivesNumbers s number (all ++ request ∷ []) (done ++ d ∷ []) d.state (last + numbers_given (act end asked))
 GivesNumbers-push request d asked asks has none = next asked asks has none
 GivesNumbers-push request d asked asks has (next first its one more) = next first its one (GivesNumbers-push request d asked asks has more)
+
+pub keeps_self : (c : Cat) → KeepsNumbers c c
+keeps_self c = record { rises = omega arith; names = λ slot name row low its. its }
+
+pub keeps_then : (a b c : Cat) → KeepsNumbers a b → KeepsNumbers b c → KeepsNumbers a c
+keeps_then a b c first then = record {
+  rises = omega (arith, first.rises, then.rises);
+  names = λ slot name row low its. first.names slot name row low (then.names slot name row (omega (arith, low, first.rises)) its);
+}
+
+-- rows of collections and the numbers name no file
+pub keeps_rows : (c : Cat) (collections : List CollectionRow) (numbers : Numbers) → c.numbers.next_vault ≤ numbers.next_vault → KeepsNumbers c (record c { collections = collections; numbers = numbers })
+keeps_rows c collections numbers rises = record { rises = rises; names = λ slot name row low its. as_before slot name row its }
+  where
+    as_before : (slot name : ℕ) (row : Naming) → Names (record c { collections = collections; numbers = numbers }) slot name row → Names c slot name row
+    as_before slot name (by_replica r) its = its
+    as_before slot name (by_orphan o) its = its
 
 -- ---- room behind the log
 

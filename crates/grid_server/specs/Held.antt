@@ -9,6 +9,7 @@ use Rattle.grid_model.specs.Applying.{IsMade}
 use Rattle.grid_model.specs.Commands.{State}
 use Rattle.grid_journal.specs.Journal.{Keeps}
 use Rattle.grid_server.specs.declared.server.Server.{Server}
+use Rattle.grid_server.specs.Wearing.{KeepsNumbers}
 
 -- the grid of the rows in memory, and whether a user is logged in
 abbrev pub state_of : Server → State
@@ -21,12 +22,13 @@ pub record ClosesAt (main : Text) (place : ℕ) : Type 0 where
   pub place_is : place ≡ 16 + length (frames records)
 
 -- The catalogue is of the same run, stands for the same grid after the same commands, and has the same command that is not
--- done. So orphans and the next vault number may be others, and so may ids and the text of the rules.
+-- done. So orphans may be others, the next vault number may have risen, and ids and the text of the rules may be others.
 pub record IsLike (before c : Cat) : Type 0 where
   pub grid : grid_of c ≡ grid_of before
   pub stores : c.stores ≡ before.stores
   pub run : c.numbers.run ≡ before.numbers.run
   pub last : c.numbers.last ≡ before.numbers.last
+  pub keeps : KeepsNumbers before c
   pub pending : c.pending ≡ before.pending
 
 -- The rows in memory are those that main has, which changes made, with nothing staged.

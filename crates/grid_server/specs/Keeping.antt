@@ -11,6 +11,7 @@ use Rattle.grid_journal.specs.Stands.{StandsEither, StandsFor}
 use Rattle.grid_server.specs.declared.server.Server.{Server}
 use Rattle.grid_server.specs.declared.server.Stop.{Stop}
 use Rattle.grid_server.specs.declared.server.Stop.TheVariants.{Disk, Sink, Memory, Worn}
+use Rattle.grid_server.specs.Wearing.{KeepsNumbers}
 use Rattle.grid_server.specs.Held.{state_of, ClosesAt, IsLike, IsHeld}
 
 -- ---- devices
@@ -69,6 +70,7 @@ pub record Follows (before : Cat) (d : Done) (number given : ℕ) (after : Cat) 
   pub run : after.numbers.run ≡ before.numbers.run
   pub last : after.numbers.last ≡ last_of d.changed number before.numbers.last
   pub next_vault : after.numbers.next_vault ≡ before.numbers.next_vault + given
+  pub keeps : KeepsNumbers before after
   pub pending : after.pending ≡ before.pending
   pub same : d.changed ≡ false → grid_of after ≡ grid_of before
 

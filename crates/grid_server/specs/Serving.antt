@@ -26,7 +26,7 @@ use Rattle.grid_server.specs.Keeping.{last_of}
 use Rattle.grid_server.specs.Causes.{AreCaused}
 use Rattle.grid_server.specs.Safe.{IsKnown}
 use Rattle.grid_server.specs.Drawing.{marks_of, DrawsIfTold}
-use Rattle.grid_server.specs.Wearing.{last_vault, AsksToPut, HasNumber, GivesNumbers}
+use Rattle.grid_server.specs.Wearing.{last_vault, AsksToPut, HasNumber, GivesNumbers, KeepsNumbers}
 
 -- nobody is logged in
 abbrev pub begins : Grid → State
@@ -76,30 +76,27 @@ pub record IsAfter (found : Cat) (done : List Done) (c : Cat) (whole : ℕ) : Ty
   pub grid : grid_of c ≡ (state_after (begins (grid_of found)) done (max whole c.numbers.last)).grid
 
 -- One image of main and of the sink. Main stands for the grid after the first requests, with every one whose reply
--- is shown whole among them, and at most one more. A command that was pending still is.
+-- is shown whole among them, and at most one more. No number of a vault file was given again, and a command that was
+-- pending still is.
 pub record OneImage (found : Cat) (done : List Done) (shown main sink : Text) : Type 0 where
   pub cat : Cat
   pub stands : StandsFor main cat
   pub whole : ℕ
   pub shows : Shows shown done whole sink
   pub reached : IsBefore found cat whole ⊎ IsAfter found done cat whole
+  pub keeps : KeepsNumbers found cat
   pub pending : cat.pending ≡ found.pending
 
 -- ---- how a run ends
-
--- main stands for this grid
-pub record IsKept (main : Text) (g : Grid) : Type 0 where
-  pub cat : Cat
-  pub stands : StandsFor main cat
-  pub grid : grid_of cat ≡ g
 
 -- the number of the last request that changed something: of these, the first of which has number n, or the given one
 abbrev pub last_change : ℕ → ℕ → List Done → ℕ
 last_change n last [] = last
 last_change n last (d ∷ ds) = last_change (n + 1) (last_of d.changed n last) ds
 
--- main stands for what these requests left: their grid, in a catalogue of this run with the last of them that changed
--- something, where this is the number of the next vault file. A command that was pending still is
+-- Main stands for what these requests left: their grid, in a catalogue of this run with the last of them that changed
+-- something, where this is the number of the next vault file. No number was given again, and a command that was pending
+-- still is.
 pub record IsLeft (main : Text) (found : Cat) (done : List Done) (end : State) (number : ℕ) : Type 0 where
   pub cat : Cat
   pub stands : StandsFor main cat
@@ -107,6 +104,18 @@ pub record IsLeft (main : Text) (found : Cat) (done : List Done) (end : State) (
   pub run : cat.numbers.run ≡ found.numbers.run + 1
   pub last : cat.numbers.last ≡ last_change 1 0 done
   pub next_vault : cat.numbers.next_vault ≡ number
+  pub keeps : KeepsNumbers found cat
+  pub pending : cat.pending ≡ found.pending
+
+-- The same where a request may have been begun, of which nothing is seen: the next vault file may have a greater number.
+-- Where nothing was done the catalogue may be of the run before.
+pub record IsKept (main : Text) (found : Cat) (done : List Done) (end : State) (number : ℕ) : Type 0 where
+  pub cat : Cat
+  pub stands : StandsFor main cat
+  pub grid : grid_of cat ≡ end.grid
+  pub run : ((done ≡ []) × (cat.numbers ≡ found.numbers)) ⊎ ((cat.numbers.run ≡ found.numbers.run + 1) × (cat.numbers.last ≡ last_change 1 0 done))
+  pub next_vault : number ≤ cat.numbers.next_vault
+  pub keeps : KeepsNumbers found cat
   pub pending : cat.pending ≡ found.pending
 
 -- all replies were added
@@ -169,8 +178,8 @@ abbrev pub Ends : Cat → List Asked → List Done → State → ℕ → DiskSta
 Ends found asked done end number main from to sink_old sink_new status.Done = ReadAll asked from to × ShowsAll done sink_old sink_new × IsLeft main.holds found done end number
 Ends found asked done end number main from to sink_old sink_new status.SourceFault = ReadPart asked from to × ShowsAll done sink_old sink_new × IsLeft main.holds found done end number
 Ends found asked done end number main from to sink_old sink_new (status.Long taken) = (taken ≡ 2 ^ 48 + 1) × ReadMost asked from to × ShowsAll done sink_old sink_new × IsLeft main.holds found done end number
-Ends found asked done end number main from to sink_old sink_new status.Memory = IsKept main.holds end.grid
-Ends found asked done end number main from to sink_old sink_new (status.Worn what place) = WearsOut found from.left asked done end number main place what × ShowsAll done sink_old sink_new × IsKept main.holds end.grid
+Ends found asked done end number main from to sink_old sink_new status.Memory = IsKept main.holds found done end number
+Ends found asked done end number main from to sink_old sink_new (status.Worn what place) = WearsOut found from.left asked done end number main place what × ShowsAll done sink_old sink_new × IsKept main.holds found done end number
 Ends found asked done end number main from to sink_old sink_new status.DiskFault = Unit {0}
 Ends found asked done end number main from to sink_old sink_new status.SinkFault = IsLeft main.holds found done end number
 Ends found asked done end number main from to sink_old sink_new status.Usage = ⊥

@@ -1,9 +1,11 @@
 -- What a run uses up: the numbers of vault files, and the room behind the log on main.
-use Rattle.std.specs.Prelude.{◌≡◌, ◌⊎◌, ℕ, ◌+◌, ◌-◌, ◌^◌, ◌≤◌, true, List, [], ◌∷◌, ◌++◌, length, nat_le, Result, Ok, IsTrue}
+use Rattle.std.specs.Prelude.{◌≡◌, ◌⊎◌, ℕ, ◌+◌, ◌-◌, ◌^◌, ◌<◌, ◌≤◌, true, List, [], ◌∷◌, ◌++◌, length, nat_le, Result, Ok, IsTrue}
 use Rattle.grid_outside.specs.Disk.{DiskState}
 use Rattle.frame_log.specs.Log.{IsLog, frames}
 use Rattle.grid_model.specs.Names.{Text, Path}
 use Rattle.grid_model.specs.Limits.{object_size}
+use Rattle.grid_model.specs.Rows.{Cat}
+use Rattle.grid_model.specs.Whole.{Naming, Names}
 use Rattle.grid_model.specs.Inputs.{Asked}
 use Rattle.grid_model.specs.Requests.{Asks}
 use Rattle.grid_model.specs.Commands.{State, Done, Act, does, writes, reads, act}
@@ -44,6 +46,11 @@ pub data GivesNumbers : State → ℕ → List Asked → List Done → State →
   next : {s end : State} {number last : ℕ} {request : Asked} {more : List Asked} {d : Done} {ds : List Done} (asked : Result Verb Refusal)
       → Asks request.line request.body asked → HasNumber s asked number → GivesNumbers d.state (number + numbers_given (act s asked)) more ds end last
       → GivesNumbers s number (request ∷ more) (d ∷ ds) end last
+
+-- No number is given again: a row that names a file by a number below that of the next vault file named it before.
+pub record KeepsNumbers (before after : Cat) : Type 0 where
+  pub rises : before.numbers.next_vault ≤ after.numbers.next_vault
+  pub names : (slot name : ℕ) (row : Naming) → name < before.numbers.next_vault → Names after slot name row → Names before slot name row
 
 -- ---- room behind the log
 
