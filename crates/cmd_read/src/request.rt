@@ -125,7 +125,7 @@ pub enum Verb {
         path: Path,
         resource: Option<Text>,
     },
-    /// One more replica of the object, on the resource.
+    /// The object gets replicas where the tree of the resource puts them.
     Repl {
         path: Path,
         resource: Text,
@@ -134,7 +134,7 @@ pub enum Verb {
     ChkSum {
         path: Path,
     },
-    /// The object's replica on the resource goes.
+    /// The object's replicas at and below the resource go.
     Trim {
         path: Path,
         resource: Text,
