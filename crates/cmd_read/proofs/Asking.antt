@@ -5,7 +5,7 @@ use Rattle.grid_model.specs.Names.{Text}
 use Rattle.grid_model.proofs.Comparing.{same_text-Decides}
 use Rattle.cmd_read.specs.Table.{Form, a_text, a_number, a_path, a_path_text, a_new_name, a_resource_or_none, a_mode, a_level, a_user_kind, a_coordinating_kind, a_state, a_kind_with_path, a_kind_with_name, the_word, Value, has_form, Means, Asks, Way, way}
 use Rattle.cmd_read.specs.Reading.{fits, Makes, AsksFor}
-use Rattle.cmd_read.specs.declared.request.Verb.{Verb}
+use Rattle.grid_model.specs.declared.requests.Verb.{Verb}
 
 pub means_form : (f : Form) (w : Text) (x : Value f) → Means f w x → has_form f w ≡ true
 means_form a_text w x m = refl

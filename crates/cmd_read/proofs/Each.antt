@@ -10,8 +10,8 @@ use Rattle.grid_model.proofs.PathReading.{part_of, IsRead, IsRead-more, IsRefuse
 use Rattle.grid_model.proofs.Comparing.{same_text-Decides}
 use Rattle.cmd_read.specs.Table.{Form, a_text, a_number, a_path, a_path_text, a_new_name, a_resource_or_none, a_mode, a_level, a_user_kind, a_coordinating_kind, a_state, a_kind_with_path, a_kind_with_name, the_word, Value, has_form, Means, Asks, Way, among, table, named_resource}
 use Rattle.cmd_read.specs.Reading.{fits, furthest, Makes, Spoils, IsSpoilt, chosen, session_of, ReadsVerb, ReadsIn, ReadsBehind, Reads}
-use Rattle.cmd_read.specs.declared.request.Verb.{Verb}
-use Rattle.cmd_read.specs.declared.request.Request.{Request}
+use Rattle.grid_model.specs.declared.requests.Verb.{Verb}
+use Rattle.grid_model.specs.declared.requests.Request.{Request}
 use Rattle.cmd_read.specs.declared.error.ReadError.{ReadError}
 use Rattle.cmd_read.specs.declared.error.ReadError.TheVariants.{BadWord, UnknownCommand, BadPath, BadName}
 

@@ -5,7 +5,7 @@ use Rattle.grid_model.specs.Names.{Text, same_text}
 use Rattle.cmd_read.specs.Table.{among, Row, Way}
 use Rattle.cmd_read.specs.Reading.{ReadsVerb}
 use Rattle.cmd_read.specs.Finding.{AsksIn, RefusesIn}
-use Rattle.cmd_read.specs.declared.request.Verb.{Verb}
+use Rattle.grid_model.specs.declared.requests.Verb.{Verb}
 use Rattle.cmd_read.specs.declared.error.ReadError.{ReadError}
 use Rattle.cmd_read.specs.declared.error.ReadError.TheVariants.{UnknownCommand}
 

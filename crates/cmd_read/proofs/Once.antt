@@ -7,8 +7,8 @@ use Rattle.grid_model.proofs.Refusals.{IsRefusedAt-unique}
 use Rattle.grid_model.specs.Places.{IsRefusedAt}
 use Rattle.cmd_read.specs.Table.{Form, a_text, a_number, a_path, a_path_text, a_new_name, a_resource_or_none, a_mode, a_level, a_user_kind, a_coordinating_kind, a_state, a_kind_with_path, a_kind_with_name, the_word, Value, Means, Asks, Way, among, table}
 use Rattle.cmd_read.specs.Reading.{Makes, Spoils, IsSpoilt, AsksBy, IsRefusedBy, chosen, furthest, session_of, ReadsVerb, ReadsIn, ReadsBehind, Reads}
-use Rattle.cmd_read.specs.declared.request.Verb.{Verb}
-use Rattle.cmd_read.specs.declared.request.Request.{Request}
+use Rattle.grid_model.specs.declared.requests.Verb.{Verb}
+use Rattle.grid_model.specs.declared.requests.Request.{Request}
 use Rattle.cmd_read.specs.declared.error.ReadError.{ReadError}
 use Rattle.cmd_read.specs.declared.error.ReadError.TheVariants.{BadPath, BadName}
 

@@ -3,7 +3,7 @@ use Rattle.std.specs.Prelude.{List, Option, Some, None}
 use Rattle.grid_model.specs.Names.{Text}
 use Rattle.cmd_read.specs.Table.{Way}
 use Rattle.cmd_read.specs.Reading.{AsksFor, Refuses}
-use Rattle.cmd_read.specs.declared.request.Verb.{Verb}
+use Rattle.grid_model.specs.declared.requests.Verb.{Verb}
 use Rattle.cmd_read.specs.declared.error.ReadError.{ReadError}
 
 -- ways were found, and in one of them the words ask for this

@@ -4,8 +4,8 @@ use Rattle.std.specs.List.{find}
 use Rattle.grid_model.specs.Names.{Text, SpellsPath, SpellsName}
 use Rattle.grid_model.specs.Places.{IsRefusedAt}
 use Rattle.cmd_read.specs.Table.{Form, a_path, a_path_text, a_new_name, Value, Means, Asks, Way, has_form, among, number_of, table}
-use Rattle.cmd_read.specs.declared.request.Verb.{Verb}
-use Rattle.cmd_read.specs.declared.request.Request.{Request}
+use Rattle.grid_model.specs.declared.requests.Verb.{Verb}
+use Rattle.grid_model.specs.declared.requests.Request.{Request}
 use Rattle.cmd_read.specs.declared.error.ReadError.{ReadError}
 use Rattle.cmd_read.specs.declared.error.ReadError.TheVariants.{BadWord, UnknownCommand, BadPath, BadName}
 

@@ -12,8 +12,8 @@ use Rattle.grid_model.specs.declared.grid.ResourceKind.{ResourceKind}
 use Rattle.grid_model.specs.declared.grid.ResourceKind.TheVariants.{Passthru, Random, Replication}
 use Rattle.grid_model.specs.declared.grid.ItemKind.{ItemKind}
 use Rattle.grid_model.specs.declared.grid.ItemKind.TheVariants as item
-use Rattle.cmd_read.specs.declared.request.Verb.{Verb}
-use Rattle.cmd_read.specs.declared.request.Verb.TheVariants as verb
+use Rattle.grid_model.specs.declared.requests.Verb.{Verb}
+use Rattle.grid_model.specs.declared.requests.Verb.TheVariants as verb
 
 -- what a word of such a list stands for
 abbrev pub among : {A : Type 0} → List (Text × A) → Text → Option A

@@ -3,7 +3,7 @@ ghost use Rattle.grid_model.specs.Names.{Text};
 ghost use Rattle.cmd_read.specs.Reading.{Reads};
 ghost use Rattle.cmd_read.specs.Table.{number_of};
 ghost use Rattle.cmd_read.specs.declared.error.ReadError.{ReadError};
-ghost use Rattle.cmd_read.specs.declared.request.Request.{Request};
+ghost use Rattle.grid_model.specs.declared.requests.Request.{Request};
 
 /// No words are read in two ways.
 pub fn words_are_read_once()

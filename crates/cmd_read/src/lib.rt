@@ -7,7 +7,6 @@ mod error;
 mod laws;
 mod number;
 mod reading;
-mod request;
 mod rows;
 #[cfg(test)]
 mod tests;
@@ -19,4 +18,3 @@ pub use count::body_count;
 pub use error::ReadError;
 pub use laws::{all_words_are_read, numbers_are_decimal, words_are_read_once};
 pub use reading::read_request;
-pub use request::{Request, Verb};

@@ -3,14 +3,14 @@ ghost use Rattle.cmd_read.specs.Table.{among, table};
 ghost use Rattle.cmd_read.specs.Reading.{Reads, ReadsVerb, session_of};
 ghost use Rattle.cmd_read.specs.declared.error.ReadError.TheVariants.{Memory};
 
+use crate::ReadError;
 use crate::number::number_of;
 use crate::rows::{
     read_collections, read_metadata, read_objects, read_resources, read_rules, read_sessions,
     read_uploads, read_users,
 };
 use crate::words::{bad_word, front};
-use crate::{ReadError, Request, Verb};
-use grid_model::{Text, Texts};
+use grid_model::{Request, Text, Texts, Verb};
 use std::alloc::Global;
 
 /// Reads the words of a line, without their quotes, as a request. The first word is the session, the second one the

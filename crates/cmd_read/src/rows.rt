@@ -3,6 +3,7 @@ ghost use Rattle.cmd_read.specs.Table.{among, of_sessions, of_users, of_resource
 ghost use Rattle.cmd_read.specs.Finding.{AsksIn, RefusesIn};
 ghost use Rattle.cmd_read.specs.declared.error.ReadError.TheVariants.{Memory};
 
+use crate::ReadError;
 use crate::verbs::{
     read_chmod, read_get, read_lsmeta, read_mkresc, read_mkuser, read_modresc, read_open, read_put,
     read_triple,
@@ -11,8 +12,7 @@ use crate::ways::{
     no_words, one_name, one_number, one_path, one_text, path_and_text, two_paths, two_texts,
 };
 use crate::words::is_word;
-use crate::{ReadError, Verb};
-use grid_model::Text;
+use grid_model::{Text, Verb};
 use std::alloc::Global;
 
 /// The verbs of sessions; `None` for another verb.

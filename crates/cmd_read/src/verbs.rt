@@ -3,18 +3,18 @@ ghost use Rattle.grid_model.specs.Names.{Text as Word};
 ghost use Rattle.grid_model.specs.declared.grid.ItemKind.{ItemKind};
 ghost use Rattle.cmd_read.specs.Table.{way, ways_to_make, ways_to_triples, ways_to_items, a_text, a_new_name, a_number, a_path, a_resource_or_none, a_mode, a_level, a_user_kind, a_state};
 ghost use Rattle.cmd_read.specs.Reading.{AsksFor, Refuses};
-ghost use Rattle.cmd_read.specs.declared.request.Verb.{Verb};
-ghost use Rattle.cmd_read.specs.declared.request.Verb.TheVariants.{MkUser, ModResc, ChMod, Put, Open, Get};
+ghost use Rattle.grid_model.specs.declared.requests.Verb.{Verb};
+ghost use Rattle.grid_model.specs.declared.requests.Verb.TheVariants.{MkUser, ModResc, ChMod, Put, Open, Get};
 ghost use Rattle.cmd_read.specs.declared.error.ReadError.TheVariants.{Memory};
 
+use crate::ReadError;
 use crate::choices::{
     coordinating_kind_of, is_storage, kind_with_name, kind_with_path, level_of, mode_of,
     resource_of, state_of, user_kind_of,
 };
 use crate::number::number_of;
 use crate::words::{bad_word, front, new_name_of, no_more, path_of, path_text_of, text_of};
-use crate::{ReadError, Verb};
-use grid_model::{ItemKind, Text};
+use grid_model::{ItemKind, Text, Verb};
 use std::alloc::Global;
 
 /// A new user: a new name and a kind.

@@ -2,7 +2,7 @@ ghost use Rattle.std.specs.Prelude.{◌≡◌, ◌≢◌, ℕ, [], ◌∷◌, If
 ghost use Rattle.grid_model.specs.Names.{Text as Word, Path as Place};
 ghost use Rattle.cmd_read.specs.Table.{way, a_text, a_new_name, a_number, a_path};
 ghost use Rattle.cmd_read.specs.Reading.{AsksFor, Refuses};
-ghost use Rattle.cmd_read.specs.declared.request.Verb.{Verb};
+ghost use Rattle.grid_model.specs.declared.requests.Verb.{Verb};
 ghost use Rattle.cmd_read.specs.declared.error.ReadError.TheVariants.{Memory};
 
 use crate::ReadError;

@@ -10,7 +10,6 @@ pub fn push_refusal(text: &mut Vec<u8>, refusal: &Refusal) -> Result<(), AllocEr
     ensures { OnOk result (text.new.items ≡ text.old.items ++ print_refusal refusal.now) }
 {
     match *refusal {
-        Refusal::NotBuilt => text.extend_from_slice(b"NotBuilt"),
         Refusal::TooLong => text.extend_from_slice(b"TooLong"),
         Refusal::Syntax { at } => push_counted(text, b"Syntax", &[at]),
         Refusal::UnknownCommand => text.extend_from_slice(b"UnknownCommand"),

@@ -31,7 +31,6 @@ fn refused(alloc: Global, refusal: Refusal) -> Result<Text, AllocError> {
 fn refusals_as_they_are_written(rt: HostRuntime) -> Result<(), Fail> {
     let alloc = rt.alloc();
     for (refusal, wanted) in [
-        (Refusal::NotBuilt, "3 err NotBuilt\n"),
         (Refusal::TooLong, "3 err TooLong\n"),
         (Refusal::Syntax { at: 7 }, "3 err Syntax 7\n"),
         (Refusal::UnknownCommand, "3 err UnknownCommand\n"),

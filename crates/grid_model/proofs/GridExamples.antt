@@ -3,10 +3,8 @@ use Rattle.std.proofs.Common.{◌≡◌, true, false, [], ◌∷◌, ◌++◌, O
 use Rattle.std.specs.Prelude.{codes, decimal, map, replicate}
 use Rattle.grid_model.specs.Names.{Text, Path}
 use Rattle.grid_model.specs.Grid.{start, first_leaf, Object}
-use Rattle.grid_model.specs.Requests.{any_resource}
 use Rattle.grid_model.specs.Lines.{is_request}
 use Rattle.grid_model.specs.Inputs.{Takes, none_taken, takes_blank, ends_in_line, AreRequests, PromisesBody}
-use Rattle.grid_model.specs.Commands.{State, does, writes, refused, made, log_in, act, stored, reads, object_with}
 use Rattle.grid_model.specs.Printing.{spaced, print_refusal, print_failure}
 use Rattle.grid_model.specs.DataLines.{data_lines, parts, parts_within}
 use Rattle.grid_model.specs.Replies.{end_words, mark_words, passed_line, row_line}
@@ -16,8 +14,7 @@ use Rattle.std.specs.Fmt.{digits}
 use Rattle.grid_model.specs.Printing.{line}
 use Rattle.grid_model.specs.Writable.{is_word, is_writable_end}
 use Rattle.grid_model.specs.Words.{quoted_word}
-use Rattle.grid_model.specs.declared.requests.Verb.TheVariants.{Login, MkDir, Put, Get}
-use Rattle.grid_model.specs.declared.refusal.Refusal.TheVariants.{NotBuilt, NoUser, NoLogin, NoCollection, NoObject, NoResource, Exists, TooLarge, NoReplica, BadRule, BadTree, TooMany, Truncated, Damaged}
+use Rattle.grid_model.specs.declared.refusal.Refusal.TheVariants.{NoUser, NoLogin, NoCollection, NoObject, NoResource, Exists, TooLarge, NoReplica, BadRule, BadTree, TooMany, Truncated, Damaged}
 use Rattle.grid_model.specs.declared.refusal.What.TheVariants.{Objects}
 use Rattle.grid_model.specs.declared.refusal.TreeCause.TheVariants.{Cycle}
 use Rattle.grid_model.specs.declared.marks.Mark.TheVariants.{Ran, Fault, Bad, Stop}
@@ -68,88 +65,6 @@ a_promise = record {
   last_is = refl;
   small = lit≤ tt;
 }
-
--- ---- commands, in the order of their refusals
-
-abbrev zone : Text
-zone = codes "tempZone"
-
-abbrev admin : Text
-admin = codes "rods"
-
-abbrev at_first : State
-at_first = record { grid = start zone admin 1; logged_in = false }
-
-abbrev logged_in : State
-logged_in = record { grid = start zone admin 1; logged_in = true }
-
-abbrev below_home : Path
-below_home = zone ∷ codes "home" ∷ admin ∷ codes "a" ∷ []
-
-abbrev too_deep : Path
-too_deep = zone ∷ codes "home" ∷ admin ∷ codes "b" ∷ codes "c" ∷ []
-
-nothing_built : act at_first (Err NotBuilt) ≡ does (refused at_first NotBuilt)
-nothing_built = refl
-
-another_user : act at_first (Ok (Login zone)) ≡ does (refused at_first NoUser)
-another_user = refl
-
-the_admin : act at_first (Ok (Login admin)) ≡ does (log_in at_first)
-the_admin = refl
-
--- groups do not log in
-a_group : act at_first (Ok (Login (codes "public"))) ≡ does (refused at_first NoUser)
-a_group = refl
-
-nobody_logged_in : act at_first (Ok (MkDir below_home)) ≡ does (refused at_first NoLogin)
-nobody_logged_in = refl
-
-a_new_one : act logged_in (Ok (MkDir below_home)) ≡ does (made logged_in below_home)
-a_new_one = refl
-
--- it is there for the next request
-made_twice : act (made logged_in below_home).state (Ok (MkDir below_home)) ≡ does (refused (made logged_in below_home).state Exists)
-made_twice = refl
-
-no_parent : act logged_in (Ok (MkDir too_deep)) ≡ does (refused logged_in NoCollection)
-no_parent = refl
-
--- the root has no parent, and is there
-the_root : act logged_in (Ok (MkDir [])) ≡ does (refused logged_in Exists)
-the_root = refl
-
--- a file is written to the first slot
-a_put : act logged_in (Ok (Put below_home first_leaf 3 (codes "abc"))) ≡ writes below_home first_leaf 0 (codes "abc")
-a_put = refl
-
-too_large : act logged_in (Ok (Put too_deep first_leaf 16777217 [])) ≡ does (refused logged_in (TooLarge 16777216))
-too_large = refl
-
-no_such_resource : act logged_in (Ok (Put below_home (codes "d1") 3 (codes "abc"))) ≡ does (refused logged_in NoResource)
-no_such_resource = refl
-
-put_on_a_collection : act (made logged_in below_home).state (Ok (Put below_home first_leaf 0 [])) ≡ does (refused (made logged_in below_home).state Exists)
-put_on_a_collection = refl
-
-get_of_nothing : act logged_in (Ok (Get below_home any_resource)) ≡ does (refused logged_in NoObject)
-get_of_nothing = refl
-
--- what was put is read from its slot, whether its leaf is asked or none
-abbrev with_one : State
-with_one = (stored logged_in below_home first_leaf (codes "abc") 7 1000).state
-
-abbrev the_one : Object
-the_one = object_with first_leaf (codes "abc") 1000
-
-a_get : act with_one (Ok (Get below_home any_resource)) ≡ reads the_one 0 0
-a_get = refl
-
-a_get_of_the_leaf : act with_one (Ok (Get below_home first_leaf)) ≡ reads the_one 0 0
-a_get_of_the_leaf = refl
-
-get_from_nowhere : act with_one (Ok (Get below_home (codes "d1"))) ≡ does (refused with_one NoResource)
-get_from_nowhere = refl
 
 -- ---- replies
 

@@ -18,3 +18,23 @@ pub mod RowOrders
 pub mod TableLemmas
 pub mod WordExamples
 mod WholeExamples
+pub mod MeaningLemmas
+pub mod RecoveryLemmas
+pub mod StoppingCalls
+pub mod StoppingRecoveries
+pub mod StoppingChains
+pub mod StoppingRules
+pub mod CountingSteps
+pub mod StoppingCommands
+pub mod CleanMarks
+pub mod Playing
+pub mod StoreExamples
+pub mod RuleExamples
+pub mod CommandExamples
+pub mod PathTextLemmas
+pub mod WithoutRules
+pub mod UploadLemmas
+pub mod SessionLemmas
+pub mod UploadBytes
+pub mod LimitExamples
+pub mod CheckExamples

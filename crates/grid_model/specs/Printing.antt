@@ -59,7 +59,6 @@ print_rule_cause rule.Literal = codes "Literal"
 
 -- the name, and then the fields
 abbrev pub print_refusal : Refusal → Text
-print_refusal refusal.NotBuilt = codes "NotBuilt"
 print_refusal refusal.TooLong = codes "TooLong"
 print_refusal (refusal.Syntax place) = spaced (codes "Syntax" ∷ decimal place ∷ [])
 print_refusal refusal.UnknownCommand = codes "UnknownCommand"

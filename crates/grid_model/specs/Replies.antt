@@ -1,10 +1,9 @@
 -- The lines of replies. The format is this project's own.
-use Rattle.std.specs.Prelude.{ℕ, ◌+◌, List, [], ◌∷◌, ◌++◌, codes, decimal, map, flat_map}
+use Rattle.std.specs.Prelude.{ℕ, List, [], ◌∷◌, ◌++◌, codes, decimal, map, flat_map}
 use Rattle.grid_model.specs.Names.{Text}
 use Rattle.grid_model.specs.Words.{quoted_word}
 use Rattle.grid_model.specs.Digests.{checksum}
 use Rattle.grid_model.specs.Printing.{line, print_refusal, print_failure}
-use Rattle.grid_model.specs.Commands.{Done, Answer}
 use Rattle.grid_model.specs.DataLines.{data_lines}
 use Rattle.grid_model.specs.declared.marks.BadReplica.{BadReplica}
 use Rattle.grid_model.specs.declared.marks.Mark.{Mark}
@@ -53,12 +52,3 @@ end_line n e = line n (end_words e)
 -- all lines after the marks
 abbrev pub rest_lines : ℕ → Reply → Text
 rest_lines n r = data_lines n r.shown ++ flat_map (passed_line n) r.passed ++ flat_map (row_line n) r.rows ++ end_line n r.end
-
--- the reply to the request of this number: what is sent, then the marks, and the last line
-abbrev pub reply : ℕ → Answer → Text
-reply n a = data_lines n a.sent ++ flat_map (mark_line n) a.marks ++ end_line n a.end
-
--- the replies to requests, the first of them of this number
-abbrev pub replies : ℕ → List Done → Text
-replies n [] = []
-replies n (d ∷ ds) = reply n d.answer ++ replies (n + 1) ds

@@ -47,8 +47,6 @@ pub enum RuleCause {
 /// Why an operation was not done. A refused operation changed nothing. A place `at` counts bytes from 0.
 #[derive(Clone, Copy, Debug, PartialEq, Eq)]
 pub enum Refusal {
-    /// The words are none of what is built.
-    NotBuilt,
     /// The line is too long.
     TooLong,
     /// The line is no line of words.

@@ -11,15 +11,15 @@ use Rattle.grid_outside.specs.declared.outside.Wear.{Wear}
 use Rattle.grid_model.specs.Names.{Text}
 use Rattle.grid_model.specs.Rows.{Cat}
 use Rattle.grid_model.specs.RowGrids.{grid_of}
-use Rattle.grid_model.specs.Commands.{Done, State, Comes, act}
-use Rattle.grid_model.specs.Replies.{reply}
-use Rattle.grid_model.specs.declared.requests.Verb.{Verb}
+use Rattle.grid_server.specs.Commands.{Done, State, Comes, act}
+use Rattle.grid_server.specs.Shown.{reply}
+use Rattle.grid_server.specs.declared.verbs.Verb.{Verb}
 use Rattle.grid_model.specs.declared.refusal.Refusal.{Refusal}
 use Rattle.grid_journal.specs.Journal.{Journal, Keeps}
 use Rattle.grid_journal.specs.Stands.{StandsFor}
 use Rattle.grid_model.specs.Applying.{IsMade}
 use Rattle.grid_server.specs.Held.{state_of, ClosesAt, IsLike, IsHeld}
-use Rattle.grid_server.specs.Keeping.{Adds, Stays, Goes, Rests, Follows, last_of, CommitEnds, IsCommitted, Quiet, KeptOrNot, Does, CarryEnds, Carries}
+use Rattle.grid_server.specs.Keeping.{Adds, Stays, Goes, Rests, Follows, last_of, Quiet, KeptOrNot, Does, CarryEnds, Carries}
 use Rattle.grid_server.specs.Keeping as keeping
 use Rattle.grid_server.specs.Drawing.{DrawsIfTold}
 use Rattle.grid_server.specs.Wearing.{HasNumber, numbers_given}
@@ -68,40 +68,6 @@ module _ (old : Server) (d : Done) (n from : ℕ) (main_old main_new : DiskState
             let P : Text → Type 0 = λ t. StandsFor t old.store.cat in
             keeping.kept (subst P (sym (settled t image (omega (arith, late, last)) left)) (held_stands main_old old held told));
       }
-
-  -- changes were committed that make what was done, or how far that came
-  pub carries_commit : (given : ℕ) (new : Server) (after : Cat) (result : Result ⊤ Stop) → Follows old.store.cat d n given after → d.changed ≡ true → d.state ≡ record { grid = grid_of after; logged_in = old.logged_in }
-      → IsCommitted old after from main_old main_new result new → Carries old d n given from main_old main_new result new
-  carries_commit given new after result follows changed state committed = record {
-    after = after;
-    follows = follows;
-    ends = by_result result committed.ends;
-    main = committed.main;
-    leaves = λ told settled t image late left. like_first old.store.cat old.store.cat after (like_self old.store.cat) image (committed.leaves told settled t image late left);
-  }
-    where
-      by_result : (r : Result ⊤ Stop) → CommitEnds old after main_old main_new r new → CarryEnds old d after from main_old main_new r new
-      by_result (Ok done) m = record {
-        held = m.0;
-        state =
-            let at : Cat → _ → State = λ c on. record { grid = grid_of c; logged_in = on } in
-            ap (λ c. at c new.logged_in) m.1 ∙ ap (λ b. at after b) m.2 ∙ sym state;
-        cat = m.1;
-        settled = λ told settled. m.3 told;
-      }
-      by_result (Err stop.Sink) m = absurd m
-      by_result (Err stop.Disk) m = tt
-      by_result (Err stop.Memory) m = quiet_rest old from main_old main_new held last m
-      by_result (Err (stop.Worn what place)) m = (
-        changed,
-        m.0,
-        m.2,
-        (
-            let P : Text → Type 0 = λ t. ClosesAt t place in
-            λ told. subst P (sym (m.3.stays told)) (closes_at old.store.cat old.store main_old.holds place m.1 (held.keeps told))
-            ),
-        quiet_rest old from main_old main_new held last m.3,
-      )
 
 -- ---- answering
 

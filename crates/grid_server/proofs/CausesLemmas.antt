@@ -8,7 +8,7 @@ use Rattle.grid_outside.proofs.Spans.{at_place}
 use Rattle.grid_vault.specs.Vault.{RoseAt}
 use Rattle.grid_model.specs.declared.marks.Mark.{Mark}
 use Rattle.grid_model.specs.declared.marks.Mark.TheVariants as mark
-use Rattle.grid_model.specs.Commands.{Done}
+use Rattle.grid_server.specs.Commands.{Done}
 use Rattle.std.proofs.lemmas.List.{append-nil}
 use Rattle.grid_server.specs.Drawing.{marks_of}
 use Rattle.grid_server.proofs.DrawingLemmas.{marks-push}

@@ -13,13 +13,13 @@ use Rattle.grid_model.specs.Rows.{Cat, IsCat, user_cmp, user, resource_cmp, reso
 use Rattle.grid_model.specs.RowPaths.{collection_at, object_at}
 use Rattle.grid_model.specs.Applying.{IsMade, is_group_kind, is_storage}
 use Rattle.grid_model.specs.RowGrids.{grid_of, resource_of}
-use Rattle.grid_model.specs.Commands.{State, Done, Act, does, writes, is_there, has_user_named, make, made, put_at, open_slot, is_open, refused, act}
+use Rattle.grid_server.specs.Commands.{State, Done, Act, does, writes, is_there, has_user_named, make, made, put_at, open_slot, is_open, refused, act}
 use Rattle.grid_model.specs.declared.deltas.UserRow.{UserRow}
 use Rattle.grid_model.specs.declared.deltas.CollectionRow.{CollectionRow}
 use Rattle.grid_model.specs.declared.deltas.ObjectRow.{ObjectRow}
 use Rattle.grid_model.specs.declared.deltas.ResourceRow.{ResourceRow}
-use Rattle.grid_model.specs.declared.requests.Verb.{Verb}
-use Rattle.grid_model.specs.declared.requests.Verb.TheVariants.{MkDir, Put}
+use Rattle.grid_server.specs.declared.verbs.Verb.{Verb}
+use Rattle.grid_server.specs.declared.verbs.Verb.TheVariants.{MkDir, Put}
 use Rattle.grid_model.specs.declared.refusal.Refusal.{Refusal}
 use Rattle.grid_model.specs.declared.refusal.Refusal.TheVariants.{NoCollection, NoResource, NoTarget, Exists, NoLogin, TooLarge}
 use Rattle.grid_model.specs.Limits.{object_size}

@@ -6,11 +6,11 @@ use Rattle.grid_model.specs.Names.{Text}
 use Rattle.grid_model.specs.Rows.{Cat}
 use Rattle.grid_model.specs.RowGrids.{grid_of}
 use Rattle.grid_model.specs.Inputs.{Asked}
-use Rattle.grid_model.specs.Requests.{Asks}
-use Rattle.grid_model.specs.Commands.{State, Done, Act, Comes, at_once, written, not_written, reads, read, not_read, other_read, act, After, none, next, state_after}
+use Rattle.grid_server.specs.VerbLines.{Asks}
+use Rattle.grid_server.specs.Commands.{State, Done, Act, Comes, at_once, written, not_written, reads, read, not_read, other_read, act, After, none, next, state_after}
 use Rattle.grid_outside.specs.Sink.{AddsPart}
-use Rattle.grid_model.specs.Replies.{reply, replies}
-use Rattle.grid_model.specs.declared.requests.Verb.{Verb}
+use Rattle.grid_server.specs.Shown.{reply, replies}
+use Rattle.grid_server.specs.declared.verbs.Verb.{Verb}
 use Rattle.grid_model.specs.declared.refusal.Refusal.{Refusal}
 use Rattle.grid_journal.specs.Stands.{StandsFor}
 use Rattle.grid_server.specs.Held.{IsLike}

@@ -3,7 +3,7 @@ use Rattle.std.proofs.Common.{◌≡◌, ℕ, List, [], ◌∷◌, ◌++◌, IsT
 use Rattle.std.proofs.lemmas.List.{append-nil}
 use Rattle.std.proofs.lemmas.Grind.{flat_map-append}
 use Rattle.grid_outside.specs.Ambient.{AmbientState, GivesTime, GivesWord}
-use Rattle.grid_model.specs.Commands.{Done}
+use Rattle.grid_server.specs.Commands.{Done}
 use Rattle.grid_model.specs.declared.marks.Mark.{Mark}
 use Rattle.grid_model.specs.declared.marks.Mark.TheVariants.{Ran}
 use Rattle.grid_server.specs.Drawing.{word_of, time_of, words_of, times_of, marks_of, AreSomeOf, none, skip, keep, DrawsIfTold}

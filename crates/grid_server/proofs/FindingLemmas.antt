@@ -10,19 +10,19 @@ use Rattle.std.specs.Ordering.{nat_cmp, ordering_then}
 use Rattle.grid_model.specs.Names.{Text, Path, same_text}
 use Rattle.grid_model.specs.Maps.{get, has}
 use Rattle.grid_model.specs.Grid.{Grid, Object}
-use Rattle.grid_model.specs.Requests.{any_resource}
+use Rattle.grid_server.specs.VerbLines.{any_resource}
 use Rattle.grid_model.specs.Rows.{Cat, object, resource, replicas_of, replica_cmp}
 use Rattle.grid_model.specs.RowPaths.{object_at, object_path, is_path_of}
 use Rattle.grid_model.specs.RowGrids.{grid_of, object_of, resource_of, resource_name}
 use Rattle.grid_model.specs.Applying.{IsMade, is_storage, is_replica}
 use Rattle.grid_model.specs.Whole.{leaf_slot}
-use Rattle.grid_model.specs.Commands.{State, Act, does, reads, act, refused, may_ask, source, first_source, get_at}
+use Rattle.grid_server.specs.Commands.{State, Act, does, reads, act, refused, may_ask, source, first_source, get_at}
 use Rattle.grid_model.specs.declared.deltas.ObjectRow.{ObjectRow}
 use Rattle.grid_model.specs.declared.deltas.ReplicaRow.{ReplicaRow}
 use Rattle.grid_model.specs.declared.deltas.ResourceRow.{ResourceRow}
 use Rattle.grid_model.specs.declared.plans.OldFile.{OldFile}
-use Rattle.grid_model.specs.declared.requests.Verb.{Verb}
-use Rattle.grid_model.specs.declared.requests.Verb.TheVariants.{Get, Put}
+use Rattle.grid_server.specs.declared.verbs.Verb.{Verb}
+use Rattle.grid_server.specs.declared.verbs.Verb.TheVariants.{Get, Put}
 use Rattle.grid_model.specs.declared.refusal.Refusal.{Refusal}
 use Rattle.grid_model.specs.declared.refusal.Refusal.TheVariants.{NoLogin, NoObject, NoResource, NoReplica}
 use Rattle.grid_model.proofs.Comparing.{same_text-Decides}
@@ -33,7 +33,7 @@ use Rattle.tables_laws.proofs.Places.{object_found}
 use Rattle.tables_laws.proofs.LookUps.{get-resources, get-objects, get-object_at}
 use Rattle.tables_laws.proofs.Standing.{ResourceStands}
 use Rattle.tables_laws.proofs.Sound.{IsSound}
-use Rattle.tables_laws.proofs.Sources.{HasOwnNames, names-made, first_row, row_source, told, LeafOf, leaf_of, resource_found, first_source-object}
+use Rattle.grid_server.proofs.Sources.{HasOwnNames, names-made, first_row, row_source, told, LeafOf, leaf_of, resource_found, first_source-object}
 use Rattle.grid_server.specs.Held.{state_of}
 use Rattle.grid_server.specs.Deciding.{Decides as DecidesAll, NamesResource, slot_of}
 use Rattle.grid_server.specs.Finding.{leaf_asked, is_asked, slot_to_read, first_to_read, to_read, file_of, DecidesGetting}

@@ -21,7 +21,7 @@ use Rattle.grid_journal.specs.declared.error.JournalError.TheVariants as journal
 use Rattle.grid_server.specs.Held.{ClosesAt, IsLike, IsHeld}
 use Rattle.grid_server.proofs.WearingLemmas.{keeps_self, keeps_then}
 use Rattle.grid_server.specs.Stopping.{IsOfCommit, stop_of}
-use Rattle.grid_server.specs.Keeping.{Goes, Rests, CommitEnds, Quiet, KeptOrNot, not_kept, kept}
+use Rattle.grid_server.specs.Keeping.{Goes, Rests, Quiet, KeptOrNot, not_kept, kept}
 use Rattle.grid_server.specs.declared.server.Server.{Server}
 use Rattle.grid_server.specs.declared.server.Stop.TheVariants as stop
 
@@ -94,34 +94,6 @@ like_then a b c first then = record {
   pending = then.pending ∙ first.pending;
 }
 
--- ---- one commit
-
-pub committed_well : (old : Server) (after : Cat) (deltas : List Delta) (new : Journal) (main_old main_new : DiskState) → IsHeld main_old old → apply_all old.store.cat deltas ≡ Ok after → Commits deltas old.store new
-    → (IsTrue main_old.tells → Keeps new.cat new main_new.holds) → main_new.tells ≡ main_old.tells → (IsTrue main_old.tells → IsSettled main_new)
-    → CommitEnds old after main_old main_new (Ok tt) (record { store = new; logged_in = old.logged_in })
-committed_well old after deltas new main_old main_new held applied commits keeps tells settled =
-    let both : apply_all old.store.cat deltas ≡ Ok after = applied in
-    let ours : apply_all old.store.cat deltas ≡ Ok new.cat = commits.applied in
-    let same : new.cat ≡ after = cc in (
-      record {
-        sound = commits.sound;
-        staged = commits.staged;
-        keeps = λ told. keeps (subst IsTrue tells told);
-        made = made_more old.store.cat new.cat deltas held.made commits.applied;
-      },
-      same,
-      refl,
-      settled,
-    )
-
-pub committed_in_vain : (old new : Server) (after : Cat) (main_old main_new : DiskState) (e : JournalError) → IsOfCommit e → (e ≢ journal.DiskFault → Rests main_old main_new)
-    → ((what : Wear) (at : ℕ) → e ≡ journal.Worn what at → (what ≡ Log) × (at ≡ old.store.log.gate) × (2 ^ 62 < at)) → CommitEnds old after main_old main_new (Err (stop_of e)) new
-committed_in_vain old new after main_old main_new journal.Memory of same worn = same (λ e. cc)
-committed_in_vain old new after main_old main_new journal.DiskFault of same worn = tt
-committed_in_vain old new after main_old main_new (journal.Worn what at) of same worn = ((worn what at refl).0, (worn what at refl).1, (worn what at refl).2, same (λ e. cc))
-committed_in_vain old new after main_old main_new (journal.NotEmpty side len) of same worn = absurd of
-committed_in_vain old new after main_old main_new (journal.NotACatalogue side at) of same worn = absurd of
-
 pub of_commit : (e : JournalError) → ((side : _) (at : ℕ) → (¬ (e ≡ journal.NotEmpty side at)) × (¬ (e ≡ journal.NotACatalogue side at))) → IsOfCommit e
 of_commit journal.Memory other = tt
 of_commit journal.DiskFault other = tt
@@ -164,18 +136,6 @@ like_first before c d like main (inr s) = kept s
 pub like_both : (before after : Cat) (main : Text) → IsLike before after → KeptOrNot before after main → (c : Cat) × IsLike before c × StandsFor main c
 like_both before after main like (not_kept c its stands) = (c, its, stands)
 like_both before after main like (kept stands) = (after, like, stands)
-
--- a commit that failed before it changed anything
-pub quiet_failed : (old mid new : Server) (before after : Cat) (from : ℕ) (main_mid main_new : DiskState) → IsHeld main_mid mid → IsLike before mid.store.cat → main_mid.last ≤ from → Rests main_mid main_new → Quiet before from main_mid main_new
-quiet_failed old mid new before after from main_mid main_new held like last rests =
-    let q = quiet_rest mid from main_mid main_new held last rests in
-    record {
-      cat = q.cat;
-      like = like_then before mid.store.cat q.cat like q.like;
-      stands = q.stands;
-      main = q.main;
-      leaves = λ told settled t image late left. (let l = q.leaves told settled t image late left in (l.0, like_then before mid.store.cat l.0 like l.1, l.2));
-    }
 
 -- quiet once, and again
 pub quiet_more : (before : Cat) (from to : ℕ) (old mid new : DiskState) → from ≤ to → (IsTrue old.tells → IsSettled old → IsSettled mid) → Goes from old mid

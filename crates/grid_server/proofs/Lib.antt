@@ -18,6 +18,7 @@ pub mod SendingLemmas
 pub mod SentFileLemmas
 pub mod ServedLemmas
 pub mod StoredLemmas
+pub mod PutPlans
 pub mod StoredRows
 pub mod StoresLemmas
 pub mod StoringLemmas
@@ -27,3 +28,4 @@ pub mod TurnLemmas
 pub mod WearingLemmas
 pub mod WholeLemmas
 mod MarkExamples
+mod Sources

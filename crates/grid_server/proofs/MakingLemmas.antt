@@ -11,7 +11,7 @@ use Rattle.grid_model.specs.RowPaths.{collection_path}
 use Rattle.grid_model.specs.RowGrids.{grid_of, collection_place}
 use Rattle.grid_model.specs.NewRows.{with_collection_row, IsNewAt}
 use Rattle.grid_model.specs.Applying.{IsMade, apply, apply_all, where_fits}
-use Rattle.grid_model.specs.Commands.{State, Done, does, made, with_collection}
+use Rattle.grid_server.specs.Commands.{State, Done, does, made, with_collection}
 use Rattle.grid_model.specs.declared.deltas.CollectionRow.{CollectionRow}
 use Rattle.grid_model.specs.declared.deltas.Numbers.{Numbers}
 use Rattle.grid_model.specs.declared.deltas.Delta.{Delta}
@@ -24,7 +24,7 @@ use Rattle.tables_laws.proofs.Places.{place_is}
 use Rattle.tables_laws.proofs.NewCollections.{grid-new_collection}
 use Rattle.grid_journal.specs.Stands.{StandsFor}
 use Rattle.grid_server.specs.Held.{state_of, IsHeld}
-use Rattle.grid_server.specs.Keeping.{Follows, IsCommitted, Carries, not_kept}
+use Rattle.grid_server.specs.Keeping.{Follows, Carries, not_kept}
 use Rattle.grid_server.specs.declared.server.Server.{Server}
 use Rattle.grid_server.specs.declared.server.Stop.{Stop}
 use Rattle.grid_server.specs.declared.server.Stop.TheVariants as stop
@@ -32,7 +32,12 @@ use Rattle.grid_server.proofs.OpenedLemmas.{paths_made, vault_made}
 use Rattle.grid_server.proofs.DecidingLemmas.{sound_of}
 use Rattle.grid_server.proofs.WearingLemmas.{keeps_rows}
 use Rattle.grid_server.proofs.KeepingLemmas.{held_stands, goes_nowhere, like_self, quiet_rest, rests_same}
-use Rattle.grid_server.proofs.CarryingLemmas.{carries_commit}
+use Rattle.grid_server.proofs.StoringLemmas.{stopped, carries_deed}
+use Rattle.grid_deed.specs.Held.{IsCommitted as IsStoreCommitted}
+use Rattle.file_laws.specs.Plans.{Turns}
+use Rattle.file_laws.proofs.Turning.{turns_unseen}
+use Rattle.grid_server.specs.Keeping.{Goes}
+use Rattle.grid_journal.specs.declared.error.JournalError.{JournalError}
 
 pub done_same : (d e : Done) → does d ≡ does e → d ≡ e
 done_same d e is = cc
@@ -66,6 +71,10 @@ module _ (old : Server) (m : IsMade old.store.cat) (row : CollectionRow) (p : Pa
       let same : k ≡ c.numbers = k_is ∙ ap (λ (x : Cat). x.numbers) tables_are in
       ap (apply_all c) (deltas_are ∙ ap (λ (x : Numbers). delta.Collection row ∷ delta.Numbers (record x { last = n }) ∷ []) same) ∙ applied_both
 
+  -- no file is named otherwise
+  pub turns_grown : Turns [] [] c grown
+  turns_grown = turns_unseen c c.zone c.stores c.users c.members one.collections c.triples c.entries c.rules last c.pending [] []
+
   grid_grown : grid_of grown ≡ with_collection (grid_of c) p
   grid_grown =
       let above : collection_path c row.parent ≡ Some new.free.above = (at_of c row.parent new.free.above new.free.parent).path in
@@ -77,10 +86,10 @@ module _ (old : Server) (m : IsMade old.store.cat) (row : CollectionRow) (p : Pa
   follows = record { grid = grid_grown; stores = refl; run = refl; last = refl; next_vault = omega arith; keeps = keeps_rows c one.collections last (omega arith); pending = refl; same = λ no. absurd (cc) }
 
   module _ (from : ℕ) (main_old : DiskState) (held : IsHeld main_old old) (main_last : main_old.last ≤ from) where
-    pub carries_grown : (main_new : DiskState) (result : Result ⊤ Stop) (mid : Server) → IsCommitted old grown from main_old main_new result mid → Carries old (made (state_of old) p) n 0 from main_old main_new result mid
-    carries_grown main_new result mid committed =
-        carries_commit old (made (state_of old) p) n from main_old main_new held main_last 0 mid grown result follows refl
-        (ap (λ (g : Grid). (let s : State = record { grid = g; logged_in = old.logged_in } in s)) (sym grid_grown)) committed
+    pub carries_grown : (main_new : DiskState) (new : Server) → Goes from main_old main_new → new.logged_in ≡ old.logged_in → (result : Result ⊤ JournalError) → IsStoreCommitted c grown from old.store main_old main_new result new.store → Carries old (made (state_of old) p) n 0 from main_old main_new (stopped result) new
+    carries_grown main_new new goes logged result committed =
+        carries_deed old (made (state_of old) p) n from main_old main_new main_last new grown 0 follows refl
+        (ap (λ (g : Grid). (let s : State = record { grid = g; logged_in = old.logged_in } in s)) (sym grid_grown)) goes logged result committed
 
     -- memory ran out before anything was done
     pub carries_unbegun : (mid : Server) → Carries old (made (state_of old) p) n 0 from main_old main_old (Err stop.Memory) mid

@@ -1,9 +1,10 @@
 -- What is done without a store.
 use Rattle.std.proofs.Common.{[], ◌≡◌, ℕ, Result, refl, sym, ap, subst}
 use Rattle.grid_outside.specs.Ambient.{AmbientState}
-use Rattle.grid_model.specs.Commands.{Done, Act, does, Comes, at_once, act, refused, log_in, made}
-use Rattle.grid_model.specs.Replies.{reply, end_line}
-use Rattle.grid_model.specs.declared.requests.Verb.{Verb}
+use Rattle.grid_server.specs.Commands.{Done, Act, does, Comes, at_once, act, refused, log_in, made}
+use Rattle.grid_model.specs.Replies.{end_line}
+use Rattle.grid_server.specs.Shown.{reply}
+use Rattle.grid_server.specs.declared.verbs.Verb.{Verb}
 use Rattle.grid_model.specs.declared.refusal.Refusal.{Refusal}
 use Rattle.grid_server.specs.Held.{state_of}
 use Rattle.grid_server.specs.Drawing.{DrawsIfTold}

@@ -13,9 +13,9 @@ use Rattle.grid_server.specs.Requests.{Promise, holding, asked_with, is_held, he
 use Rattle.grid_model.specs.Words.{SpellsInner, nothing, plain, escaped, SpellsWord, bare, quoted, SpellsLine, line_end, space, word}
 use Rattle.grid_model.specs.Limits.{object_size}
 use Rattle.grid_model.specs.Grid.{first_leaf}
-use Rattle.grid_model.specs.Requests.{Asks, asks_for, cut_short, not_built, too_long, no_words, SpellsVerb, a_login, a_mkdir, a_put, a_get, any_resource, kept_body, promised as promised_by}
-use Rattle.grid_model.specs.declared.requests.Verb.{Verb}
-use Rattle.grid_model.specs.declared.requests.Verb.TheVariants.{Login, MkDir, Put, Get}
+use Rattle.grid_server.specs.VerbLines.{Asks, asks_for, cut_short, not_built, too_long, no_words, SpellsVerb, a_login, a_mkdir, a_put, a_get, any_resource, kept_body, promised as promised_by}
+use Rattle.grid_server.specs.declared.verbs.Verb.{Verb}
+use Rattle.grid_server.specs.declared.verbs.Verb.TheVariants.{Login, MkDir, Put, Get}
 use Rattle.grid_model.specs.declared.refusal.Refusal.{Refusal}
 use Rattle.grid_model.specs.declared.refusal.Refusal.TheVariants.{Truncated}
 

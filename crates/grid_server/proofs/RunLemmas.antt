@@ -12,7 +12,7 @@ use Rattle.grid_model.specs.Names.{Text, is_name}
 use Rattle.grid_model.specs.Rows.{Cat}
 use Rattle.grid_model.specs.RowGrids.{grid_of}
 use Rattle.grid_model.specs.Inputs.{none_taken}
-use Rattle.grid_model.specs.Commands.{State, Done, none as nothing_done, state_after}
+use Rattle.grid_server.specs.Commands.{State, Done, none as nothing_done, state_after}
 use Rattle.grid_model.specs.declared.grid.Side.{Side}
 use Rattle.grid_model.specs.declared.grid.Side.TheVariants.{Main, Spare}
 use Rattle.grid_journal.specs.Stands.{Stands, stands, StandsEither, StandsFor}

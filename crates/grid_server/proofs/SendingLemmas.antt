@@ -25,15 +25,16 @@ use Rattle.grid_model.specs.Rows.{Cat}
 use Rattle.grid_model.specs.Grid.{Object}
 use Rattle.grid_model.specs.DataLines.{data_lines, parts}
 use Rattle.grid_model.specs.Limits.{part_size}
-use Rattle.grid_model.specs.Commands.{Done, State, Act, Comes, act, reads, sent, failed, damaged, IsOther, IsFrontOf}
-use Rattle.grid_model.specs.Commands as comes
-use Rattle.grid_model.specs.Replies.{reply, mark_line, end_line}
+use Rattle.grid_server.specs.Commands.{Done, State, Act, Comes, act, reads, sent, failed, damaged, IsOther, IsFrontOf}
+use Rattle.grid_server.specs.Commands as comes
+use Rattle.grid_model.specs.Replies.{mark_line, end_line}
+use Rattle.grid_server.specs.Shown.{reply}
 use Rattle.grid_model.specs.declared.marks.Mark.{Mark}
 use Rattle.grid_model.specs.declared.marks.Mark.TheVariants as mark
 use Rattle.grid_model.specs.declared.replies.End.{End}
 use Rattle.grid_model.specs.declared.replies.End.TheVariants as end
 use Rattle.grid_model.specs.declared.plans.OldFile.{OldFile}
-use Rattle.grid_model.specs.declared.requests.Verb.{Verb}
+use Rattle.grid_server.specs.declared.verbs.Verb.{Verb}
 use Rattle.grid_model.specs.declared.refusal.Refusal.{Refusal}
 use Rattle.grid_model.specs.declared.refusal.Refusal.TheVariants as refusal
 use Rattle.grid_vault.specs.Sending.{Puts, PutsAll, Sends, Breaks, OnFault, IsWhole, IsFaulty, IsBad}

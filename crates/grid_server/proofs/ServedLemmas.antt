@@ -14,10 +14,10 @@ use Rattle.grid_model.specs.Rows.{Cat}
 use Rattle.grid_model.specs.RowGrids.{grid_of}
 use Rattle.grid_model.specs.Lines.{is_request}
 use Rattle.grid_model.specs.Inputs.{Asked, none_taken}
-use Rattle.grid_model.specs.Requests.{Asks}
-use Rattle.grid_model.specs.Commands.{State, Done, Comes, act, After, none as nothing_done, state_after}
-use Rattle.grid_model.specs.Replies.{reply, replies}
-use Rattle.grid_model.specs.declared.requests.Verb.{Verb}
+use Rattle.grid_server.specs.VerbLines.{Asks}
+use Rattle.grid_server.specs.Commands.{State, Done, Comes, act, After, none as nothing_done, state_after}
+use Rattle.grid_server.specs.Shown.{reply, replies}
+use Rattle.grid_server.specs.declared.verbs.Verb.{Verb}
 use Rattle.grid_model.specs.declared.refusal.Refusal.{Refusal}
 use Rattle.grid_server.specs.declared.status.Status.{Status}
 use Rattle.grid_server.specs.declared.status.Status.TheVariants as status

@@ -12,11 +12,12 @@ use Rattle.grid_model.specs.RowGrids.{grid_of, collection_place, resource_name}
 use Rattle.grid_model.specs.NewRows.{IsFreeAt}
 use Rattle.grid_model.specs.Applying.{IsMade, apply, apply_all, where_fits, is_storage, is_leaf, is_drawn, is_replica, slot_fits}
 use Rattle.grid_model.specs.Grid.{Grid}
-use Rattle.grid_model.specs.Commands.{Act, Comes, act, writes, written, not_written, with_object, object_with, stored, failed}
-use Rattle.grid_model.specs.Replies.{reply, mark_line, end_line}
+use Rattle.grid_server.specs.Commands.{Act, Comes, act, writes, written, not_written, with_object, object_with, stored, failed}
+use Rattle.grid_model.specs.Replies.{mark_line, end_line}
+use Rattle.grid_server.specs.Shown.{reply}
 use Rattle.grid_model.specs.declared.marks.Mark.{Mark}
 use Rattle.grid_model.specs.declared.replies.End.{End}
-use Rattle.grid_model.specs.declared.requests.Verb.{Verb}
+use Rattle.grid_server.specs.declared.verbs.Verb.{Verb}
 use Rattle.grid_model.specs.declared.refusal.Refusal.{Refusal}
 use Rattle.grid_model.specs.declared.deltas.Delta.TheVariants as delta
 use Rattle.grid_model.specs.declared.deltas.Numbers.{Numbers}

@@ -94,11 +94,6 @@ module _ (c : Cat) (m : IsMade c) (st : Storing) (p : Path) (leaf body : Text) (
   still_orphan : (o : OrphanRow) → IsIn c.orphans o → IsIn begun.orphans o
   still_orphan o here = old_in_with_row orphan_cmp c.orphans orphan o here (λ e. omega (arith, low_orphan o here, same_number v o.vault e))
 
-  -- a row names what it named
-  pub named_begun : (slot name : ℕ) (x : Naming) → Names c slot name x → Names begun slot name x
-  named_begun slot name (by_replica r) n = n
-  named_begun slot name (by_orphan o) n = (contains_of begun.orphans o (still_orphan o (in_of c.orphans o n.0)), n.1, n.2)
-
   -- a row that names a file is one from before, or the orphan
   begun_names : (slot name : ℕ) (x : Naming) → Names begun slot name x → ((x ≡ by_orphan orphan) × (name ≡ v) × (slot ≡ st.slot)) ⊎ ((name < v) × Names c slot name x)
   begun_names slot name (by_replica r) n = inr (omega (arith, low_replica r (in_of c.replicas r n.0), n.1), n)
@@ -117,36 +112,6 @@ module _ (c : Cat) (m : IsMade c) (st : Storing) (p : Path) (leaf body : Text) (
   -- nothing is seen of it
   pub begun_like : IsLike c begun
   begun_like = record { grid = rows.grid_begun c m st p leaf body ok; stores = refl; run = refl; last = refl; keeps = keeps_begun; pending = refl }
-
-  -- the file of the orphan is named by it alone
-  pub orphan_named : IsNamed begun st.slot v
-  orphan_named = record {
-    row = by_orphan orphan;
-    names = (contains_of begun.orphans orphan (new_in_with_row orphan_cmp c.orphans orphan), refl, refl);
-    only = λ x n. elim (begun_names st.slot v x n) [ inl its ↦ its.0 | inr low ↦ absurd (omega (arith, low.0)) ];
-  }
-
-  pub good_rows_begun : HasGoodRows c → HasGoodRows begun
-  good_rows_begun good = all_from_in _ c.replicas (λ r here is. let its = in_from_all (λ (r : ReplicaRow). IsTrue r.good → IsLikeObject c r) c.replicas good r here is in record { row = its.row; there = its.there; size = its.size; digest = its.digest })
-
-  pub whole_begun : (slot : ℕ) (files : Files) → IsWhole c slot files → IsWhole begun slot files
-  whole_begun slot files w = record {
-    good = w.good;
-    accounted = λ name file is.
-        let n = w.accounted name file is in
-        record {
-          row = n.row;
-          names = named_begun slot name n.row n.names;
-          only = λ x its. elim (begun_names slot name x its) [
-            | inl new ↦ absurd (too_low slot name n.row n.names new.1)
-            | inr old ↦ n.only x old.1
-          ];
-        };
-  }
-    where
-      too_low : (slot name : ℕ) (x : Naming) → Names c slot name x → name ≡ v → ⊥
-      too_low slot name (by_replica r) n e = omega (arith, low_replica r (in_of c.replicas r n.0), n.1, e)
-      too_low slot name (by_orphan o) n e = omega (arith, low_orphan o (in_of c.orphans o n.0), n.1, e)
 
   -- ---- and then the object's
 
@@ -173,17 +138,6 @@ module _ (c : Cat) (m : IsMade c) (st : Storing) (p : Path) (leaf body : Text) (
     still_replica : (r : ReplicaRow) → IsIn c.replicas r → IsIn kept.replicas r
     still_replica r here = old_in_with_row replica_cmp c.replicas new r here (λ e. apart r here (sym (same_object new r e)))
 
-    pub good_rows_kept : HasGoodRows begun → HasGoodRows kept
-    good_rows_kept good = all_from_in _ kept.replicas by_row
-      where
-        by_row : (r : ReplicaRow) → IsIn kept.replicas r → IsTrue r.good → IsLikeObject kept r
-        by_row r here is = elim (in_from_with_row replica_cmp c.replicas new r here) [
-          | inl same ↦ subst (λ (x : ReplicaRow). IsLikeObject kept x) same (record { row = object_row; there = put_found (λ (o : ObjectRow). o.id) c.objects object_row; size = refl; digest = refl })
-          | inr was ↦
-              let its = in_from_all (λ (r : ReplicaRow). IsTrue r.good → IsLikeObject begun r) c.replicas good r was is in
-              record { row = its.row; there = put_other (λ (o : ObjectRow). o.id) c.objects object_row r.object (apart r was) ∙ its.there; size = its.size; digest = its.digest }
-        ]
-
     -- a row that names a file is one of before, or the replica
     kept_names : (slot name : ℕ) (x : Naming) → Names kept slot name x → ((x ≡ by_replica new) × (name ≡ v)) ⊎ ((name < v) × Names begun slot name x)
     kept_names slot name (by_replica r) its = elim (in_from_with_row replica_cmp c.replicas new r (in_of kept.replicas r its.0)) [
@@ -203,38 +157,3 @@ module _ (c : Cat) (m : IsMade c) (st : Storing) (p : Path) (leaf body : Text) (
       rises = omega arith;
       names = λ slot name row low its. elim (kept_names slot name row its) [ inl new ↦ absurd (omega (arith, low, new.1)) | inr old ↦ keeps_begun.names slot name row low old.1 ];
     }
-
-    -- and what a row named below it still names
-    still_names : (slot name : ℕ) (x : Naming) → name < v → Names begun slot name x → Names kept slot name x
-    still_names slot name (by_replica r) low its = (contains_of kept.replicas r (still_replica r (in_of c.replicas r its.0)), its.1, its.2)
-    still_names slot name (by_orphan o) low its =
-        (contains_of kept.orphans o (filter_from_in (λ (o : OrphanRow). not (o.vault == v)) begun.orphans o (in_of begun.orphans o its.0) (is_not o.vault v (λ e. omega (arith, low, its.1, e)))), its.1, its.2)
-
-    abbrev HasIt : ℕ → Files → ReplicaRow → Type 0
-    HasIt slot files r = IsTrue r.good → leaf_slot c r.leaf ≡ Some slot → IsFinishedAs r.size r.digest (file_at files r.vault)
-
-    pub whole_kept : (slot : ℕ) (files : Files) → (slot ≡ st.slot → file_at files v ≡ finished st.body) → IsWhole begun slot files → IsWhole kept slot files
-    whole_kept slot files there w = record {
-      good = all_from_in _ kept.replicas by_row;
-      accounted = λ name file is. by_name name (w.accounted name file is);
-    }
-      where
-        by_row : (r : ReplicaRow) → IsIn kept.replicas r → HasIt slot files r
-        by_row r here = elim (in_from_with_row replica_cmp c.replicas new r here) [
-          | inl same ↦ subst (HasIt slot files) same (λ is at. record { bytes = st.body; is = there (let both : Some slot ≡ Some st.slot = sym at ∙ leaf_is in cc); has = record { size = refl; digest = refl } })
-          | inr was ↦ in_from_all (HasIt slot files) c.replicas w.good r was
-        ]
-
-        by_name : (name : ℕ) → IsNamed begun slot name → IsNamed kept slot name
-        by_name name its = elim (begun_names slot name its.row its.names) [
-          | inl at ↦ record {
-            row = by_replica new;
-            names = (contains_of kept.replicas new (new_in_with_row replica_cmp c.replicas new), sym at.1, leaf_is ∙ ap Some (sym at.2));
-            only = λ x n. elim (kept_names slot name x n) [ inl is ↦ is.0 | inr low ↦ absurd (omega (arith, low.0, at.1)) ];
-          }
-          | inr low ↦ record {
-            row = its.row;
-            names = still_names slot name its.row low.0 its.names;
-            only = λ x n. elim (kept_names slot name x n) [ inl is ↦ absurd (omega (arith, low.0, is.1)) | inr old ↦ its.only x old.1 ];
-          }
-        ]

@@ -8,14 +8,14 @@ use Rattle.frame_log.specs.Extent.{Extent, IsLogOf}
 use Rattle.grid_outside.specs.Disk.{DiskState}
 use Rattle.grid_model.specs.Names.{Text}
 use Rattle.grid_model.specs.Inputs.{Asked}
-use Rattle.grid_model.specs.Requests.{Asks}
+use Rattle.grid_server.specs.VerbLines.{Asks}
 use Rattle.grid_model.specs.Rows.{Cat}
 use Rattle.grid_model.specs.Whole.{Naming, by_replica, by_orphan, Names}
 use Rattle.grid_model.specs.declared.deltas.CollectionRow.{CollectionRow}
 use Rattle.grid_model.specs.declared.deltas.Numbers.{Numbers}
-use Rattle.grid_model.specs.Commands.{State, Done, act}
+use Rattle.grid_server.specs.Commands.{State, Done, act}
 use Rattle.grid_model.specs.declared.deltas.Delta.{Delta}
-use Rattle.grid_model.specs.declared.requests.Verb.{Verb}
+use Rattle.grid_server.specs.declared.verbs.Verb.{Verb}
 use Rattle.grid_model.specs.declared.refusal.Refusal.{Refusal}
 use Rattle.grid_journal.specs.Journal.{Journal, Keeps}
 use Rattle.grid_journal.specs.Store.{Commits}

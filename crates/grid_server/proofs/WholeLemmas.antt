@@ -23,7 +23,7 @@ use Rattle.grid_journal.proofs.StandsLemmas.{Stands-same}
 use Rattle.tables_laws.proofs.Rows.{in_from_all, all_from_in}
 use Rattle.grid_model.specs.Applying.{IsMade}
 use Rattle.grid_server.specs.Held.{IsHeld}
-use Rattle.grid_server.specs.Keeping.{Goes, Rests, IsCommitted}
+use Rattle.grid_server.specs.Keeping.{Goes, Rests}
 use Rattle.grid_server.specs.Stores.{StoresGo}
 use Rattle.grid_server.specs.Safe.{AreWhole, HaveNoFiles, KeepWhole, IsKnown}
 use Rattle.grid_server.specs.Opening.{begun as begun_run}
@@ -31,7 +31,7 @@ use Rattle.grid_server.specs.Deciding.{IsStoring}
 use Rattle.grid_server.specs.declared.decision.Storing.{Storing}
 use Rattle.grid_server.specs.declared.server.Server.{Server}
 use Rattle.grid_server.specs.declared.server.Stop.{Stop}
-use Rattle.grid_server.proofs.StoredRows.{good_rows_still, whole_still, good_rows_begun, whole_begun, good_rows_kept, whole_kept, orphan_named, begun, kept}
+use Rattle.grid_server.proofs.StoredRows.{good_rows_still, whole_still}
 use Rattle.grid_server.proofs.KeepingLemmas.{held_stands, rests_same}
 use Rattle.grid_server.proofs.StoringLemmas.{stores_went}
 
@@ -105,15 +105,6 @@ module _ {B : Type 0} (state : B → StoreState) where
     left = λ k before after was is image left. ((keep.looks k before after was is).left t image).0 left;
   })
 
-  -- one commit, of changes after which all is whole
-  pub keep_commit : (from : ℕ) (old_server new_server : Server) (after : Cat) (main_old main_new : DiskState) (result : _) (stores : List B) → IsCommitted old_server after from main_old main_new result new_server
-      → ((t : ℕ) → from < t → AreWhole state t old_server.store.cat stores → AreWhole state t after stores) → KeepWhole state from old_server.store.cat main_old main_new stores stores
-  keep_commit from old_server new_server after main_old main_new result stores committed step told settled whole t image d late left stands =
-      elim (one_of image old_server.store.cat after d (committed.leaves told settled t image late left) stands) [
-        | inl is ↦ whole_of t old_server.store.cat d stores is (whole t late)
-        | inr is ↦ whole_of t after d stores is (step t late (whole t late))
-      ]
-
   -- a run was begun, or how far that came
   pub keep_begun : (from : ℕ) (c : Cat) (main_old main_new : DiskState) (stores : List B) → (IsTrue main_old.tells → IsSettled main_old → Leaves from (StandsEither c (begun_run c)) main_new) → KeepWhole state from c main_old main_new stores stores
   keep_begun from c main_old main_new stores leaves told settled whole t image d late left stands = elim (one_of image c (begun_run c) d (leaves told settled t image late left) stands) [
@@ -173,121 +164,3 @@ module _ {B : Type 0} (state : B → StoreState) where
     where
       held_here : IsTrue main_mid.tells → StandsFor main_mid.holds s.store.cat
       held_here t = held_stands main_mid s held t
-
-  -- the orphan is kept
-  pub whole_begun_all : (c : Cat) (m : IsMade c) (st : Storing) (p : Path) (leaf body : Text) (ok : IsStoring c p leaf body st) (t : ℕ) (stores : List B) → AreWhole state t c stores → AreWhole state t (begun c m st p leaf body ok) stores
-  whole_begun_all c m st p leaf body ok t stores w = record {
-    rows = good_rows_begun c m st p leaf body ok w.rows;
-    files = λ slot store image is told left. whole_begun c m st p leaf body ok slot image (w.files slot store image is told left);
-  }
-
-  -- ---- the file of a put
-
-  module _ (c : Cat) (m : IsMade c) (st : Storing) (p : Path) (leaf body : Text) (ok : IsStoring c p leaf body st) (from to : ℕ) (files : List NewFile) (one : files ≡ record { slot = st.slot; name = c.numbers.next_vault } ∷ []) (old new : List B) (writes : WritesOnly state from to files old new) where
-    abbrev first : Cat
-    first = begun c m st p leaf body ok
-
-    among : (slot name : ℕ) → IsAmong files slot name → (slot ≡ st.slot) × (name ≡ c.numbers.next_vault)
-    among slot name is = by_place is.place (ap (λ (fs : List NewFile). slice_get fs is.place) (sym one) ∙ is.is)
-      where
-        by_place : (k : ℕ) → slice_get (record { slot = st.slot; name = c.numbers.next_vault } ∷ []) k ≡ Some is.file → (slot ≡ st.slot) × (name ≡ c.numbers.next_vault)
-        by_place zero e = let same : is.file ≡ record { slot = st.slot; name = c.numbers.next_vault } = cc in (sym is.slot_is ∙ ap (λ (f : NewFile). f.slot) same, sym is.name_is ∙ ap (λ (f : NewFile). f.name) same)
-        by_place (suc k) e = absurd (cc)
-
-    written : (slot : ℕ) (before image : Files) → WritesAmong files slot before image → IsWhole first slot before → IsWhole first slot image
-    written slot before image step w = record {
-      good = all_from_in _ first.replicas (λ r here is at.
-          let its = in_from_all (λ (r : ReplicaRow). IsTrue r.good → leaf_slot c r.leaf ≡ Some slot → IsFinishedAs r.size r.digest (file_at before r.vault)) first.replicas w.good r here is at in
-          record { bytes = its.bytes; is = step.stable r.vault its.bytes its.is; has = its.has });
-      accounted = λ name file is. by_name name file is (eqb_tells slot st.slot) (eqb_tells name c.numbers.next_vault);
-    }
-      where
-        other : (name : ℕ) (file : File) → file_at image name ≡ Some file → (IsAmong files slot name → ⊥) → IsNamed first slot name
-        other name file is none = w.accounted name file (sym (step.others name none) ∙ is)
-
-        by_name : (name : ℕ) (file : File) → file_at image name ≡ Some file → ((slot == st.slot) ≡ true) × (slot ≡ st.slot) ⊎ ((slot == st.slot) ≡ false) × (slot ≢ st.slot) → ((name == c.numbers.next_vault) ≡ true) × (name ≡ c.numbers.next_vault) ⊎ ((name == c.numbers.next_vault) ≡ false) × (name ≢ c.numbers.next_vault) → IsNamed first slot name
-        by_name name file is (inl here) (inl this) =
-            let P : ℕ → ℕ → Type 0 = λ s n. IsNamed first s n in
-            subst (λ s. P s name) (sym here.1) (subst (λ n. P st.slot n) (sym this.1) (orphan_named c m st p leaf body ok))
-        by_name name file is (inr off) that = other name file is (λ a. off.1 (among slot name a).0)
-        by_name name file is (inl here) (inr off) = other name file is (λ a. off.1 (among slot name a).1)
-
-    pub whole_written : (t : ℕ) → from < t → AreWhole state (from + 1) first old → AreWhole state t first new
-    whole_written t late w = record {
-      rows = w.rows;
-      files = λ slot store image is told left.
-          let was = at_place old slot (omega (arith, slice_get_within new slot store is, writes.count)) in
-          let between = writes.each slot was.0 store was.1 is in
-          let told_before : IsTrue (state was.0).tells = subst IsTrue between.tells told in
-          let step = between.images told_before t image late left in
-          written slot step.0 image step.2 (w.files slot was.0 step.0 was.1 told_before step.1);
-    }
-
-    -- and its object is kept
-    pub whole_stored : (time n t : ℕ) → from < t → ((slot : ℕ) (store : B) → slice_get new slot ≡ Some store → (state store).last < t) → All (IsStableAt state new st.body) files → AreWhole state (from + 1) first old
-        → AreWhole state t (kept c m st p leaf body ok time n) new
-    whole_stored time n t late past stable w =
-        let mid = whole_written t late w in
-        record {
-          rows = good_rows_kept c m st p leaf body ok time n w.rows;
-          files = λ slot store image is told left.
-              whole_kept c m st p leaf body ok time n slot image (λ at. (its_file slot store is at told).left t image (past slot store is) left) (mid.files slot store image is told left);
-        }
-      where
-        its_file : (slot : ℕ) (store : B) → slice_get new slot ≡ Some store → slot ≡ st.slot → IsTrue (state store).tells → IsStable c.numbers.next_vault st.body (state store)
-        its_file slot store is at told =
-            let P : List NewFile → Type 0 = λ fs. All (IsStableAt state new st.body) fs in
-            let Q : ℕ → Type 0 = λ s. slice_get new s ≡ Some store in
-            (subst P one stable) 0 (record { slot = st.slot; name = c.numbers.next_vault }) (omega arith) store (subst Q at is) told
-
--- the writing of a file and the keeping of its object
-module _ {B : Type 0} (state : B → StoreState) (old : Server) (st : Storing) (p : Path) (leaf body : Text) (ok : IsStoring old.store.cat p leaf body st) (main_old main_mid : DiskState) (held : IsHeld main_old old) (from at : ℕ) (main_last : main_old.last ≤ from) (later : from ≤ at)
-    (mid : Server) (committed : IsCommitted old (begun old.store.cat held.made st p leaf body ok) from main_old main_mid (Ok tt) mid) (mid_last : main_mid.last ≤ at)
-    (to : ℕ) (later_still : at ≤ to) (files : List NewFile) (one : files ≡ record { slot = st.slot; name = old.store.cat.numbers.next_vault } ∷ []) (stores_old stores_new : List B) (writes : WritesOnly state at to files stores_old stores_new) where
-  abbrev c : Cat
-  c = old.store.cat
-
-  abbrev orphaned : Cat
-  orphaned = begun c held.made st p leaf body ok
-
-  module _ (told : IsTrue main_old.tells) (settled : IsSettled main_old) (whole : (t : ℕ) → from < t → AreWhole state t c stores_old) where
-    orphaned_whole : (t : ℕ) → from < t → AreWhole state t orphaned stores_old
-    orphaned_whole t late = whole_begun_all state c held.made st p leaf body ok t stores_old (whole t late)
-
-    mid_told : IsTrue main_mid.tells
-    mid_told = subst IsTrue (sym committed.main.tells) told
-
-    mid_stands : StandsFor main_mid.holds orphaned
-    mid_stands = let P : Cat → Type 0 = λ x. StandsFor main_mid.holds x in subst P committed.ends.1 (held_stands main_mid mid committed.ends.0 mid_told)
-
-    -- at moments up to the second commit
-    pub written_whole : (t : ℕ) (image : Text) (d : Cat) → from < t → main_mid.left t image → StandsFor image d → AreWhole state t d stores_new
-    written_whole t image d late left stands = elim (cases_lt at t) [
-      | inl now ↦
-          let here : image ≡ main_mid.holds = committed.ends.3 told t image (omega (arith, now, mid_last)) left in
-          let P : Text → Type 0 = λ m. StandsFor m d in
-          let same : d ≡ orphaned = one_cat main_mid.holds orphaned d mid_stands (subst P here stands) in
-          whole_of state t orphaned d stores_new same (whole_written state c held.made st p leaf body ok at to files one stores_old stores_new writes t now (orphaned_whole (at + 1) (omega (arith, later))))
-      | inr before ↦
-          whole_less state t d stores_old stores_new (before_them state t at stores_old stores_new before (stores_went state at at to files stores_old stores_new (omega arith) writes))
-          (elim (one_of image c orphaned d (committed.leaves told settled t image late left) stands) [
-            | inl is ↦ whole_of state t c d stores_old is (whole t late)
-            | inr is ↦ whole_of state t orphaned d stores_old is (orphaned_whole t late)
-          ])
-    ]
-
-  -- nothing more was done
-  pub keep_written : KeepWhole state from c main_old main_mid stores_old stores_new
-  keep_written told settled whole t image d late left stands = written_whole told settled whole t image d late left stands
-
-  -- its object was committed, or how far that came
-  pub keep_stored : (time n : ℕ) (main_new : DiskState) (new : Server) (result : Result ⊤ Stop) → IsCommitted mid (kept c held.made st p leaf body ok time n) to main_mid main_new result new
-      → EachMember (λ k store. (state store).last ≤ to) stores_new → All (IsStableAt state stores_new st.body) files → KeepWhole state from c main_old main_new stores_old stores_new
-  keep_stored time n main_new new result again lasts stable told settled whole t image d late left stands = elim (cases_lt to t) [
-    | inl now ↦ elim (one_of image mid.store.cat (kept c held.made st p leaf body ok time n) d (again.leaves (mid_told told settled whole) (committed.ends.3 told) t image now left) stands) [
-      | inl is ↦ whole_of state t orphaned d stores_new (is ∙ committed.ends.1) (whole_written state c held.made st p leaf body ok at to files one stores_old stores_new writes t (omega (arith, now, later_still)) (orphaned_whole told settled whole (at + 1) (omega (arith, later))))
-      | inr is ↦ whole_of state t (kept c held.made st p leaf body ok time n) d stores_new is
-          (whole_stored state c held.made st p leaf body ok at to files one stores_old stores_new writes time n t (omega (arith, now, later_still)) (λ slot store is. omega (arith, lasts slot store is, now)) stable (orphaned_whole told settled whole (at + 1) (omega (arith, later))))
-    ]
-    | inr before ↦ written_whole told settled whole t image d late (again.main.earlier t image before left) stands
-  ]

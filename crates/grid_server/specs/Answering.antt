@@ -8,9 +8,9 @@ use Rattle.grid_outside.specs.Sink.{SinkState, AddsPart}
 use Rattle.grid_outside.specs.declared.outside.Wear.TheVariants.{Log, Vaults}
 use Rattle.grid_model.specs.Names.{Text}
 use Rattle.grid_model.specs.Rows.{Cat}
-use Rattle.grid_model.specs.Commands.{Done, Comes, act}
-use Rattle.grid_model.specs.Replies.{reply}
-use Rattle.grid_model.specs.declared.requests.Verb.{Verb}
+use Rattle.grid_server.specs.Commands.{Done, Comes, act}
+use Rattle.grid_server.specs.Shown.{reply}
+use Rattle.grid_server.specs.declared.verbs.Verb.{Verb}
 use Rattle.grid_model.specs.declared.refusal.Refusal.{Refusal}
 use Rattle.grid_server.specs.declared.server.Server.{Server}
 use Rattle.grid_server.specs.declared.server.Stop.{Stop}

@@ -8,13 +8,13 @@ use Rattle.grid_model.specs.RowGrids.{grid_of}
 use Rattle.grid_model.specs.NewRows.{IsFreeAt, IsNewAt}
 use Rattle.grid_model.specs.Grid.{Object}
 use Rattle.grid_model.specs.Whole.{leaf_slot}
-use Rattle.grid_model.specs.Commands.{State, Act, does, writes, reads, act, make, made, put_at, refused, log_in}
+use Rattle.grid_server.specs.Commands.{State, Act, does, writes, reads, act, make, made, put_at, refused, log_in}
 use Rattle.grid_model.specs.declared.deltas.CollectionRow.{CollectionRow}
 use Rattle.grid_model.specs.declared.deltas.ObjectRow.{ObjectRow}
 use Rattle.grid_model.specs.declared.deltas.ReplicaRow.{ReplicaRow}
 use Rattle.grid_model.specs.declared.plans.OldFile.{OldFile}
-use Rattle.grid_model.specs.declared.requests.Verb.{Verb}
-use Rattle.grid_model.specs.declared.requests.Verb.TheVariants.{Get}
+use Rattle.grid_server.specs.declared.verbs.Verb.{Verb}
+use Rattle.grid_server.specs.declared.verbs.Verb.TheVariants.{Get}
 use Rattle.grid_model.specs.declared.refusal.Refusal.{Refusal}
 use Rattle.grid_server.specs.declared.server.Server.{Server}
 use Rattle.grid_server.specs.declared.decision.Decision.{Decision}

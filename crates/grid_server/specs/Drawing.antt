@@ -1,7 +1,7 @@
 -- What marks tell of the words and times that the ambient gave.
 use Rattle.std.specs.Prelude.{◌≡◌, ℕ, List, [], ◌∷◌, ◌++◌, flat_map, IsTrue}
 use Rattle.grid_outside.specs.Ambient.{AmbientState}
-use Rattle.grid_model.specs.Commands.{Done}
+use Rattle.grid_server.specs.Commands.{Done}
 use Rattle.grid_model.specs.declared.marks.Mark.{Mark}
 use Rattle.grid_model.specs.declared.marks.Mark.TheVariants.{Ran}
 

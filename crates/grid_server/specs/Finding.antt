@@ -1,11 +1,11 @@
 -- What the getting of an object is found to come to.
 use Rattle.std.specs.Prelude.{◌≡◌, ℕ, Bool, true, false, ◌&&◌, ◌==◌, List, [], ◌∷◌, Option, None, Some, find, option_map}
 use Rattle.grid_model.specs.Names.{Text, Path, same_text}
-use Rattle.grid_model.specs.Requests.{any_resource}
+use Rattle.grid_server.specs.VerbLines.{any_resource}
 use Rattle.grid_model.specs.Rows.{Cat, replicas_of}
 use Rattle.grid_model.specs.RowGrids.{grid_of}
 use Rattle.grid_model.specs.Grid.{Object}
-use Rattle.grid_model.specs.Commands.{State, does, reads, get_at, refused}
+use Rattle.grid_server.specs.Commands.{State, does, reads, get_at, refused}
 use Rattle.grid_model.specs.declared.deltas.ObjectRow.{ObjectRow}
 use Rattle.grid_model.specs.declared.deltas.ReplicaRow.{ReplicaRow}
 use Rattle.grid_model.specs.declared.plans.OldFile.{OldFile}

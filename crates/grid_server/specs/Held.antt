@@ -6,20 +6,15 @@ use Rattle.grid_model.specs.Names.{Text}
 use Rattle.grid_model.specs.Rows.{Cat}
 use Rattle.grid_model.specs.RowGrids.{grid_of}
 use Rattle.grid_model.specs.Applying.{IsMade}
-use Rattle.grid_model.specs.Commands.{State}
+use Rattle.grid_server.specs.Commands.{State}
 use Rattle.grid_journal.specs.Journal.{Keeps}
+pub use Rattle.grid_deed.specs.Held.{ClosesAt}
 use Rattle.grid_server.specs.declared.server.Server.{Server}
 use Rattle.grid_server.specs.Wearing.{KeepsNumbers}
 
 -- the grid of the rows in memory, and whether a user is logged in
 abbrev pub state_of : Server → State
 state_of s = record { grid = grid_of s.store.cat; logged_in = s.logged_in }
-
--- the log on main closes at this place
-pub record ClosesAt (main : Text) (place : ℕ) : Type 0 where
-  pub records : List (List ℕ)
-  pub log : IsLog 16 records main
-  pub place_is : place ≡ 16 + length (frames records)
 
 -- The catalogue is of the same run, stands for the same grid after the same commands, and has the same command that is not
 -- done. So orphans may be others, the next vault number may have risen, and ids and the text of the rules may be others.

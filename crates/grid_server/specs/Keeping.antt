@@ -6,12 +6,13 @@ use Rattle.grid_outside.specs.declared.outside.Wear.TheVariants.{Log}
 use Rattle.grid_model.specs.Names.{Text}
 use Rattle.grid_model.specs.Rows.{Cat}
 use Rattle.grid_model.specs.RowGrids.{grid_of}
-use Rattle.grid_model.specs.Commands.{Done}
+use Rattle.grid_server.specs.Commands.{Done}
 use Rattle.grid_journal.specs.Stands.{StandsEither, StandsFor}
 use Rattle.grid_server.specs.declared.server.Server.{Server}
 use Rattle.grid_server.specs.declared.server.Stop.{Stop}
 use Rattle.grid_server.specs.declared.server.Stop.TheVariants.{Disk, Sink, Memory, Worn}
 use Rattle.grid_server.specs.Wearing.{KeepsNumbers}
+pub use Rattle.grid_deed.specs.Frame.{Goes}
 use Rattle.grid_server.specs.Held.{state_of, ClosesAt, IsLike, IsHeld}
 
 -- ---- devices
@@ -24,13 +25,6 @@ Adds text old new = IsTrue old.tells → new.holds ≡ old.holds ++ text
 abbrev pub Stays : DeviceState (List ℕ) → DeviceState (List ℕ) → Type 0
 Stays old new = IsTrue old.tells → new.holds ≡ old.holds
 
--- The calls of a device since so many moments were drawn: a stop at one of these leaves nothing that it could not leave
--- before.
-pub record Goes {C : Type 0} (from : ℕ) (old new : DeviceState C) : Type 0 where
-  pub faults : old.faults ≤ new.faults
-  pub tells : new.tells ≡ old.tells
-  pub earlier : (t : ℕ) (image : C) → t ≤ from → new.left t image → old.left t image
-
 -- nothing of the device was called but what changes nothing: it holds what it held, and a stop leaves nothing that it could
 -- not leave before
 pub record Rests (old new : DeviceState (List ℕ)) : Type 0 where
@@ -39,22 +33,6 @@ pub record Rests (old new : DeviceState (List ℕ)) : Type 0 where
   pub last : new.last ≡ old.last
   pub stays : Stays old new
   pub left : (t : ℕ) (image : List ℕ) → new.left t image → old.left t image
-
--- ---- one commit
-
--- how a commit ended that leads to this catalogue
-abbrev pub CommitEnds : Server → Cat → DiskState → DiskState → Result ⊤ Stop → Server → Type 0
-CommitEnds old after main_old main_new (Ok done) new = IsHeld main_new new × (new.store.cat ≡ after) × (new.logged_in ≡ old.logged_in) × (IsTrue main_old.tells → IsSettled main_new)
-CommitEnds old after main_old main_new (Err Sink) new = ⊥
-CommitEnds old after main_old main_new (Err Disk) new = Unit {0}
-CommitEnds old after main_old main_new (Err Memory) new = Rests main_old main_new
-CommitEnds old after main_old main_new (Err (Worn what place)) new = (what ≡ Log) × (place ≡ old.store.log.gate) × (2 ^ 62 < place) × Rests main_old main_new
-
--- Changes that lead to this catalogue were committed, or how far that came, from so many moments on.
-pub record IsCommitted (old : Server) (after : Cat) (from : ℕ) (main_old main_new : DiskState) (result : Result ⊤ Stop) (new : Server) : Type 0 where
-  pub ends : CommitEnds old after main_old main_new result new
-  pub main : Goes from main_old main_new
-  pub leaves : IsTrue main_old.tells → IsSettled main_old → Leaves from (StandsEither old.store.cat after) main_new
 
 -- ---- one request
 

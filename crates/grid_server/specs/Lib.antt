@@ -11,6 +11,7 @@ pub mod Plain
 pub mod Reading
 pub mod Replying
 pub mod Requests
+pub mod RunEnds
 pub mod Running
 pub mod Safe
 pub mod Sending
@@ -22,3 +23,6 @@ pub mod Storing
 pub mod Tasks
 pub mod Turning
 pub mod Wearing
+pub mod Commands
+pub mod VerbLines
+pub mod Shown

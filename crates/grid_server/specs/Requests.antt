@@ -3,9 +3,9 @@ use Rattle.std.specs.Prelude.{ℕ, nat_le, Bool, true, false, List, [], length, 
 use Rattle.grid_model.specs.Names.{Text}
 use Rattle.grid_model.specs.Limits.{object_size}
 use Rattle.grid_model.specs.Inputs.{PromisesBody}
-use Rattle.grid_model.specs.Requests.{SpellsVerb, kept_body, promised}
-use Rattle.grid_model.specs.declared.requests.Verb.{Verb}
-use Rattle.grid_model.specs.declared.requests.Verb.TheVariants.{Login, MkDir, Put, Get}
+use Rattle.grid_server.specs.VerbLines.{SpellsVerb, kept_body, promised}
+use Rattle.grid_server.specs.declared.verbs.Verb.{Verb}
+use Rattle.grid_server.specs.declared.verbs.Verb.TheVariants.{Login, MkDir, Put, Get}
 use Rattle.grid_model.specs.declared.refusal.Refusal.{Refusal}
 use Rattle.grid_model.specs.declared.refusal.Refusal.TheVariants.{Truncated}
 

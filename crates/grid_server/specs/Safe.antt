@@ -7,21 +7,9 @@ use Rattle.grid_model.specs.Names.{Text}
 use Rattle.grid_model.specs.Rows.{Cat}
 use Rattle.grid_model.specs.Whole.{HasGoodRows, IsWhole}
 use Rattle.grid_journal.specs.Stands.{StandsFor}
+pub use Rattle.grid_deed.specs.Safe.{AreWhole, StayWhole, KeepWhole}
 
 module _ {B : Type 0} (state : B → StoreState) where
-  -- Good replicas are as their objects, and whatever a stop at this moment leaves of a store that tells is whole.
-  pub record AreWhole (t : ℕ) (c : Cat) (stores : List B) : Type 0 where
-    pub rows : HasGoodRows c
-    pub files : (slot : ℕ) (store : B) (image : Files) → slice_get stores slot ≡ Some store → IsTrue (state store).tells → (state store).left t image → IsWhole c slot image
-
-  -- they are at each moment after so many, by whatever catalogue a stop leaves of main
-  abbrev pub StayWhole : ℕ → DiskState → List B → Type 0
-  StayWhole from main stores = (t : ℕ) (image : Text) (c : Cat) → from < t → main.left t image → StandsFor image c → AreWhole t c stores
-
-  -- where they were whole by this catalogue, and nothing was pending on main
-  abbrev pub KeepWhole : ℕ → Cat → DiskState → DiskState → List B → List B → Type 0
-  KeepWhole from c main_old main_new stores_old stores_new = IsTrue main_old.tells → IsSettled main_old → ((t : ℕ) → from < t → AreWhole t c stores_old) → StayWhole from main_new stores_new
-
   -- a stop at this moment leaves no file in a store that tells
   abbrev pub HaveNoFiles : ℕ → List B → Type 0
   HaveNoFiles t stores = (slot : ℕ) (store : B) (image : Files) → slice_get stores slot ≡ Some store → IsTrue (state store).tells → (state store).left t image → (name : ℕ) → file_at image name ≡ None
@@ -30,7 +18,7 @@ module _ {B : Type 0} (state : B → StoreState) where
   -- each moment after so many.
   pub record IsKnown (from : ℕ) (c : Cat) (main : DiskState) (stores : List B) (slot : ℕ) : Type 0 where
     pub settled : IsSettled main
-    pub whole : (t : ℕ) → from < t → AreWhole t c stores
+    pub whole : (t : ℕ) → from < t → AreWhole state t c stores
     pub store : B
     pub is : slice_get stores slot ≡ Some store
     pub tells : IsTrue (state store).tells

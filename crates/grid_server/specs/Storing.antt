@@ -5,7 +5,7 @@ use Rattle.grid_outside.specs.Disk.{DiskState}
 use Rattle.grid_outside.specs.Files.{StoreState}
 use Rattle.grid_model.specs.Names.{Text, Path}
 use Rattle.grid_model.specs.Rows.{Cat}
-use Rattle.grid_model.specs.Commands.{stored, failed}
+use Rattle.grid_server.specs.Commands.{stored, failed}
 use Rattle.grid_model.specs.Replies.{mark_line, end_line}
 use Rattle.grid_model.specs.declared.marks.Mark.TheVariants as mark
 use Rattle.grid_model.specs.declared.replies.End.TheVariants as end

@@ -7,11 +7,12 @@ use Rattle.grid_model.specs.Limits.{object_size}
 use Rattle.grid_model.specs.Rows.{Cat}
 use Rattle.grid_model.specs.Whole.{Naming, Names}
 use Rattle.grid_model.specs.Inputs.{Asked}
-use Rattle.grid_model.specs.Requests.{Asks}
-use Rattle.grid_model.specs.Commands.{State, Done, Act, does, writes, reads, act}
-use Rattle.grid_model.specs.declared.requests.Verb.{Verb}
-use Rattle.grid_model.specs.declared.requests.Verb.TheVariants.{Put}
+use Rattle.grid_server.specs.VerbLines.{Asks}
+use Rattle.grid_server.specs.Commands.{State, Done, Act, does, writes, reads, act}
+use Rattle.grid_server.specs.declared.verbs.Verb.{Verb}
+use Rattle.grid_server.specs.declared.verbs.Verb.TheVariants.{Put}
 use Rattle.grid_model.specs.declared.refusal.Refusal.{Refusal}
+pub use Rattle.grid_deed.specs.Frame.{AddsTo, AddsInRoom}
 
 -- ---- numbers of vault files
 
@@ -51,18 +52,3 @@ pub data GivesNumbers : State → ℕ → List Asked → List Done → State →
 pub record KeepsNumbers (before after : Cat) : Type 0 where
   pub rises : before.numbers.next_vault ≤ after.numbers.next_vault
   pub names : (slot name : ℕ) (row : Naming) → name < before.numbers.next_vault → Names after slot name row → Names before slot name row
-
--- ---- room behind the log
-
--- records were added to a log, and the gate of the last of them stands at this place
-pub record AddsTo (old new : Text) (place : ℕ) : Type 0 where
-  pub records : List (List ℕ)
-  pub log_old : IsLog 16 records old
-  pub more : List (List ℕ)
-  pub body : List ℕ
-  pub log : IsLog 16 ((records ++ more) ++ body ∷ []) new
-  pub place_is : place ≡ 16 + length (frames (records ++ more))
-
--- the disk holds what it held, or records were added to its log, the last of them where there was room: at a gate up to 2^62
-abbrev pub AddsInRoom : DiskState → DiskState → Type 0
-AddsInRoom old new = IsTrue old.tells → (new.holds ≡ old.holds) ⊎ ((place : ℕ) × (place ≤ 2 ^ 62) × AddsTo old.holds new.holds place)

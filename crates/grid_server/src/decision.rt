@@ -2,7 +2,7 @@ ghost use Rattle.std.specs.Prelude.{◌≡◌, ◌≢◌, ◌≤◌, ◌<◌, �
 ghost use Rattle.std.specs.List.{list_any};
 ghost use Rattle.std.specs.List.Sorted.{IsStrictlyIncreasing};
 ghost use Rattle.grid_model.specs.Names.{parent as parent_of};
-ghost use Rattle.grid_model.specs.Commands.{is_there, has_user_named};
+ghost use Rattle.grid_server.specs.Commands.{is_there, has_user_named};
 ghost use Rattle.grid_model.specs.RowGrids.{grid_of};
 ghost use Rattle.grid_model.specs.Applying.{IsMade, is_group_kind, is_storage};
 ghost use Rattle.grid_server.specs.Wearing.{last_vault};
@@ -11,9 +11,8 @@ ghost use Rattle.grid_server.specs.Deciding.{DecidesMaking, DecidesPutting, IsFr
 use crate::finding::object_to_send;
 use crate::request::OBJECT_SIZE;
 use crate::server::Server;
-use grid_model::{
-    Bytes, CollectionRow, OldFile, Path, Refusal, ResourceKind, Text, UserKind, Verb,
-};
+use crate::verbs::Verb;
+use grid_model::{Bytes, CollectionRow, OldFile, Path, Refusal, ResourceKind, Text, UserKind};
 use grid_tables::{Kind, Tables};
 use std::alloc::{AllocError, Global};
 

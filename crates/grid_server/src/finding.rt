@@ -1,7 +1,7 @@
 ghost use Rattle.std.specs.Prelude.{◌≡◌, ◌||◌, Some, is_some, option_map};
 ghost use Rattle.grid_model.specs.Applying.{IsMade};
 ghost use Rattle.grid_model.specs.Names.{Path as PathOf, same_text};
-ghost use Rattle.grid_model.specs.Requests.{any_resource};
+ghost use Rattle.grid_server.specs.VerbLines.{any_resource};
 ghost use Rattle.grid_model.specs.Rows.{object as object_row, replicas_of};
 ghost use Rattle.grid_model.specs.RowPaths.{object_at};
 ghost use Rattle.grid_server.specs.Finding.{DecidesGetting, leaf_asked, is_asked, slot_to_read, first_to_read, to_read, file_of};

@@ -15,6 +15,7 @@ mod server;
 mod serving;
 mod status;
 mod storing;
+mod verbs;
 mod words;
 
 pub use running::run;

@@ -3,11 +3,12 @@ ghost use Rattle.grid_model.specs.Lines.{is_blank, is_request};
 ghost use Rattle.std.specs.List.{list_any};
 ghost use Rattle.grid_model.specs.Names.{Path as PathOf, SpellsPath, same_text};
 ghost use Rattle.grid_model.specs.Inputs.{HasBody, verbs_with_body};
-ghost use Rattle.grid_model.specs.Requests.{Asks};
+ghost use Rattle.grid_server.specs.VerbLines.{Asks};
 ghost use Rattle.grid_server.specs.Requests.{AreOf, Promise, asked_with, held_body, is_held};
 
 use crate::lines::is_same;
-use grid_model::{Path, PathError, Refusal, Text, Verb, read_number};
+use crate::verbs::Verb;
+use grid_model::{Path, PathError, Refusal, Text, read_number};
 use req_words::{WordError, words};
 use std::alloc::{AllocError, Global};
 
@@ -96,7 +97,7 @@ pub(crate) fn read_request(alloc: Global, line: &[u8]) -> Result<Request, AllocE
             let count = body_count(alloc, words.as_slice())?.unwrap_or(0);
             match read_verb(alloc, words.as_slice())? {
                 Some(verb) => Ok(with(Ok(verb), count)),
-                None => Ok(with(Err(Refusal::NotBuilt), count)),
+                None => Ok(with(Err(Refusal::UnknownCommand), count)),
             }
         }
         Err(WordError::TooLong) => Ok(with(Err(Refusal::TooLong), 0)),

@@ -6,7 +6,7 @@ ghost use Rattle.grid_vault.specs.Vault.{RoseAt};
 ghost use Rattle.grid_vault.specs.Sending.{AtSlot};
 ghost use Rattle.grid_model.specs.Names.{Path as PathOf};
 ghost use Rattle.grid_model.specs.Grid.{Object};
-ghost use Rattle.grid_model.specs.Commands.{act, reads};
+ghost use Rattle.grid_server.specs.Commands.{act, reads};
 ghost use Rattle.grid_model.specs.DataLines.{parts};
 ghost use Rattle.grid_model.specs.Writable.{is_word};
 ghost use Rattle.grid_server.specs.Held.{state_of};
@@ -18,7 +18,8 @@ ghost use Rattle.grid_server.specs.Wearing.{HasNumber};
 
 use crate::replying::{mark_and_end, put_text};
 use crate::server::{Server, Stop};
-use grid_model::{BadReplicas, Digest, End, Mark, OldFile, Refusal, Text, Texts, Verb};
+use crate::verbs::Verb;
+use grid_model::{BadReplicas, Digest, End, Mark, OldFile, Refusal, Text, Texts};
 use grid_outside::{Ambient, Disk, Outside, Plugin, Sink};
 use grid_vault::{SendError, Sent, send};
 use std::alloc::{AllocError, Global};

@@ -1,20 +1,17 @@
 ghost use Rattle.std.specs.Prelude.{Bool, ◌≡◌, ℕ, ◌+◌, ◌^◌, ◌<◌, ◌≤◌, IsTrue, IsErrOf, IsOk, Ok, vec_len};
-ghost use Rattle.std.specs.List.{list_all};
 ghost use Rattle.grid_outside.specs.Device.{EachMember};
 ghost use Rattle.grid_outside.specs.Fault.{Rose};
 ghost use Rattle.grid_vault.specs.Vault.{RoseAt};
-ghost use Rattle.grid_model.specs.Rows.{Cat};
-ghost use Rattle.grid_model.specs.Applying.{apply_all};
-ghost use Rattle.grid_journal.specs.Journal.{can_be_kept};
 ghost use Rattle.grid_server.specs.Safe.{KeepWhole};
 ghost use Rattle.grid_server.specs.Stores.{StoresGo};
 ghost use Rattle.grid_server.specs.Stopping.{IsOfCommit, stop_of};
 ghost use Rattle.grid_server.specs.Wearing.{AddsInRoom};
 
 use crate::decision::Decision;
+use crate::verbs::Verb;
 use grid_journal::{JournalError, Store};
-use grid_model::{Deltas, Refusal, Verb};
-use grid_outside::{Ambient, Disk, Moments, Outside, Plugin, Sink, Wear};
+use grid_model::Refusal;
+use grid_outside::{Ambient, Disk, Outside, Plugin, Sink, Wear};
 use std::alloc::Global;
 
 /// Why a run ends in the middle of a request.
@@ -36,7 +33,6 @@ pub(crate) struct Server {
 
 impl Server {
     ghost use Rattle.grid_server.specs.Held.{IsHeld};
-    ghost use Rattle.grid_server.specs.Keeping.{IsCommitted};
     ghost use Rattle.grid_server.specs.Answering.{Answers};
 
     /// Answers a request: it is decided, what it changes is kept, and then the reply is written.
@@ -82,41 +78,10 @@ impl Server {
             Err(_) => Err(Stop::Memory),
         }
     }
-
-    /// Applies changes to the rows and keeps them on main. None of them is refused, and each can be kept.
-    pub(crate) fn commit<D: Disk>(
-        &mut self,
-        alloc: Global,
-        main: &mut D,
-        spare: &mut D,
-        moments: &mut Moments,
-        deltas: Deltas,
-    ) -> Result<(), Stop>
-        requires held { IsHeld (D.disk main.old) self.old }
-        requires apply { IsOk (apply_all self.old.store.cat deltas) }
-        requires spelled { IsTrue (list_all can_be_kept deltas) }
-        requires main_last { (D.disk main.old).last ≤ moments.old }
-        requires room { moments.old + 4 < 2 ^ 128 }
-        ensures committed { (after : Cat) → apply_all self.old.store.cat deltas ≡ Ok after →
-            IsCommitted self.old after moments.old (D.disk main.old) (D.disk main.new) result self.new }
-        ensures main_last { (D.disk main.new).last ≤ moments.new }
-        ensures in_room { ¬ IsErrOf result Stop.Disk → AddsInRoom (D.disk main.old) (D.disk main.new) }
-        ensures disk { IsErrOf result Stop.Disk → Rose (D.disk main.old).faults (D.disk main.new).faults }
-        ensures later { (D.disk main.old).faults ≤ (D.disk main.new).faults }
-        ensures no_sink { (IsErrOf result Stop.Sink) → ⊥ }
-        ensures drawn_from { moments.old ≤ moments.new }
-        ensures drawn { moments.new ≤ moments.old + 4 }
-        ensures spare { spare.new ≡ spare.old }
-    {
-        match self.store.commit(alloc, main, spare, moments, deltas) {
-            Ok(()) => Ok(()),
-            Err(error) => Err(stop_of(error)),
-        }
-    }
 }
 
 // What stops a run whose commit failed so.
-fn stop_of(error: JournalError) -> Stop
+pub(crate) fn stop_of(error: JournalError) -> Stop
     requires { IsOfCommit error }
     ensures { result ≡ stop_of error }
 {

@@ -6,7 +6,7 @@ ghost use Rattle.grid_model.specs.Rows.{Cat};
 ghost use Rattle.grid_model.specs.RowGrids.{grid_of};
 ghost use Rattle.grid_model.specs.Lines.{is_request};
 ghost use Rattle.grid_model.specs.Inputs.{HasBody};
-ghost use Rattle.grid_model.specs.Requests.{Asks};
+ghost use Rattle.grid_server.specs.VerbLines.{Asks};
 ghost use Rattle.grid_server.specs.Held.{IsHeld};
 ghost use Rattle.grid_server.specs.Keeping.{Goes};
 ghost use Rattle.grid_server.specs.Safe.{KeepWhole};
@@ -21,7 +21,8 @@ use crate::Status;
 use crate::line_reader::{Ended, HELD, LineReader, MOST, Passed, ReadError};
 use crate::request::{Request, is_request, read_request};
 use crate::server::{Server, Stop};
-use grid_model::{Refusal, Verb};
+use crate::verbs::Verb;
+use grid_model::Refusal;
 use grid_outside::{Ambient, Disk, Outside, Plugin, Sink, Source, SourceFault};
 use std::alloc::{AllocError, Global};
 

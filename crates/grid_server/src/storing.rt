@@ -8,7 +8,7 @@ ghost use Rattle.grid_model.specs.Deltas.{digest as digest_part};
 ghost use Rattle.grid_journal.specs.Journal.{can_be_kept};
 ghost use Rattle.std.specs.List.{list_all};
 ghost use Rattle.grid_model.specs.Rows.{Cat};
-ghost use Rattle.grid_model.specs.Commands.{act, writes};
+ghost use Rattle.grid_server.specs.Commands.{act, writes};
 ghost use Rattle.grid_server.specs.Held.{state_of};
 ghost use Rattle.grid_server.specs.Safe.{KeepWhole};
 ghost use Rattle.grid_server.specs.Stores.{StoresGo};
@@ -16,17 +16,20 @@ ghost use Rattle.grid_server.specs.Deciding.{IsStoring};
 ghost use Rattle.grid_server.specs.Storing.{Stores, begun_deltas as begun_changes, stored_deltas as stored_changes, stored_reply};
 ghost use Rattle.grid_server.specs.Sending.{broken_reply};
 ghost use Rattle.grid_server.specs.Wearing.{AddsInRoom};
+ghost use Rattle.grid_deed.specs.Frame.{IsReady, Frame};
 
 use crate::decision::Storing;
 use crate::plain::name_is_text;
 use crate::replying::{mark_and_end, put_text};
-use crate::server::{Server, Stop};
+use crate::server::{Server, Stop, stop_of};
+use crate::verbs::Verb;
+use grid_deed::perform;
 use grid_model::{
-    BadReplicas, Delta, Deltas, Digest, End, Mark, NewFile, NewFiles, Numbers, ObjectRow,
-    OrphanRow, Refusal, ReplicaRow, Text, Texts, Verb,
+    BadReplicas, Bytes, Delta, Deltas, Digest, End, Mark, NewFile, NewFiles, Numbers, ObjectRow,
+    OldFiles, OrphanRow, Plan, Refusal, ReplicaRow, Text, Texts,
 };
 use grid_outside::{Ambient, Disk, Outside, Plugin, Sink};
-use grid_vault::{Fault, write_all};
+use grid_vault::Fault;
 use std::alloc::{AllocError, Global};
 
 impl Server {
@@ -93,67 +96,77 @@ impl Server {
     ) -> Result<Option<Fault>, Stop>
         requires held { IsHeld (D.disk outside.old.main) self.old }
         requires decided { (p : PathOf) × (leaf : TextOf) × (body : TextOf) × IsStoring self.old.store.cat p leaf body storing }
-        requires main_last { (D.disk outside.old.main).last ≤ outside.old.moments }
-        requires stores_last { EachMember (λ k store. (P.plugin store).last ≤ outside.old.moments) outside.old.stores.items }
         requires slots { self.old.store.cat.stores ≡ vec_len outside.old.stores }
-        requires room { outside.old.moments + 2 ^ 50 < 2 ^ 128 }
+        requires ready { IsReady D.disk P.plugin (2 ^ 50) outside.old }
         ensures stores { (p : PathOf) (leaf body : TextOf) → IsStoring self.old.store.cat p leaf body storing →
             Stores P.plugin outside.old.stores.items outside.new.stores.items self.old storing p leaf number now outside.old.moments
             (D.disk outside.old.main) (D.disk outside.new.main) result self.new }
-        ensures main_last { (D.disk outside.new.main).last ≤ outside.new.moments }
-        ensures stores_last { EachMember (λ k store. (P.plugin store).last ≤ outside.new.moments) outside.new.stores.items }
-        ensures stores_go { StoresGo P.plugin outside.old.moments outside.old.stores.items outside.new.stores.items }
+        ensures frame { Frame D.disk P.plugin (IsErrOf result Stop.Disk) outside.old outside.new }
         ensures whole { KeepWhole P.plugin outside.old.moments self.old.store.cat (D.disk outside.old.main) (D.disk outside.new.main) outside.old.stores.items outside.new.stores.items }
-        ensures in_room { ¬ IsErrOf result Stop.Disk → AddsInRoom (D.disk outside.old.main) (D.disk outside.new.main) }
-        ensures disk { IsErrOf result Stop.Disk → Rose (D.disk outside.old.main).faults (D.disk outside.new.main).faults }
         ensures no_sink { (IsErrOf result Stop.Sink) → ⊥ }
-        ensures drawn_from { outside.old.moments ≤ outside.new.moments }
         ensures drawn { outside.new.moments + 1 ≤ outside.old.moments + 2 ^ 50 }
-        ensures spare { outside.new.spare ≡ outside.old.spare }
-        ensures ambient { outside.new.ambient ≡ outside.old.ambient }
     {
         let numbers = self.store.tables().numbers();
-        let slot = storing.slot;
-        let name = numbers.next_vault;
-        let Ok(files) = one_file(alloc, NewFile { slot, name }) else {
+        let Ok(Planned { plan, body }) = plan_of(alloc, numbers, storing, now, number) else {
             return Err(Stop::Memory);
         };
-        let Ok(begun) = begun_deltas(alloc, numbers, slot) else {
-            return Err(Stop::Memory);
-        };
-        match self.commit(
-            alloc,
-            &mut outside.main,
-            &mut outside.spare,
-            &mut outside.moments,
-            begun,
-        ) {
-            Ok(()) => {}
-            Err(stop) => return Err(stop),
-        }
-        match write_all(
-            &mut outside.stores,
-            &mut outside.moments,
-            &files,
-            storing.body.as_slice(),
-        ) {
-            Ok(()) => {}
-            Err(fault) => return Ok(Some(fault)),
-        }
-        let Ok(kept) = stored_deltas(alloc, numbers, storing, now, number) else {
-            return Err(Stop::Memory);
-        };
-        match self.commit(
-            alloc,
-            &mut outside.main,
-            &mut outside.spare,
-            &mut outside.moments,
-            kept,
-        ) {
-            Ok(()) => Ok(None),
-            Err(stop) => Err(stop),
+        match perform(alloc, &mut self.store, outside, plan, body.as_slice()) {
+            Ok(answer) => Ok(answer),
+            Err(error) => Err(stop_of(error)),
         }
     }
+}
+
+// What is to be done, and the body of the file.
+#[derive(Drop)]
+struct Planned {
+    plan: Plan,
+    body: Bytes,
+}
+
+// Before its file is begun its number is drawn and it is an orphan, and after it was finished it is the object's.
+fn plan_of(
+    alloc: Global,
+    numbers: Numbers,
+    storing: Storing,
+    time: u64,
+    number: u64,
+) -> Result<Planned, AllocError>
+    requires vault { numbers.next_vault + 1 < 2 ^ 64 }
+    requires name { IsTrue (is_name storing.name) }
+    ensures before { (c : Cat) → c.numbers ≡ numbers → IfOk result (λ p. p.plan.before ≡ begun_changes c storing.slot) }
+    ensures after { (c : Cat) → c.numbers ≡ numbers → IfOk result (λ p. p.plan.after ≡ stored_changes c storing time number) }
+    ensures files { IfOk result (λ p. p.plan.files ≡ record { slot = storing.slot; name = numbers.next_vault } ∷ []) }
+    ensures body { IfOk result (λ p. p.body ≡ storing.body) }
+    ensures kept_before { IfOk result (λ p. IsTrue (list_all can_be_kept p.plan.before)) }
+    ensures kept_after { IfOk result (λ p. IsTrue (list_all can_be_kept p.plan.after)) }
+{
+    let slot = storing.slot;
+    let files = one_file(
+        alloc,
+        NewFile {
+            slot,
+            name: numbers.next_vault,
+        },
+    )?;
+    let before = begun_deltas(alloc, numbers, slot)?;
+    let Stored { after, body } = stored_deltas(alloc, numbers, storing, time, number)?;
+    Ok(Planned {
+        plan: Plan {
+            before,
+            files,
+            read: OldFiles::from_vec(Vec::new(alloc)),
+            after,
+        },
+        body,
+    })
+}
+
+// What is changed after a body was written, and the body.
+#[derive(Drop)]
+struct Stored {
+    after: Deltas,
+    body: Bytes,
 }
 
 // This file alone. Fails for want of memory alone.
@@ -189,11 +202,12 @@ fn stored_deltas(
     storing: Storing,
     time: u64,
     number: u64,
-) -> Result<Deltas, AllocError>
+) -> Result<Stored, AllocError>
     requires vault { numbers.next_vault + 1 < 2 ^ 64 }
     requires name { IsTrue (is_name storing.name) }
-    ensures changes { (c : Cat) → c.numbers ≡ numbers → IfOk result (λ deltas. deltas ≡ stored_changes c storing time number) }
-    ensures kept { IfOk result (λ deltas. IsTrue (list_all can_be_kept deltas)) }
+    ensures changes { (c : Cat) → c.numbers ≡ numbers → IfOk result (λ stored. stored.after ≡ stored_changes c storing time number) }
+    ensures kept { IfOk result (λ stored. IsTrue (list_all can_be_kept stored.after)) }
+    ensures body { IfOk result (λ stored. stored.body ≡ storing.body) }
 {
     name_is_text(storing.name.as_slice());
     let vault = numbers.next_vault;
@@ -228,7 +242,10 @@ fn stored_deltas(
         Delta::Replica(replica),
         Delta::Numbers(last),
     ]?;
-    Ok(Deltas::from_vec(deltas))
+    Ok(Stored {
+        after: Deltas::from_vec(deltas),
+        body: storing.body,
+    })
 }
 
 // The reply to a body that was put.

@@ -166,14 +166,13 @@ with_number : (s : Text) (k : Numbered) (n i : ℕ) → i < length heads → get
 with_number s k n i within e fits is = row s (failure.Refused (numbered k n)) i (head.Numbered k) (decimal n ++ 0x0A ∷ []) within e is (record { value = n; is = refl; spells = record { most_is = omega (arith, fits); is = refl } })
 
 pub from_line : (s : Text) (f : Failure) → IsFailureLine s f → HeadThen s f
-from_line s (failure.Refused refusal.NotBuilt) p = plain s (failure.Refused refusal.NotBuilt) 0 (lit< tt) refl p
-from_line s (failure.Refused refusal.TooLong) p = plain s (failure.Refused refusal.TooLong) 1 (lit< tt) refl p
-from_line s (failure.Refused (refusal.Syntax n)) p = with_number s kind.Syntax n 2 (lit< tt) refl p.fits p.is
-from_line s (failure.Refused refusal.UnknownCommand) p = plain s (failure.Refused refusal.UnknownCommand) 3 (lit< tt) refl p
-from_line s (failure.Refused (refusal.BadWord n)) p = with_number s kind.BadWord n 4 (lit< tt) refl p.fits p.is
-from_line s (failure.Refused (refusal.BadPath n)) p = with_number s kind.BadPath n 5 (lit< tt) refl p.fits p.is
-from_line s (failure.Refused (refusal.BadName n)) p = with_number s kind.BadName n 6 (lit< tt) refl p.fits p.is
-from_line s (failure.Refused (refusal.Truncated have want)) p = row s (failure.Refused (refusal.Truncated have want)) 7 head.Truncated ((decimal have ++ 0x20 ∷ []) ++ (decimal want ++ 0x0A ∷ [])) (lit< tt) refl
+from_line s (failure.Refused refusal.TooLong) p = plain s (failure.Refused refusal.TooLong) 0 (lit< tt) refl p
+from_line s (failure.Refused (refusal.Syntax n)) p = with_number s kind.Syntax n 1 (lit< tt) refl p.fits p.is
+from_line s (failure.Refused refusal.UnknownCommand) p = plain s (failure.Refused refusal.UnknownCommand) 2 (lit< tt) refl p
+from_line s (failure.Refused (refusal.BadWord n)) p = with_number s kind.BadWord n 3 (lit< tt) refl p.fits p.is
+from_line s (failure.Refused (refusal.BadPath n)) p = with_number s kind.BadPath n 4 (lit< tt) refl p.fits p.is
+from_line s (failure.Refused (refusal.BadName n)) p = with_number s kind.BadName n 5 (lit< tt) refl p.fits p.is
+from_line s (failure.Refused (refusal.Truncated have want)) p = row s (failure.Refused (refusal.Truncated have want)) 6 head.Truncated ((decimal have ++ 0x20 ∷ []) ++ (decimal want ++ 0x0A ∷ [])) (lit< tt) refl
     (p.is ∙ ap (λ t. codes "Truncated " ++ t) (sym (before (decimal have) (decimal want) (0x0A ∷ []) 0x20))) (record {
       first = decimal have ++ 0x20 ∷ [];
       second = decimal want ++ 0x0A ∷ [];
@@ -182,11 +181,11 @@ from_line s (failure.Refused (refusal.Truncated have want)) p = row s (failure.R
       spells_first = record { most_is = omega (arith, p.fits.0); is = refl };
       spells_second = record { value = want; is = refl; spells = record { most_is = omega (arith, p.fits.1); is = refl } };
     })
-from_line s (failure.Refused refusal.NoLogin) p = plain s (failure.Refused refusal.NoLogin) 8 (lit< tt) refl p
-from_line s (failure.Refused refusal.Open) p = plain s (failure.Refused refusal.Open) 9 (lit< tt) refl p
-from_line s (failure.Refused refusal.NoUpload) p = plain s (failure.Refused refusal.NoUpload) 10 (lit< tt) refl p
-from_line s (failure.Refused (refusal.TooLarge n)) p = with_number s kind.TooLarge n 11 (lit< tt) refl p.fits p.is
-from_line s (failure.Refused (refusal.TooMany what limit)) p = row s (failure.Refused (refusal.TooMany what limit)) 12 head.TooMany ((print_what what ++ 0x20 ∷ []) ++ (decimal limit ++ 0x0A ∷ [])) (lit< tt) refl
+from_line s (failure.Refused refusal.NoLogin) p = plain s (failure.Refused refusal.NoLogin) 7 (lit< tt) refl p
+from_line s (failure.Refused refusal.Open) p = plain s (failure.Refused refusal.Open) 8 (lit< tt) refl p
+from_line s (failure.Refused refusal.NoUpload) p = plain s (failure.Refused refusal.NoUpload) 9 (lit< tt) refl p
+from_line s (failure.Refused (refusal.TooLarge n)) p = with_number s kind.TooLarge n 10 (lit< tt) refl p.fits p.is
+from_line s (failure.Refused (refusal.TooMany what limit)) p = row s (failure.Refused (refusal.TooMany what limit)) 11 head.TooMany ((print_what what ++ 0x20 ∷ []) ++ (decimal limit ++ 0x0A ∷ [])) (lit< tt) refl
     (p.is ∙ ap (λ t. codes "TooMany " ++ t) (sym (before (print_what what) (decimal limit) (0x0A ∷ []) 0x20))) (record {
       first = print_what what ++ 0x20 ∷ [];
       second = decimal limit ++ 0x0A ∷ [];
@@ -195,25 +194,25 @@ from_line s (failure.Refused (refusal.TooMany what limit)) p = row s (failure.Re
       spells_first = record { is = refl };
       spells_second = record { value = limit; is = refl; spells = record { most_is = omega (arith, p.fits); is = refl } };
     })
-from_line s (failure.Refused (refusal.BadTriple n)) p = with_number s kind.BadTriple n 13 (lit< tt) refl p.fits p.is
-from_line s (failure.Refused refusal.NoUser) p = plain s (failure.Refused refusal.NoUser) 14 (lit< tt) refl p
-from_line s (failure.Refused refusal.NoMember) p = plain s (failure.Refused refusal.NoMember) 15 (lit< tt) refl p
-from_line s (failure.Refused refusal.NoCollection) p = plain s (failure.Refused refusal.NoCollection) 16 (lit< tt) refl p
-from_line s (failure.Refused refusal.NoObject) p = plain s (failure.Refused refusal.NoObject) 17 (lit< tt) refl p
-from_line s (failure.Refused refusal.NoResource) p = plain s (failure.Refused refusal.NoResource) 18 (lit< tt) refl p
-from_line s (failure.Refused (refusal.NoSlot n)) p = with_number s kind.NoSlot n 19 (lit< tt) refl p.fits p.is
-from_line s (failure.Refused refusal.NoTarget) p = plain s (failure.Refused refusal.NoTarget) 20 (lit< tt) refl p
-from_line s (failure.Refused refusal.NoReplica) p = plain s (failure.Refused refusal.NoReplica) 21 (lit< tt) refl p
-from_line s (failure.Refused refusal.NoTriple) p = plain s (failure.Refused refusal.NoTriple) 22 (lit< tt) refl p
-from_line s (failure.Refused refusal.NoAccess) p = plain s (failure.Refused refusal.NoAccess) 23 (lit< tt) refl p
-from_line s (failure.Refused refusal.NotAdmin) p = plain s (failure.Refused refusal.NotAdmin) 24 (lit< tt) refl p
-from_line s (failure.Refused refusal.Exists) p = plain s (failure.Refused refusal.Exists) 25 (lit< tt) refl p
-from_line s (failure.Refused refusal.NotEmpty) p = plain s (failure.Refused refusal.NotEmpty) 26 (lit< tt) refl p
-from_line s (failure.Refused refusal.Fixed) p = plain s (failure.Refused refusal.Fixed) 27 (lit< tt) refl p
-from_line s (failure.Refused refusal.Inside) p = plain s (failure.Refused refusal.Inside) 28 (lit< tt) refl p
-from_line s (failure.Refused refusal.LastGood) p = plain s (failure.Refused refusal.LastGood) 29 (lit< tt) refl p
-from_line s (failure.Refused (refusal.BadTree cause)) p = row s (failure.Refused (refusal.BadTree cause)) 30 head.BadTree (print_tree_cause cause ++ 0x0A ∷ []) (lit< tt) refl p.is (record { value = cause; is = refl; spells = record { is = refl } })
-from_line s (failure.Refused (refusal.BadRule place cause)) p = row s (failure.Refused (refusal.BadRule place cause)) 31 head.BadRule ((decimal place ++ 0x20 ∷ []) ++ (print_rule_cause cause ++ 0x0A ∷ [])) (lit< tt) refl
+from_line s (failure.Refused (refusal.BadTriple n)) p = with_number s kind.BadTriple n 12 (lit< tt) refl p.fits p.is
+from_line s (failure.Refused refusal.NoUser) p = plain s (failure.Refused refusal.NoUser) 13 (lit< tt) refl p
+from_line s (failure.Refused refusal.NoMember) p = plain s (failure.Refused refusal.NoMember) 14 (lit< tt) refl p
+from_line s (failure.Refused refusal.NoCollection) p = plain s (failure.Refused refusal.NoCollection) 15 (lit< tt) refl p
+from_line s (failure.Refused refusal.NoObject) p = plain s (failure.Refused refusal.NoObject) 16 (lit< tt) refl p
+from_line s (failure.Refused refusal.NoResource) p = plain s (failure.Refused refusal.NoResource) 17 (lit< tt) refl p
+from_line s (failure.Refused (refusal.NoSlot n)) p = with_number s kind.NoSlot n 18 (lit< tt) refl p.fits p.is
+from_line s (failure.Refused refusal.NoTarget) p = plain s (failure.Refused refusal.NoTarget) 19 (lit< tt) refl p
+from_line s (failure.Refused refusal.NoReplica) p = plain s (failure.Refused refusal.NoReplica) 20 (lit< tt) refl p
+from_line s (failure.Refused refusal.NoTriple) p = plain s (failure.Refused refusal.NoTriple) 21 (lit< tt) refl p
+from_line s (failure.Refused refusal.NoAccess) p = plain s (failure.Refused refusal.NoAccess) 22 (lit< tt) refl p
+from_line s (failure.Refused refusal.NotAdmin) p = plain s (failure.Refused refusal.NotAdmin) 23 (lit< tt) refl p
+from_line s (failure.Refused refusal.Exists) p = plain s (failure.Refused refusal.Exists) 24 (lit< tt) refl p
+from_line s (failure.Refused refusal.NotEmpty) p = plain s (failure.Refused refusal.NotEmpty) 25 (lit< tt) refl p
+from_line s (failure.Refused refusal.Fixed) p = plain s (failure.Refused refusal.Fixed) 26 (lit< tt) refl p
+from_line s (failure.Refused refusal.Inside) p = plain s (failure.Refused refusal.Inside) 27 (lit< tt) refl p
+from_line s (failure.Refused refusal.LastGood) p = plain s (failure.Refused refusal.LastGood) 28 (lit< tt) refl p
+from_line s (failure.Refused (refusal.BadTree cause)) p = row s (failure.Refused (refusal.BadTree cause)) 29 head.BadTree (print_tree_cause cause ++ 0x0A ∷ []) (lit< tt) refl p.is (record { value = cause; is = refl; spells = record { is = refl } })
+from_line s (failure.Refused (refusal.BadRule place cause)) p = row s (failure.Refused (refusal.BadRule place cause)) 30 head.BadRule ((decimal place ++ 0x20 ∷ []) ++ (print_rule_cause cause ++ 0x0A ∷ [])) (lit< tt) refl
     (p.is ∙ ap (λ t. codes "BadRule " ++ t) (sym (before (decimal place) (print_rule_cause cause) (0x0A ∷ []) 0x20))) (record {
       first = decimal place ++ 0x20 ∷ [];
       second = print_rule_cause cause ++ 0x0A ∷ [];
@@ -222,15 +221,15 @@ from_line s (failure.Refused (refusal.BadRule place cause)) p = row s (failure.R
       spells_first = record { most_is = omega (arith, p.fits); is = refl };
       spells_second = record { value = cause; is = refl; spells = record { is = refl } };
     })
-from_line s (failure.Refused (refusal.BadQuery n)) p = with_number s kind.BadQuery n 32 (lit< tt) refl p.fits p.is
-from_line s (failure.Refused (refusal.Fault slot)) p = row s (failure.Refused (refusal.Fault slot)) 33 head.Fault (decimal slot ++ 0x0A ∷ []) (lit< tt) refl p.is (record { value = slot; is = refl; spells = record { most_is = omega (arith, p.fits); is = refl } })
+from_line s (failure.Refused (refusal.BadQuery n)) p = with_number s kind.BadQuery n 31 (lit< tt) refl p.fits p.is
+from_line s (failure.Refused (refusal.Fault slot)) p = row s (failure.Refused (refusal.Fault slot)) 32 head.Fault (decimal slot ++ 0x0A ∷ []) (lit< tt) refl p.is (record { value = slot; is = refl; spells = record { most_is = omega (arith, p.fits); is = refl } })
 from_line s (failure.Refused (refusal.Damaged slot size digest len found)) p =
     let a = decimal slot ++ 0x20 ∷ [] in
     let b = decimal size ++ 0x20 ∷ [] in
     let c = checksum digest ++ 0x20 ∷ [] in
     let d = decimal len ++ 0x20 ∷ [] in
     let e = checksum found ++ 0x0A ∷ [] in
-    row s (failure.Refused (refusal.Damaged slot size digest len found)) 34 head.Damaged (a ++ (b ++ (c ++ (d ++ e)))) (lit< tt) refl
+    row s (failure.Refused (refusal.Damaged slot size digest len found)) 33 head.Damaged (a ++ (b ++ (c ++ (d ++ e)))) (lit< tt) refl
     (p.is ∙ ap (λ t. codes "Damaged " ++ t) (sym (damaged_fields slot size len digest found a b c d e refl refl refl refl refl)))
     (record {
       first = a;
@@ -261,12 +260,12 @@ from_line s (failure.Refused (refusal.Damaged slot size digest len found)) p =
         };
       };
     })
-from_line s (failure.Code n) p = row s (failure.Code n) 35 head.Code (signed_decimal n ++ 0x0A ∷ []) (lit< tt) refl p.is (record { value = n; is = refl; spells = signed_from (signed_decimal n ++ 0x0A ∷ []) n p.fits refl })
-from_line s failure.NoRule p = plain s failure.NoRule 36 (lit< tt) refl p
-from_line s failure.Depth p = plain s failure.Depth 37 (lit< tt) refl p
-from_line s failure.Spent p = plain s failure.Spent 38 (lit< tt) refl p
-from_line s failure.LongText p = plain s failure.LongText 39 (lit< tt) refl p
-from_line s failure.Stopped p = plain s failure.Stopped 40 (lit< tt) refl p
+from_line s (failure.Code n) p = row s (failure.Code n) 34 head.Code (signed_decimal n ++ 0x0A ∷ []) (lit< tt) refl p.is (record { value = n; is = refl; spells = signed_from (signed_decimal n ++ 0x0A ∷ []) n p.fits refl })
+from_line s failure.NoRule p = plain s failure.NoRule 35 (lit< tt) refl p
+from_line s failure.Depth p = plain s failure.Depth 36 (lit< tt) refl p
+from_line s failure.Spent p = plain s failure.Spent 37 (lit< tt) refl p
+from_line s failure.LongText p = plain s failure.LongText 38 (lit< tt) refl p
+from_line s failure.Stopped p = plain s failure.Stopped 39 (lit< tt) refl p
 
 pub to_line : (s : Text) (f : Failure) → HeadThen s f → IsFailureLine s f
 to_line s f t =

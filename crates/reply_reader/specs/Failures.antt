@@ -58,8 +58,7 @@ head_name head.Code = codes "Code "
 -- those that there are
 abbrev pub heads : List Head
 heads =
-    head.Plain (failure.Refused refusal.NotBuilt)
-    ∷ head.Plain (failure.Refused refusal.TooLong)
+    head.Plain (failure.Refused refusal.TooLong)
     ∷ head.Numbered kind.Syntax
     ∷ head.Plain (failure.Refused refusal.UnknownCommand)
     ∷ head.Numbered kind.BadWord

@@ -32,10 +32,9 @@ pub enum Head {
 }
 
 /// How the line of an error begins where a point failed, and then how each failure begins, with the byte behind it.
-pub const NAMES: [&[u8]; 43] = [
+pub const NAMES: [&[u8]; 42] = [
     b"PreFailed ",
     b"PostFailed ",
-    b"NotBuilt\n",
     b"TooLong\n",
     b"Syntax ",
     b"UnknownCommand\n",
@@ -79,8 +78,7 @@ pub const NAMES: [&[u8]; 43] = [
 ];
 
 /// The heads of failures, in the order of their names.
-const HEADS: [Head; 41] = [
-    Head::Plain(Failure::Refused(Refusal::NotBuilt)),
+const HEADS: [Head; 40] = [
     Head::Plain(Failure::Refused(Refusal::TooLong)),
     Head::Numbered(Numbered::Syntax),
     Head::Plain(Failure::Refused(Refusal::UnknownCommand)),
@@ -125,7 +123,7 @@ const HEADS: [Head; 41] = [
 
 /// The head of this number.
 pub fn head_at(index: usize) -> Head
-    requires { index < 41 }
+    requires { index < 40 }
     ensures { result ≡ slice_index_or heads index Head.Code }
 {
     HEADS[index]

@@ -9,7 +9,6 @@ fn replies_are_read_and_written_again(rt: HostRuntime) -> Result<(), Fail> {
     for text in [
         b"3 ok\n".as_slice(),
         b"18446744073709551615 ok C \"a \\\"b\\\\\" \"\"\n",
-        b"3 err NotBuilt\n",
         b"3 err TooLong\n",
         b"3 err Syntax 7\n",
         b"3 err UnknownCommand\n",

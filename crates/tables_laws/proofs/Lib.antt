@@ -32,7 +32,6 @@ pub mod Roots
 pub mod RowLists
 pub mod Rows
 pub mod Sound
-pub mod Sources
 pub mod Standing
 pub mod StoredFiles
 pub mod TableMaps

@@ -169,7 +169,7 @@ fn what_is_not_put_or_sent(rt: HostRuntime) -> Result<(), Fail> {
         ),
         (
             b"0 put /f d1 new 1\nx0 put /f d0 old 1\nx0 put /f d0 new 01\n0 get /f d1\n1 get /f -\n0 get f -\n0 get /f\n",
-            b"1 err NotBuilt\n2 err NotBuilt\n3 err NotBuilt\n4 err NotBuilt\n5 err NotBuilt\n6 err NotBuilt\n7 err NotBuilt\n",
+            b"1 err UnknownCommand\n2 err UnknownCommand\n3 err UnknownCommand\n4 err UnknownCommand\n5 err UnknownCommand\n6 err UnknownCommand\n7 err UnknownCommand\n",
             0,
             b"",
         ),

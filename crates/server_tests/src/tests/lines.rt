@@ -78,19 +78,19 @@ fn lines_are_refused_as_they_stand(rt: HostRuntime) -> Result<(), Fail> {
     let alloc = rt.alloc();
     let new = begun(alloc)?;
     for (line, refusal) in [
-        (b"0 login rods x".as_slice(), b"NotBuilt".as_slice()),
-        (b"0 login", b"NotBuilt"),
-        (b"1 login rods", b"NotBuilt"),
-        (b"login rods", b"NotBuilt"),
-        (b"0 Login rods", b"NotBuilt"),
-        (b"\"\"", b"NotBuilt"),
-        (b"0 mkdir \"\"", b"NotBuilt"),
-        (b"0 mkdir x", b"NotBuilt"),
-        (b"0 mkdir /x/", b"NotBuilt"),
-        (b"0 mkdir //x", b"NotBuilt"),
-        (b"0 mkdir /./x", b"NotBuilt"),
-        (b"0 mkdir /..", b"NotBuilt"),
-        (b"0 mkdir /x /y", b"NotBuilt"),
+        (b"0 login rods x".as_slice(), b"UnknownCommand".as_slice()),
+        (b"0 login", b"UnknownCommand"),
+        (b"1 login rods", b"UnknownCommand"),
+        (b"login rods", b"UnknownCommand"),
+        (b"0 Login rods", b"UnknownCommand"),
+        (b"\"\"", b"UnknownCommand"),
+        (b"0 mkdir \"\"", b"UnknownCommand"),
+        (b"0 mkdir x", b"UnknownCommand"),
+        (b"0 mkdir /x/", b"UnknownCommand"),
+        (b"0 mkdir //x", b"UnknownCommand"),
+        (b"0 mkdir /./x", b"UnknownCommand"),
+        (b"0 mkdir /..", b"UnknownCommand"),
+        (b"0 mkdir /x /y", b"UnknownCommand"),
         (b"\x00", b"Syntax 0"),
         (b"0\tlogin rods", b"Syntax 1"),
         (b"0 login rods\r", b"Syntax 12"),
@@ -149,7 +149,7 @@ fn a_name_has_at_most_255_bytes(rt: HostRuntime) -> Result<(), Fail> {
         alloc,
         &new,
         &input,
-        done(1, b"1 ok\n2 err NotBuilt\n", 0, b""),
+        done(1, b"1 ok\n2 err UnknownCommand\n", 0, b""),
     )?;
     let input = long_name(alloc, 255)?;
     let mut path = input.as_slice()[21.min(input.len())..].to_vec(alloc)?;
@@ -166,34 +166,55 @@ fn bodies_are_passed_over(rt: HostRuntime) -> Result<(), Fail> {
         // What looks like a request within a body is none, and the next line begins right behind it.
         (
             b"0 part 10\n0 login x\n0 login rods\n".as_slice(),
-            b"1 err NotBuilt\n2 ok\n".as_slice(),
+            b"1 err UnknownCommand\n2 ok\n".as_slice(),
         ),
-        (b"0 part 3\nabc0 login rods\n", b"1 err NotBuilt\n2 ok\n"),
+        (
+            b"0 part 3\nabc0 login rods\n",
+            b"1 err UnknownCommand\n2 ok\n",
+        ),
         (
             b"0 rules \"3\"\n\n\n\n0 login rods\n",
-            b"1 err NotBuilt\n2 ok\n",
+            b"1 err UnknownCommand\n2 ok\n",
         ),
-        (b"0 rules 0\n0 login rods\n", b"1 err NotBuilt\n2 ok\n"),
+        (
+            b"0 rules 0\n0 login rods\n",
+            b"1 err UnknownCommand\n2 ok\n",
+        ),
         // The verb and the last word decide, whatever else is wrong.
-        (b"99 put 3\nabc0 login rods\n", b"1 err NotBuilt\n2 ok\n"),
-        (b"0 rules 2 2\nab0 login rods\n", b"1 err NotBuilt\n2 ok\n"),
+        (
+            b"99 put 3\nabc0 login rods\n",
+            b"1 err UnknownCommand\n2 ok\n",
+        ),
+        (
+            b"0 rules 2 2\nab0 login rods\n",
+            b"1 err UnknownCommand\n2 ok\n",
+        ),
         // No number, another verb, no verb, no words.
-        (b"0 part +3\n0 login rods\n", b"1 err NotBuilt\n2 ok\n"),
-        (b"0 part 03\n0 login rods\n", b"1 err NotBuilt\n2 ok\n"),
+        (
+            b"0 part +3\n0 login rods\n",
+            b"1 err UnknownCommand\n2 ok\n",
+        ),
+        (
+            b"0 part 03\n0 login rods\n",
+            b"1 err UnknownCommand\n2 ok\n",
+        ),
         (
             b"0 part 18446744073709551616\n0 login rods\n",
-            b"1 err NotBuilt\n2 ok\n",
+            b"1 err UnknownCommand\n2 ok\n",
         ),
-        (b"0 parts 3\n0 login rods\n", b"1 err NotBuilt\n2 ok\n"),
-        (b"put 3\n0 login rods\n", b"1 err NotBuilt\n2 ok\n"),
+        (
+            b"0 parts 3\n0 login rods\n",
+            b"1 err UnknownCommand\n2 ok\n",
+        ),
+        (b"put 3\n0 login rods\n", b"1 err UnknownCommand\n2 ok\n"),
         (b"0 put \"3\n0 login rods\n", b"1 err Syntax 8\n2 ok\n"),
         // The input ends within a body, and before it.
         (
             b"0 part 18446744073709551615\n0 login rods\n",
-            b"1 err NotBuilt\n",
+            b"1 err UnknownCommand\n",
         ),
-        (b"0 part 3\nab", b"1 err NotBuilt\n"),
-        (b"0 part 3", b"1 err NotBuilt\n"),
+        (b"0 part 3\nab", b"1 err UnknownCommand\n"),
+        (b"0 part 3", b"1 err UnknownCommand\n"),
     ] {
         serves(&rt, alloc, &new, input, done(1, replies, 0, b""))?;
     }
@@ -210,7 +231,7 @@ fn a_body_of_several_blocks_is_passed_over(rt: HostRuntime) -> Result<(), Fail> 
     }
     input.extend_from_slice(b"0 mkdir /tempZone/home/rods/a\n")?;
     // Three reads give the bytes, and a fourth one shows the end.
-    let all = b"1 ok\n2 err NotBuilt\n3 ok\n".as_slice();
+    let all = b"1 ok\n2 err UnknownCommand\n3 ok\n".as_slice();
     for (call, replies, last, paths) in [
         (1, b"".as_slice(), 0, b"".as_slice()),
         (2, b"1 ok\n", 0, b""),

@@ -19,7 +19,8 @@ fn a_grid_is_begun_and_served_twice(rt: HostRuntime) -> Result<(), Fail> {
     let main = compare(&rt, alloc, played, done(0, b"ok\n", 0, b""))?;
     let input =
         b"0 mkdir /x\n0 login rods\n0 mkdir /tempZone/home/rods/a\n0 mkdir /tempZone/home/rods/a\n0 mkdir /tempZone/home/rods/b/c\n0 mkdir x\n";
-    let replies = b"1 err NoLogin\n2 ok\n3 ok\n4 err Exists\n5 err NoCollection\n6 err NotBuilt\n";
+    let replies =
+        b"1 err NoLogin\n2 ok\n3 ok\n4 err Exists\n5 err NoCollection\n6 err UnknownCommand\n";
     let a = b"/tempZone/home/rods/a\n";
     let main = serves(&rt, alloc, &main, input, done(1, replies, 3, a))?;
     let input = b"0 login rods\n0 mkdir /tempZone/home/rods/a\n";
@@ -43,7 +44,7 @@ fn each_run_has_the_next_number_and_begins_anew(rt: HostRuntime) -> Result<(), F
         (
             b"0 login rods\n\n0 mkdir /\n0 mkdir /a\n0 foo\n0 mkdir /a\n0 mkdir /a/b\n0 login x\n0 mkdir /q/r\n",
             2,
-            b"1 ok\n2 err Exists\n3 ok\n4 err NotBuilt\n5 err Exists\n6 ok\n7 err NoUser\n8 err NoCollection\n",
+            b"1 ok\n2 err Exists\n3 ok\n4 err UnknownCommand\n5 err Exists\n6 ok\n7 err NoUser\n8 err NoCollection\n",
             6,
             b"/a\n/a/b\n",
         ),

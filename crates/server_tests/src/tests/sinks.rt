@@ -43,10 +43,15 @@ fn a_sink_may_fail_at_each_reply(rt: HostRuntime) -> Result<(), Fail> {
         (2, b"1 ok\n2 ", 2, A),
         (3, b"1 ok\n2 ok\n3 err NoC", 2, A),
         (4, b"1 ok\n2 ok\n3 err NoCollection\n4 ", 4, A_X),
-        (5, b"1 ok\n2 ok\n3 err NoCollection\n4 ok\n5 err N", 4, A_X),
+        (
+            5,
+            b"1 ok\n2 ok\n3 err NoCollection\n4 ok\n5 err Unkn",
+            4,
+            A_X,
+        ),
         (
             6,
-            b"1 ok\n2 ok\n3 err NoCollection\n4 ok\n5 err NotBuilt\n6 ",
+            b"1 ok\n2 ok\n3 err NoCollection\n4 ok\n5 err UnknownCommand\n6 ",
             6,
             A_X_W,
         ),
@@ -54,7 +59,7 @@ fn a_sink_may_fail_at_each_reply(rt: HostRuntime) -> Result<(), Fail> {
         let played = play(&rt, alloc, SERVE, &new, INPUT, sink_fails(call))?;
         compare(&rt, alloc, played, cut_short(replies, last, paths))?;
     }
-    let all = b"1 ok\n2 ok\n3 err NoCollection\n4 ok\n5 err NotBuilt\n6 ok\n";
+    let all = b"1 ok\n2 ok\n3 err NoCollection\n4 ok\n5 err UnknownCommand\n6 ok\n";
     serves(&rt, alloc, &new, INPUT, done(1, all, 6, A_X_W))?;
     Ok(())
 }

@@ -3,7 +3,7 @@ use Rattle.std.specs.Prelude.{codes}
 use Rattle.grid_model.specs.Names.{same_text}
 use Rattle.grid_model.proofs.Comparing.{same_text-Decides}
 use Rattle.cmd_read.specs.Table.{a_new_name, the_word, a_number, a_coordinating_kind, way}
-use Rattle.cmd_read.specs.declared.request.Verb.TheVariants.{MkStorage, MkCoordinating}
+use Rattle.grid_model.specs.declared.requests.Verb.TheVariants.{MkStorage, MkCoordinating}
 use Rattle.cmd_read.proofs.Asking.{asks_first}
 use Rattle.cmd_read.proofs.verbs.read_mkresc.Goals as goal
 

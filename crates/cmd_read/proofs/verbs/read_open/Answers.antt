@@ -1,6 +1,6 @@
 use Rattle.std.proofs.Common.{rules, ◌≡◌, [], ◌∷◌, refl}
 use Rattle.cmd_read.specs.Table.{a_mode, a_path, a_text}
-use Rattle.cmd_read.specs.declared.request.Verb.TheVariants.{Open}
+use Rattle.grid_model.specs.declared.requests.Verb.TheVariants.{Open}
 use Rattle.cmd_read.proofs.Asking.{asks_first}
 use Rattle.cmd_read.proofs.verbs.read_open.Goals as goal
 

@@ -1,6 +1,6 @@
 use Rattle.std.proofs.Common.{rules, ◌≡◌, [], ◌∷◌, refl}
 use Rattle.cmd_read.specs.Table.{a_mode, a_number, a_path, a_text}
-use Rattle.cmd_read.specs.declared.request.Verb.TheVariants.{Put}
+use Rattle.grid_model.specs.declared.requests.Verb.TheVariants.{Put}
 use Rattle.cmd_read.proofs.Asking.{asks_first}
 use Rattle.cmd_read.proofs.verbs.read_put.Goals as goal
 

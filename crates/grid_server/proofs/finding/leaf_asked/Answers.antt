@@ -1,7 +1,7 @@
 use Rattle.std.proofs.Common.{◌≡◌, ℕ, Bool, true, false, Option, None, sym, ap, ◌∙◌}
 use Rattle.std.specs.Prelude.{find, option_map}
 use Rattle.grid_model.specs.Names.{same_text}
-use Rattle.grid_model.specs.Requests.{any_resource}
+use Rattle.grid_server.specs.VerbLines.{any_resource}
 use Rattle.grid_model.specs.declared.deltas.ResourceRow.{ResourceRow}
 use Rattle.tables_laws.proofs.LookUps.{is_same_text}
 use Rattle.grid_server.proofs.finding.leaf_asked.Goals as goal

@@ -1,7 +1,7 @@
 use Rattle.std.proofs.Common.{ℕ, Option, sym, ap, ◌∙◌}
 use Rattle.std.specs.Prelude.{is_some, ◌||◌}
 use Rattle.grid_model.specs.Names.{same_text}
-use Rattle.grid_model.specs.Requests.{any_resource}
+use Rattle.grid_server.specs.VerbLines.{any_resource}
 use Rattle.tables_laws.proofs.LookUps.{is_same_text}
 use Rattle.grid_server.proofs.finding.may_ask.Goals as goal
 

@@ -1,7 +1,7 @@
 use Rattle.std.proofs.Common.{◌≡◌, inl, inr, ◌∙◌}
 use Rattle.std.specs.Prelude.{◌⊎◌}
 use Rattle.grid_model.specs.Grid.{first_leaf}
-use Rattle.grid_model.specs.Requests.{any_resource}
+use Rattle.grid_server.specs.VerbLines.{any_resource}
 use Rattle.grid_server.proofs.RequestLemmas.{spells_get}
 use Rattle.grid_server.proofs.request.read_get.Goals.{else-not-is_word-3-via-then-not-is_word-3+else-not-is_word-4, else-not-is_word-3-via-else-not-is_word-3}
 use Rattle.grid_server.proofs.request.read_get.Goals as goal

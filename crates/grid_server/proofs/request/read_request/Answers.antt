@@ -1,8 +1,8 @@
 use Rattle.std.proofs.Common.{ℕ, List, [], Option, Result, Err, sym, subst, ◌∙◌, arith}
 use Rattle.grid_model.specs.Names.{Text}
 use Rattle.grid_model.specs.Inputs.{HasBody}
-use Rattle.grid_model.specs.Requests.{Asks, SpellsVerb, not_built, too_long, no_words}
-use Rattle.grid_model.specs.declared.requests.Verb.{Verb}
+use Rattle.grid_server.specs.VerbLines.{Asks, SpellsVerb, not_built, too_long, no_words}
+use Rattle.grid_server.specs.declared.verbs.Verb.{Verb}
 use Rattle.grid_model.specs.declared.refusal.Refusal.{Refusal}
 use Rattle.grid_model.specs.declared.refusal.Refusal.TheVariants.{Syntax}
 use Rattle.grid_server.specs.Requests.{AreOf, Promise, asked_with}

@@ -3,7 +3,7 @@ use Rattle.std.specs.Prelude.{⊤}
 use Rattle.grid_outside.specs.declared.outside.Wear.TheVariants.{Vaults}
 use Rattle.grid_server.specs.declared.server.Stop.{Stop}
 use Rattle.grid_server.specs.declared.server.Stop.TheVariants.{Worn}
-use Rattle.grid_model.specs.Commands.{act}
+use Rattle.grid_server.specs.Commands.{act}
 use Rattle.grid_server.specs.Held.{state_of}
 use Rattle.grid_server.specs.Deciding.{Decides}
 use Rattle.grid_server.specs.Answering.{not_begun, vaults_worn}

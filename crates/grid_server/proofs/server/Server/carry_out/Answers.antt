@@ -1,5 +1,5 @@
 use Rattle.std.proofs.Common.{true, Ok, refl, subst, sym, ◌∙◌}
-use Rattle.grid_model.specs.Commands.{Done, refused, log_in, made}
+use Rattle.grid_server.specs.Commands.{Done, refused, log_in, made}
 use Rattle.grid_server.specs.Held.{state_of}
 use Rattle.grid_server.specs.Deciding.{DecidesPlain}
 use Rattle.grid_server.specs.Keeping.{Carries}

@@ -5,10 +5,10 @@ use Rattle.grid_model.specs.Grid.{first_leaf}
 use Rattle.grid_model.specs.Words.{SpellsLine}
 use Rattle.grid_model.specs.Limits.{longest_line, object_size}
 use Rattle.grid_model.specs.Places.{IsRefusedAt}
-use Rattle.grid_model.specs.declared.requests.Verb.{Verb}
-use Rattle.grid_model.specs.declared.requests.Verb.TheVariants.{Login, MkDir, Put, Get}
+use Rattle.grid_server.specs.declared.verbs.Verb.{Verb}
+use Rattle.grid_server.specs.declared.verbs.Verb.TheVariants.{Login, MkDir, Put, Get}
 use Rattle.grid_model.specs.declared.refusal.Refusal.{Refusal}
-use Rattle.grid_model.specs.declared.refusal.Refusal.TheVariants.{NotBuilt, TooLong, Syntax, Truncated}
+use Rattle.grid_model.specs.declared.refusal.Refusal.TheVariants.{UnknownCommand, TooLong, Syntax, Truncated}
 
 -- no resource is named
 abbrev pub any_resource : Text
@@ -38,6 +38,6 @@ pub data Asks (line body : Text) : Result Verb Refusal → Type 0 where
   asks_for : {words : List Text} {verb : Verb} → length line ≤ longest_line → SpellsLine line words → SpellsVerb words body verb → promised verb ≤ length body → Asks line body (Ok verb)
   cut_short : {words : List Text} {verb : Verb} → length line ≤ longest_line → SpellsLine line words → SpellsVerb words body verb → length body < promised verb
       → Asks line body (Err (Truncated (length body) (promised verb)))
-  not_built : {words : List Text} → length line ≤ longest_line → SpellsLine line words → ((verb : Verb) → ¬ SpellsVerb words body verb) → Asks line body (Err NotBuilt)
+  not_built : {words : List Text} → length line ≤ longest_line → SpellsLine line words → ((verb : Verb) → ¬ SpellsVerb words body verb) → Asks line body (Err UnknownCommand)
   too_long : longest_line < length line → Asks line body (Err TooLong)
   no_words : {place : ℕ} → length line ≤ longest_line → IsRefusedAt SpellsLine line place → Asks line body (Err (Syntax place))

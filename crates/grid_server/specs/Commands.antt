@@ -10,9 +10,9 @@ use Rattle.grid_model.specs.DataLines.{parts}
 use Rattle.grid_model.specs.Digests.{HasDigest}
 use Rattle.grid_model.specs.Applying.{is_group_kind, is_storage}
 use Rattle.grid_model.specs.Inputs.{Asked}
-use Rattle.grid_model.specs.Requests.{Asks, any_resource}
-use Rattle.grid_model.specs.declared.requests.Verb.{Verb}
-use Rattle.grid_model.specs.declared.requests.Verb.TheVariants.{Login, MkDir, Put, Get}
+use Rattle.grid_server.specs.VerbLines.{Asks, any_resource}
+use Rattle.grid_server.specs.declared.verbs.Verb.{Verb}
+use Rattle.grid_server.specs.declared.verbs.Verb.TheVariants.{Login, MkDir, Put, Get}
 use Rattle.grid_model.specs.declared.refusal.Refusal.{Refusal}
 use Rattle.grid_model.specs.declared.refusal.Refusal.TheVariants.{NoUser, NoLogin, NoCollection, NoObject, NoResource, NoReplica, NoTarget, Exists, TooLarge, Fault, Damaged}
 use Rattle.grid_model.specs.declared.marks.Mark.{Mark}

@@ -14,7 +14,7 @@ use Rattle.std.proofs.lemmas.Bool.Decides.{eqb_tells}
 use Rattle.grid_model.specs.Names.{Text, same_text}
 use Rattle.grid_model.specs.Maps.{from_list, get}
 use Rattle.grid_model.specs.Grid.{Resource}
-use Rattle.grid_model.specs.Commands.{first_source, source_of, open_slot, is_open}
+use Rattle.grid_server.specs.Commands.{first_source, source_of, open_slot, is_open}
 use Rattle.grid_model.specs.Rows.{Cat, empty_cat, resource, replicas_of, replica_cmp, resource_cmp, with_row}
 use Rattle.grid_model.specs.RowGrids.{grid_of, object_of, replica_of, resource_of, resource_name}
 use Rattle.grid_model.specs.Applying.{apply, apply_all, where_fits, resource_fits, is_storage, slot_fits, parent_fits}
