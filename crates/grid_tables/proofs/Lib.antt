@@ -1,3 +1,9 @@
-mod Keeping
+mod Descending
+mod Finding
+mod Indexes
 mod Locating
+mod Runs
+mod Searching
+mod Trees
+mod VaultNumbers
 mod WaysUp

@@ -86,7 +86,7 @@ module _ (c : Cat) (id : ℕ) where
   names_lost : (m : ℕ) → (id ≡ 0 → ⊥) → None ≡ collection c id → names_within (suc m) c id ≡ None
   names_lost m not_root none = rw (apart id 0 not_root, ← none, names_within) refl
 
-  names_further : (m : ℕ) (r : CollectionRow) → (id ≡ 0 → ⊥) → Some r ≡ collection c id → names_within (suc m) c id ≡ option_map (λ names. r.name ∷ names) (names_within m c r.parent)
+  pub names_further : (m : ℕ) (r : CollectionRow) → (id ≡ 0 → ⊥) → Some r ≡ collection c id → names_within (suc m) c id ≡ option_map (λ names. r.name ∷ names) (names_within m c r.parent)
   names_further m r not_root some = rw (apart id 0 not_root, ← some, names_within) refl
 
 -- names so far, and behind them those further up

@@ -1,2 +1,9 @@
 pub mod Counts
+pub mod Descending
+pub mod Indexes
+pub mod Items
 pub mod Places
+pub mod Probes
+pub mod Roots
+pub mod Trees
+pub mod Vaults

@@ -4,8 +4,8 @@ ghost use Rattle.grid_model.specs.Applying.{apply, is_told_of, entry_fits, is_en
 ghost use Rattle.grid_model.specs.Rows.{same_item};
 ghost use Rattle.grid_tables.specs.declared.error.TableError.TheVariants.{BadDelta, Memory};
 
-use crate::kinds::{gives_access, is_given, is_same_item};
-use crate::table::Table;
+use crate::kinds::{gives_access, is_given};
+use crate::probe::EntryKey;
 use crate::{TableError, Tables};
 use grid_model::{Delta, EntryRow, ItemKind};
 
@@ -14,20 +14,14 @@ impl Tables {
     fn has_triple_of(&self, kind: ItemKind, id: u64) -> bool
         ensures { result ≡ list_any (λ t. same_item t.kind t.id kind id) self.now.triples }
     {
-        self.triples
-            .as_slice()
-            .iter()
-            .any(|row| is_same_item(row.kind, row.id, kind, id))
+        !self.triples.of_item(kind, id).is_empty()
     }
 
     // Whether an item gives access.
     fn has_entry_of(&self, kind: ItemKind, id: u64) -> bool
         ensures { result ≡ list_any (λ e. same_item e.kind e.id kind id) self.now.entries }
     {
-        self.entries
-            .as_slice()
-            .iter()
-            .any(|row| is_same_item(row.kind, row.id, kind, id))
+        !self.entries.of_item(kind, id).is_empty()
     }
 
     // Whether an item has metadata or gives access.
@@ -51,10 +45,7 @@ impl Tables {
     fn has_entry(&self, kind: ItemKind, id: u64, user: u32) -> bool
         ensures { result ≡ has_entry self.now kind id user }
     {
-        self.entries
-            .as_slice()
-            .iter()
-            .any(|row| is_entry(row, kind, id, user))
+        self.entries.has(EntryKey { kind, id, user })
     }
 
     /// Applies delta 13.
@@ -86,23 +77,7 @@ impl Tables {
         if !self.has_entry(kind, id, user) {
             return Err(TableError::BadDelta { cause: 14 });
         }
-        self.entries.drop_entry(kind, id, user);
+        self.entries.remove(EntryKey { kind, id, user });
         Ok(())
-    }
-}
-
-/// Whether this is the entry of that item for a user.
-fn is_entry(row: &EntryRow, kind: ItemKind, id: u64, user: u32) -> bool
-    ensures { result ≡ is_entry kind id user row.now }
-{
-    is_same_item(row.kind, row.id, kind, id) && row.user == user
-}
-
-impl Table<EntryRow> {
-    /// Drops the entry of this item for a user.
-    fn drop_entry(&mut self, kind: ItemKind, id: u64, user: u32)
-        ensures { self.new ≡ filter (λ e. not (is_entry kind id user e)) self.old }
-    {
-        self.retain(|row| !is_entry(row, kind, id, user));
     }
 }

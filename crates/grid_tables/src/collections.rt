@@ -6,8 +6,6 @@ ghost use Rattle.grid_model.specs.Rows.{has_collection, collection, is_named_col
 ghost use Rattle.grid_tables.specs.declared.error.TableError.TheVariants.{BadDelta, Memory};
 
 use crate::kinds::is_name;
-use crate::objects::is_object_named;
-use crate::table::Table;
 use crate::{TableError, Tables};
 use grid_model::{CollectionRow, Delta, ItemKind, Text};
 
@@ -16,7 +14,7 @@ impl Tables {
     pub(crate) fn has_collection(&self, id: u64) -> bool
         ensures { result ≡ has_collection self.now id }
     {
-        self.collections.as_slice().iter().any(|row| row.id == id)
+        self.collections.has(id)
     }
 
     /// The collection with this id, whose name is one but for `/`. It takes no memory.
@@ -24,7 +22,7 @@ impl Tables {
         ensures row { option_copied result ≡ collection self.now id }
         ensures named { IfSome result (λ row. IsTrue (is_named_collection row.now)) }
     {
-        self.collections.as_slice().iter().find(|row| row.id == id)
+        self.collections.get(id)
     }
 
     // Whether a collection is the upper one or lies below it. No way up is longer than there are collections.
@@ -32,7 +30,7 @@ impl Tables {
         ensures { result ≡ lies_in self.now upper id }
     {
         let mut current = id;
-        for _step in 0..self.collections.as_slice().len() {
+        for _step in 0..self.collections.len() {
             if current == upper {
                 return true;
             }
@@ -51,20 +49,17 @@ impl Tables {
     fn is_other_collection_named(&self, id: u64, parent: u64, name: &Text) -> bool
         ensures { result ≡ list_any (λ o. not (o.id == id) && is_child_named parent name.now o) self.now.collections }
     {
-        self.collections
-            .as_slice()
-            .iter()
-            .any(|row| row.id != id && is_child_named(row, parent, name))
+        match self.collections.find(parent, name) {
+            Some(row) => is_other_child(row, id),
+            None => false,
+        }
     }
 
     // Whether an object has the name in the parent.
     fn has_object_named(&self, parent: u64, name: &Text) -> bool
         ensures { result ≡ list_any (λ o. is_object_named parent name.now o) self.now.objects }
     {
-        self.objects
-            .as_slice()
-            .iter()
-            .any(|row| is_object_named(row, parent, name))
+        self.objects.find(parent, name).is_some()
     }
 
     // Whether nothing but the collection of this id has the name in the parent.
@@ -91,20 +86,14 @@ impl Tables {
     fn has_child(&self, id: u64) -> bool
         ensures { result ≡ list_any (λ r. is_child id r) self.now.collections }
     {
-        self.collections
-            .as_slice()
-            .iter()
-            .any(|row| is_child(row, id))
+        has_some_id(self.collections.children(id))
     }
 
     // Whether an object lies in the collection.
     fn has_object_in(&self, id: u64) -> bool
         ensures { result ≡ list_any (λ r. r.collection == id) self.now.objects }
     {
-        self.objects
-            .as_slice()
-            .iter()
-            .any(|row| row.collection == id)
+        !self.objects.children(id).is_empty()
     }
 
     // Whether nothing lies in the collection.
@@ -130,6 +119,7 @@ impl Tables {
         ensures memory { result ≡ Err Memory → IsOk (apply self.old (Delta.Collection row)) }
         ensures unchanged { OnErr result (self.new ≡ self.old) }
     {
+        let _count = self.collections.len();
         if !self.collection_fits(&row) {
             return Err(TableError::BadDelta { cause: 5 });
         }
@@ -147,30 +137,21 @@ impl Tables {
         if !self.may_drop_collection(id) {
             return Err(TableError::BadDelta { cause: 6 });
         }
-        self.collections.drop_collection(id);
+        self.collections.remove(id);
         Ok(())
     }
 }
 
-/// Whether a collection lies in a parent. `/` lies in none.
-pub(crate) fn is_child(row: &CollectionRow, parent: u64) -> bool
-    ensures { result ≡ is_child parent row.now }
+/// Whether it is neither the collection of this id nor `/`.
+fn is_other_child(row: &CollectionRow, id: u64) -> bool
+    ensures { result ≡ not (row.now.id == id) && not (row.now.id == 0) }
 {
-    row.parent == parent && row.id != 0
+    row.id != id && row.id != 0
 }
 
-/// Whether a collection in the parent has this name.
-pub(crate) fn is_child_named(row: &CollectionRow, parent: u64, name: &Text) -> bool
-    ensures { result ≡ is_child_named parent name.now row.now }
+/// Whether one of the ids is not that of `/`.
+fn has_some_id(ids: &[u64]) -> bool
+    ensures { result ≡ list_any (λ id. not (id == 0)) ids.now }
 {
-    is_child(row, parent) && row.name == *name
-}
-
-impl Table<CollectionRow> {
-    /// Drops the row with this id.
-    fn drop_collection(&mut self, id: u64)
-        ensures { self.new ≡ filter (λ r. not (r.id == id)) self.old }
-    {
-        self.retain(|row| row.id != id);
-    }
+    ids.iter().any(|id| *id != 0)
 }

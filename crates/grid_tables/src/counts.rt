@@ -29,8 +29,8 @@ impl Tables {
     {
         let count = match kind {
             Kind::Users => self.users.as_slice().len(),
-            Kind::Collections => self.collections.as_slice().len(),
-            Kind::Objects => self.objects.as_slice().len(),
+            Kind::Collections => self.collections.len(),
+            Kind::Objects => self.objects.len(),
             Kind::Resources => self.resources.as_slice().len(),
             Kind::Members => self.members.as_slice().len(),
             Kind::Triples => self.triples.as_slice().len(),

@@ -1,9 +1,11 @@
 ghost use Rattle.std.specs.Prelude.{◌≡◌};
 ghost use Rattle.grid_model.specs.Applying.{gives_access, is_given, is_group_kind, is_storage, same_kind};
 ghost use Rattle.grid_model.specs.Names.{is_name};
-ghost use Rattle.grid_model.specs.Rows.{item_number, same_item};
+ghost use Rattle.grid_model.specs.Rows.{item_number};
+ghost use Rattle.grid_tables.specs.Items.{order_of_item};
 
 use grid_model::{ItemKind, Level, ResourceKind, Text, UserKind, check_name};
+use std::cmp::Ordering;
 
 /// Whether a text is a name.
 pub(crate) fn is_name(text: &Text) -> bool
@@ -76,9 +78,11 @@ pub(crate) fn item_number(kind: ItemKind) -> u8
     }
 }
 
-/// Whether two kinds and ids are those of one item.
-pub(crate) fn is_same_item(kind: ItemKind, id: u64, other_kind: ItemKind, other: u64) -> bool
-    ensures { result ≡ same_item kind id other_kind other }
+/// How an item stands to another one, by the number of the kind and then by the id.
+pub(crate) fn order_of_item(kind: ItemKind, id: u64, other_kind: ItemKind, other: u64) -> Ordering
+    ensures { result ≡ order_of_item kind id other_kind other }
 {
-    item_number(kind) == item_number(other_kind) && id == other
+    item_number(kind)
+        .cmp(&item_number(other_kind))
+        .then(id.cmp(&other))
 }

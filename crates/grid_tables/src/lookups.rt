@@ -1,12 +1,13 @@
-ghost use Rattle.std.specs.Prelude.{◌≡◌, find, option_map};
+ghost use Rattle.std.specs.Prelude.{◌≡◌, ◌==◌, ◌<◌, true, false, filter, find, option_map, IfSome, IfNone};
 ghost use Rattle.std.specs.Option.{option_copied};
 ghost use Rattle.grid_model.specs.Names.{same_text};
-ghost use Rattle.grid_model.specs.Rows.{IsCat, user, replicas_of, triples_of, access_of, kind_of, id_of};
+ghost use Rattle.grid_model.specs.Rows.{IsCat, has_collection, has_object, user, replicas_of, triples_of, access_of, kind_of, id_of};
+ghost use Rattle.grid_tables.specs.Indexes.{IsIndex, place_cmp};
 
 use crate::Tables;
 use grid_model::{
-    EntryRow, Item, ItemKind, MemberRow, Numbers, OrphanRow, Pending, ReplicaRow, Text, TripleRow,
-    UserRow,
+    EntryRow, Item, ItemKind, MemberRow, Numbers, OrphanRow, Pending, ReplicaRow, ResourceRow,
+    Text, TripleRow, UserRow,
 };
 
 /// Look-ups. None of them takes memory.
@@ -29,7 +30,7 @@ impl Tables {
     pub fn user(&self, id: u32) -> Option<&UserRow>
         ensures { option_copied result ≡ user self.now id }
     {
-        self.users.as_slice().iter().find(|row| row.id == id)
+        self.users.get(u64::from(id))
     }
 
     /// The id of the user or the group with this name.
@@ -52,6 +53,52 @@ impl Tables {
             .iter()
             .find(|row| row.name == *name)
             .map(|row| row.id)
+    }
+
+    /// The users and groups, by id.
+    pub fn users(&self) -> &[UserRow]
+        ensures { result.now ≡ self.now.users }
+    {
+        self.users.as_slice()
+    }
+
+    /// The resources, by id.
+    pub fn resources(&self) -> &[ResourceRow]
+        ensures { result.now ≡ self.now.resources }
+    {
+        self.resources.as_slice()
+    }
+
+    /// An id from 1 on that no collection has, above all of theirs; none where 2^64 - 1 is taken.
+    pub fn next_collection_id(&self) -> Option<u64>
+        ensures fresh { IfSome result (λ id. has_collection self.now id ≡ false) }
+        ensures some { IfSome result (λ id. 0 < id) }
+        ensures none { IfNone result (has_collection self.now u64.MAX ≡ true) }
+    {
+        self.collections.next_id()
+    }
+
+    /// An id from 1 on that no object has, above all of theirs; none where 2^64 - 1 is taken.
+    pub fn next_object_id(&self) -> Option<u64>
+        ensures fresh { IfSome result (λ id. has_object self.now id ≡ false) }
+        ensures some { IfSome result (λ id. 0 < id) }
+        ensures none { IfNone result (has_object self.now u64.MAX ≡ true) }
+    {
+        self.objects.next_id()
+    }
+
+    /// The ids of the collections in this one, in the order of their names. `/` is in itself, and the first there.
+    pub fn collections_in(&self, collection: u64) -> &[u64]
+        ensures { IsIndex (λ r. r.id) (place_cmp (λ r. r.parent) (λ r. r.name)) (filter (λ r. r.parent == collection) self.now.collections) result.now }
+    {
+        self.collections.children(collection)
+    }
+
+    /// The ids of the objects in this collection, in the order of their names.
+    pub fn objects_in(&self, collection: u64) -> &[u64]
+        ensures { IsIndex (λ r. r.id) (place_cmp (λ r. r.collection) (λ r. r.name)) (filter (λ r. r.collection == collection) self.now.objects) result.now }
+    {
+        self.objects.children(collection)
     }
 
     /// The members of all groups, by group and then by user.
@@ -93,7 +140,7 @@ impl Tables {
     pub fn replicas_of(&self, object: u64) -> &[ReplicaRow]
         ensures { result.now ≡ replicas_of self.now object }
     {
-        self.replicas.of_item(ItemKind::Object, object)
+        self.replicas.of_object(object)
     }
 
     /// The metadata of an item, in the order of attribute, value and unit.
@@ -118,8 +165,8 @@ impl Tables {
     {
         let _users = self.users.as_slice();
         let _members = self.members.as_slice();
-        let _collections = self.collections.as_slice();
-        let _objects = self.objects.as_slice();
+        let _collections = self.collections.len();
+        let _objects = self.objects.len();
         let _replicas = self.replicas.as_slice();
         let _triples = self.triples.as_slice();
         let _entries = self.entries.as_slice();

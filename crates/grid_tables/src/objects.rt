@@ -5,9 +5,7 @@ ghost use Rattle.grid_model.specs.Applying.{apply, is_child_named, is_object_nam
 ghost use Rattle.grid_model.specs.Rows.{has_object, object, is_named_object};
 ghost use Rattle.grid_tables.specs.declared.error.TableError.TheVariants.{BadDelta, Memory};
 
-use crate::collections::is_child_named;
 use crate::kinds::is_name;
-use crate::table::Table;
 use crate::{TableError, Tables};
 use grid_model::{Delta, ItemKind, ObjectRow, Text};
 
@@ -16,7 +14,7 @@ impl Tables {
     pub(crate) fn has_object(&self, id: u64) -> bool
         ensures { result ≡ has_object self.now id }
     {
-        self.objects.as_slice().iter().any(|row| row.id == id)
+        self.objects.has(id)
     }
 
     /// The object with this id, whose name is one. It takes no memory.
@@ -24,27 +22,27 @@ impl Tables {
         ensures row { option_copied result ≡ object self.now id }
         ensures named { IfSome result (λ row. IsTrue (is_named_object row.now)) }
     {
-        self.objects.as_slice().iter().find(|row| row.id == id)
+        self.objects.get(id)
     }
 
     // Whether a collection has the name in the parent.
     fn has_collection_named(&self, parent: u64, name: &Text) -> bool
         ensures { result ≡ list_any (λ o. is_child_named parent name.now o) self.now.collections }
     {
-        self.collections
-            .as_slice()
-            .iter()
-            .any(|row| is_child_named(row, parent, name))
+        match self.collections.find(parent, name) {
+            Some(row) => row.id != 0,
+            None => false,
+        }
     }
 
     // Whether an object but that of this id has the name in the parent.
     fn is_other_object_named(&self, id: u64, parent: u64, name: &Text) -> bool
         ensures { result ≡ list_any (λ o. not (o.id == id) && is_object_named parent name.now o) self.now.objects }
     {
-        self.objects
-            .as_slice()
-            .iter()
-            .any(|row| row.id != id && is_object_named(row, parent, name))
+        match self.objects.find(parent, name) {
+            Some(row) => row.id != id,
+            None => false,
+        }
     }
 
     // Whether nothing but the object of this id has the name in the parent.
@@ -67,7 +65,7 @@ impl Tables {
     fn has_replica_of(&self, id: u64) -> bool
         ensures { result ≡ list_any (λ r. r.object == id) self.now.replicas }
     {
-        self.replicas.as_slice().iter().any(|row| row.object == id)
+        !self.replicas.of_object(id).is_empty()
     }
 
     // Whether it is there and has no replica, and nothing is said of it.
@@ -101,23 +99,7 @@ impl Tables {
         if !self.may_drop_object(id) {
             return Err(TableError::BadDelta { cause: 8 });
         }
-        self.objects.drop_object(id);
+        self.objects.remove(id);
         Ok(())
-    }
-}
-
-/// Whether an object in the parent has this name.
-pub(crate) fn is_object_named(row: &ObjectRow, parent: u64, name: &Text) -> bool
-    ensures { result ≡ is_object_named parent name.now row.now }
-{
-    row.collection == parent && row.name == *name
-}
-
-impl Table<ObjectRow> {
-    /// Drops the row with this id.
-    fn drop_object(&mut self, id: u64)
-        ensures { self.new ≡ filter (λ r. not (r.id == id)) self.old }
-    {
-        self.retain(|row| row.id != id);
     }
 }

@@ -1,8 +1,10 @@
-ghost use Rattle.std.specs.Prelude.{◌≡◌, ◌++◌, [], option_map, unwrap_or, reverse, IsTrue, IfOk, IfSome};
+ghost use Rattle.std.specs.Prelude.{◌≡◌, ◌++◌, ℕ, [], find, option_map, unwrap_or, reverse, IsTrue, IfOk, IfSome};
 ghost use Rattle.std.specs.List.{list_all};
 ghost use Rattle.grid_model.specs.Names.{is_name};
 ghost use Rattle.grid_model.specs.Rows.{is_named_object};
 ghost use Rattle.grid_model.specs.RowPaths.{names_up, collection_path, object_path, item_path, is_path_of, collection_at, object_at};
+ghost use Rattle.grid_model.specs.Applying.{is_child_named, is_object_named};
+ghost use Rattle.grid_tables.specs.Descending.{descend, is_found};
 
 use crate::Tables;
 use grid_model::{Item, ObjectRow, Path, Text};
@@ -21,7 +23,7 @@ impl Tables {
         ensures all { IfOk result (λ up. IfSome up (λ v. IsTrue (list_all is_name v.items))) }
     {
         let mut current = id;
-        for _step in 0..self.collections.as_slice().len() {
+        for _step in 0..self.collections.len() {
             if current == 0 {
                 return Ok(Some(names));
             }
@@ -84,62 +86,82 @@ impl Tables {
         }
     }
 
-    // Whether these names lead from `/` down to a collection. They are looked at from the last one on, upwards.
-    fn is_at(&self, id: u64, names: &[Text]) -> bool
-        ensures { result ≡ is_path_of (collection_path self.now id) names.now }
+    // The id of the collection with this name in the parent.
+    fn child_named(&self, parent: u64, name: &Text) -> Option<u64>
+        ensures { result ≡ option_map (λ r. r.id) (find (λ r. is_child_named parent name.now r) self.now.collections) }
     {
-        if self.collections.as_slice().len() <= names.len() {
-            return false;
-        }
-        let mut current = id;
-        for above in 0..names.len() {
-            if current == 0 {
-                return false;
-            }
-            match self.collection(current) {
-                Some(row) => {
-                    if row.name != names[names.len() - 1 - above] {
-                        return false;
-                    }
-                    current = row.parent;
+        let _count = self.collections.len();
+        match self.collections.find(parent, name) {
+            Some(row) => {
+                if row.id == 0 {
+                    return None;
                 }
-                None => return false,
+                Some(row.id)
             }
+            None => None,
         }
-        current == 0
     }
 
-    /// The id of the collection at this path. It takes no memory.
+    // The id of the collection to which these names lead from `/` down.
+    fn descend(&self, names: &[Text]) -> Option<u64>
+        ensures { result ≡ descend self.now 0 names.now }
+    {
+        let mut current = 0;
+        for name in names {
+            match self.child_named(current, name) {
+                Some(child) => current = child,
+                None => return None,
+            }
+        }
+        Some(current)
+    }
+
+    // The id of the collection with these names on the way from `/` to it. `/` itself need not be there.
+    fn located(&self, names: &[Text]) -> Option<u64>
+        ensures { (id : ℕ) → is_path_of (collection_path self.now id) names.now ≡ is_found result id }
+    {
+        let count = self.collections.len();
+        if count <= names.len() {
+            return None;
+        }
+        self.descend(names)
+    }
+
+    /// The id of the collection at this path. It takes no memory, and looks for one name after another.
     pub fn collection_at(&self, path: &Path) -> Option<u64>
         ensures { result ≡ collection_at self.now path.now }
     {
-        let names = path.names();
-        self.collections
-            .as_slice()
-            .iter()
-            .find(|row| self.is_at(row.id, names))
-            .map(|row| row.id)
-    }
-
-    // Whether these names lead from `/` down to an object.
-    fn is_object_at(&self, row: &ObjectRow, names: &[Text]) -> bool
-        ensures { result ≡ is_path_of (object_path self.now row.now) names.now }
-    {
-        match names.split_last() {
-            Some((name, above)) => row.name == *name && self.is_at(row.collection, above),
-            None => false,
+        match self.located(path.names()) {
+            Some(id) => {
+                if self.has_collection(id) {
+                    return Some(id);
+                }
+                None
+            }
+            None => None,
         }
     }
 
-    /// The id of the object at this path. It takes no memory.
+    // The id of the object with this name in a collection.
+    fn object_named(&self, collection: u64, name: &Text) -> Option<u64>
+        ensures { result ≡ option_map (λ r. r.id) (find (λ r. is_object_named collection name.now r) self.now.objects) }
+    {
+        match self.objects.find(collection, name) {
+            Some(row) => Some(row.id),
+            None => None,
+        }
+    }
+
+    /// The id of the object at this path. It takes no memory, and looks for one name after another.
     pub fn object_at(&self, path: &Path) -> Option<u64>
         ensures { result ≡ object_at self.now path.now }
     {
-        let names = path.names();
-        self.objects
-            .as_slice()
-            .iter()
-            .find(|row| self.is_object_at(row, names))
-            .map(|row| row.id)
+        match path.names().split_last() {
+            Some((name, above)) => match self.located(above) {
+                Some(collection) => self.object_named(collection, name),
+                None => None,
+            },
+            None => None,
+        }
     }
 }

@@ -4,7 +4,6 @@ ghost use Rattle.grid_model.specs.Applying.{apply, is_leaf, is_drawn, is_replica
 ghost use Rattle.grid_tables.specs.declared.error.TableError.TheVariants.{BadDelta, Memory};
 
 use crate::kinds::is_storage;
-use crate::table::Table;
 use crate::{TableError, Tables};
 use grid_model::{Delta, OrphanRow, ReplicaRow};
 
@@ -13,17 +12,17 @@ impl Tables {
     fn is_leaf(&self, id: u32) -> bool
         ensures { result ≡ is_leaf self.now id }
     {
-        self.resources
-            .as_slice()
-            .iter()
-            .any(|row| row.id == id && is_storage(row.kind))
+        match self.resources.get(u64::from(id)) {
+            Some(row) => is_storage(row.kind),
+            None => false,
+        }
     }
 
     // Whether an orphan has this vault number.
     fn has_orphan(&self, vault: u64) -> bool
         ensures { result ≡ has_orphan self.now vault }
     {
-        self.orphans.as_slice().iter().any(|row| row.vault == vault)
+        self.orphans.has(vault)
     }
 
     // Whether a vault number was drawn, and no orphan has it.
@@ -37,18 +36,14 @@ impl Tables {
     fn is_leaf_of_another(&self, row: &ReplicaRow) -> bool
         ensures { result ≡ list_any (λ o. (o.object == row.now.object) && not (o.number == row.now.number) && (o.leaf == row.now.leaf)) self.now.replicas }
     {
-        self.replicas.as_slice().iter().any(|other| {
-            other.object == row.object && other.number != row.number && other.leaf == row.leaf
-        })
+        has_other_on_leaf(self.replicas.of_object(row.object), row)
     }
 
     // Whether another replica has the vault number.
     fn is_vault_of_another(&self, row: &ReplicaRow) -> bool
         ensures { result ≡ list_any (λ o. (o.vault == row.now.vault) && not (is_replica row.now.object row.now.number o)) self.now.replicas }
     {
-        self.replicas.as_slice().iter().any(|other| {
-            other.vault == row.vault && !is_replica(other, row.object, row.number)
-        })
+        self.replicas.has_other_with_vault(row)
     }
 
     // Whether its object and leaf are there, and no other replica of the object has the leaf, and no other row the vault number.
@@ -66,20 +61,14 @@ impl Tables {
     fn has_replica(&self, object: u64, number: u32) -> bool
         ensures { result ≡ has_replica self.now object number }
     {
-        self.replicas
-            .as_slice()
-            .iter()
-            .any(|row| is_replica(row, object, number))
+        self.replicas.has(object, number)
     }
 
     // Whether a replica has this vault number.
     fn is_vault_of_replica(&self, vault: u64) -> bool
         ensures { result ≡ list_any (λ o. o.vault == vault) self.now.replicas }
     {
-        self.replicas
-            .as_slice()
-            .iter()
-            .any(|row| row.vault == vault)
+        self.replicas.has_vault(vault)
     }
 
     // Whether its vault number was drawn and no row has it, and there is a store at its slot.
@@ -113,7 +102,7 @@ impl Tables {
         if !self.has_replica(object, number) {
             return Err(TableError::BadDelta { cause: 10 });
         }
-        self.replicas.drop_replica(object, number);
+        self.replicas.remove(object, number);
         Ok(())
     }
 
@@ -141,32 +130,14 @@ impl Tables {
         if !self.has_orphan(vault) {
             return Err(TableError::BadDelta { cause: 18 });
         }
-        self.orphans.drop_vault(vault);
+        self.orphans.remove(vault);
         Ok(())
     }
 }
 
-/// Whether this is the replica with that number of an object.
-fn is_replica(row: &ReplicaRow, object: u64, number: u32) -> bool
-    ensures { result ≡ is_replica object number row.now }
+/// Whether one of these replicas with another number has the leaf.
+fn has_other_on_leaf(rows: &[ReplicaRow], row: &ReplicaRow) -> bool
+    ensures { result ≡ list_any (λ o. not (o.number == row.now.number) && (o.leaf == row.now.leaf)) rows.now }
 {
-    row.object == object && row.number == number
-}
-
-impl Table<OrphanRow> {
-    /// Drops the row with this vault number.
-    fn drop_vault(&mut self, vault: u64)
-        ensures { self.new ≡ filter (λ o. not (o.vault == vault)) self.old }
-    {
-        self.retain(|row| row.vault != vault);
-    }
-}
-
-impl Table<ReplicaRow> {
-    /// Drops the row with this number of an object.
-    fn drop_replica(&mut self, object: u64, number: u32)
-        ensures { self.new ≡ filter (λ r. not (is_replica object number r)) self.old }
-    {
-        self.retain(|row| !is_replica(row, object, number));
-    }
+    rows.iter().any(|other| other.number != row.number && other.leaf == row.leaf)
 }

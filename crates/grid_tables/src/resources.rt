@@ -15,17 +15,14 @@ impl Tables {
     pub(crate) fn has_resource(&self, id: u64) -> bool
         ensures { result ≡ has_resource self.now id }
     {
-        self.resources
-            .as_slice()
-            .iter()
-            .any(|row| u64::from(row.id) == id)
+        self.resources.has(id)
     }
 
     /// The resource with this id. It takes no memory.
     pub fn resource(&self, id: u32) -> Option<&ResourceRow>
         ensures { option_copied result ≡ resource self.now id }
     {
-        self.resources.as_slice().iter().find(|row| row.id == id)
+        self.resources.get(u64::from(id))
     }
 
     // Whether a resource is the upper one or stands below it. No way up is longer than there are resources.
@@ -59,10 +56,10 @@ impl Tables {
     fn is_of_another_kind(&self, id: u32, kind: ResourceKind) -> bool
         ensures { result ≡ list_any (λ o. (o.id == id) && not (same_kind o.kind kind)) self.now.resources }
     {
-        self.resources
-            .as_slice()
-            .iter()
-            .any(|row| row.id == id && !is_same_kind(row.kind, kind))
+        match self.resources.get(u64::from(id)) {
+            Some(row) => !is_same_kind(row.kind, kind),
+            None => false,
+        }
     }
 
     // Whether a leaf is at the slot of a store, and what is no leaf at slot 0.
@@ -80,10 +77,10 @@ impl Tables {
     fn is_node(&self, id: u32) -> bool
         ensures { result ≡ is_node self.now id }
     {
-        self.resources
-            .as_slice()
-            .iter()
-            .any(|row| row.id == id && !is_storage(row.kind))
+        match self.resources.get(u64::from(id)) {
+            Some(row) => !is_storage(row.kind),
+            None => false,
+        }
     }
 
     // Whether another child of the parent has the place.

@@ -1,13 +1,17 @@
-ghost use Rattle.std.specs.Prelude.{◌≡◌, ◌<◌, ℕ, Bool, true};
+ghost use Rattle.std.specs.Prelude.{◌≡◌, ◌≤◌, ℕ, Bool, true};
+ghost use Rattle.std.proofs.Common.{refl};
+ghost use Rattle.std.specs.Ordering.{is_eq, nat_cmp, ordering_index};
 ghost use Rattle.std.specs.declared.cmp.Ordering.{Ordering};
 ghost use Rattle.std.specs.declared.cmp.Ordering.TheVariants.{Less};
 ghost use Rattle.std.specs.Cmp.{IsTotalOrder};
 ghost use Rattle.grid_model.specs.declared.grid.ItemKind.{ItemKind};
 ghost use Rattle.grid_model.specs.declared.grid.ItemKind.TheVariants as kinds;
-ghost use Rattle.grid_model.specs.Rows.{same_item, is_named_user, is_named_collection, is_named_object, is_named_resource, user_cmp, member_cmp, collection_cmp, object_cmp, replica_cmp, triple_cmp, entry_cmp, resource_cmp, orphan_cmp};
-ghost use Rattle.grid_model.proofs.RowOrders.{replicas_together, triples_together, entries_together, lower_id, user_cmp_total, member_cmp_total, collection_cmp_total, object_cmp_total, replica_cmp_total, triple_cmp_total, entry_cmp_total, resource_cmp_total, orphan_cmp_total};
+ghost use Rattle.grid_model.specs.Rows.{same_item, is_named_user, is_named_object, is_named_resource, user_cmp, member_cmp, collection_cmp, object_cmp, replica_cmp, triple_cmp, entry_cmp, resource_cmp, orphan_cmp};
+ghost use Rattle.grid_model.proofs.RowOrders.{user_cmp_total, member_cmp_total, collection_cmp_total, object_cmp_total, replica_cmp_total, triple_cmp_total, entry_cmp_total, resource_cmp_total, orphan_cmp_total};
+ghost use Rattle.grid_tables.specs.Roots.{is_whole_collection};
+ghost use Rattle.grid_tables.specs.Items.{order_of_item, belongs_to, replica_falls, triple_falls, entry_falls};
 
-use crate::kinds::{is_same_item, item_number};
+use crate::kinds::{item_number, order_of_item};
 use grid_model::{
     CollectionRow, EntryRow, ItemKind, MemberRow, ObjectRow, OrphanRow, ReplicaRow, ResourceRow,
     TripleRow, UserRow,
@@ -56,7 +60,7 @@ impl Row for MemberRow {
 impl Row for CollectionRow {
     ghost row_cmp = { collection_cmp };
 
-    ghost fits = { is_named_collection };
+    ghost fits = { is_whole_collection };
 
     ghost total = { collection_cmp_total };
 
@@ -151,40 +155,56 @@ impl Row for OrphanRow {
 pub(crate) trait OfItem: Row {
     ghost is_of: { Self → ItemKind → ℕ → Bool };
 
-    /// Whether it belongs to the item of this kind and id.
-    fn is_of(&self, kind: ItemKind, id: u64) -> bool
-        ensures { result ≡ is_of self.now kind id };
+    ghost item_order: { ItemKind → ℕ → Self → Ordering };
 
-    ghost together: { (a b c : Self) (kind : ItemKind) (id : ℕ) → Self.row_cmp a b ≡ Less → Self.row_cmp b c ≡ Less → is_of a kind id ≡ true → is_of c kind id ≡ true → is_of b kind id ≡ true };
+    /// How the item of this kind and id stands to the one that it belongs to.
+    fn item_order(&self, kind: ItemKind, id: u64) -> Ordering
+        ensures { result ≡ item_order kind id self.now };
+
+    ghost belongs: { (kind : ItemKind) (id : ℕ) (r : Self) → is_of r kind id ≡ is_eq (item_order kind id r) };
+
+    ghost falls: { (kind : ItemKind) (id : ℕ) (a b : Self) → Self.row_cmp a b ≡ Less → ordering_index (item_order kind id b) ≤ ordering_index (item_order kind id a) };
 }
 
 impl OfItem for ReplicaRow {
     ghost is_of = { λ r. same_item kinds.Object r.object };
 
-    ghost together = { replicas_together };
+    ghost item_order = { λ kind id r. order_of_item kind id kinds.Object r.object };
 
-    fn is_of(&self, kind: ItemKind, id: u64) -> bool {
-        is_same_item(ItemKind::Object, self.object, kind, id)
+    ghost belongs = { λ kind id r. belongs_to kind id kinds.Object r.object };
+
+    ghost falls = { λ kind id a b. replica_falls kind id a b };
+
+    fn item_order(&self, kind: ItemKind, id: u64) -> Ordering {
+        order_of_item(kind, id, ItemKind::Object, self.object)
     }
 }
 
 impl OfItem for TripleRow {
     ghost is_of = { λ t. same_item t.kind t.id };
 
-    ghost together = { triples_together };
+    ghost item_order = { λ kind id t. order_of_item kind id t.kind t.id };
 
-    fn is_of(&self, kind: ItemKind, id: u64) -> bool {
-        is_same_item(self.kind, self.id, kind, id)
+    ghost belongs = { λ kind id t. belongs_to kind id t.kind t.id };
+
+    ghost falls = { λ kind id a b. triple_falls kind id a b };
+
+    fn item_order(&self, kind: ItemKind, id: u64) -> Ordering {
+        order_of_item(kind, id, self.kind, self.id)
     }
 }
 
 impl OfItem for EntryRow {
     ghost is_of = { λ e. same_item e.kind e.id };
 
-    ghost together = { entries_together };
+    ghost item_order = { λ kind id e. order_of_item kind id e.kind e.id };
 
-    fn is_of(&self, kind: ItemKind, id: u64) -> bool {
-        is_same_item(self.kind, self.id, kind, id)
+    ghost belongs = { λ kind id e. belongs_to kind id e.kind e.id };
+
+    ghost falls = { λ kind id a b. entry_falls kind id a b };
+
+    fn item_order(&self, kind: ItemKind, id: u64) -> Ordering {
+        order_of_item(kind, id, self.kind, self.id)
     }
 }
 
@@ -196,13 +216,13 @@ pub(crate) trait Numbered: Row {
     fn number(&self) -> u64
         ensures { result ≡ number self.now };
 
-    ghost rises: { (one other : Self) → Self.row_cmp one other ≡ Less → number one < number other };
+    ghost by_number: { (one other : Self) → Self.row_cmp one other ≡ nat_cmp (number one) (number other) };
 }
 
 impl Numbered for UserRow {
     ghost number = { λ r. r.id };
 
-    ghost rises = { λ one other. lower_id one.id other.id };
+    ghost by_number = { λ one other. refl };
 
     fn number(&self) -> u64 {
         u64::from(self.id)
@@ -212,7 +232,7 @@ impl Numbered for UserRow {
 impl Numbered for CollectionRow {
     ghost number = { λ r. r.id };
 
-    ghost rises = { λ one other. lower_id one.id other.id };
+    ghost by_number = { λ one other. refl };
 
     fn number(&self) -> u64 {
         self.id
@@ -222,7 +242,7 @@ impl Numbered for CollectionRow {
 impl Numbered for ObjectRow {
     ghost number = { λ r. r.id };
 
-    ghost rises = { λ one other. lower_id one.id other.id };
+    ghost by_number = { λ one other. refl };
 
     fn number(&self) -> u64 {
         self.id
@@ -232,9 +252,19 @@ impl Numbered for ObjectRow {
 impl Numbered for ResourceRow {
     ghost number = { λ r. r.id };
 
-    ghost rises = { λ one other. lower_id one.id other.id };
+    ghost by_number = { λ one other. refl };
 
     fn number(&self) -> u64 {
         u64::from(self.id)
+    }
+}
+
+impl Numbered for OrphanRow {
+    ghost number = { λ r. r.vault };
+
+    ghost by_number = { λ one other. refl };
+
+    fn number(&self) -> u64 {
+        self.vault
     }
 }

@@ -1,18 +1,19 @@
-ghost use Rattle.std.specs.Prelude.{◌≡◌, ◌≤◌, Bool, [], length, filter, map, IsTrue, IfOk, OnOk, OnErr};
-ghost use Rattle.std.specs.Fn.{ComputesKey};
-ghost use Rattle.std.specs.List.{position_or_len, prefix_len};
-ghost use Rattle.std.specs.List.Sorted.{IsStrictlyIncreasing};
+ghost use Rattle.std.specs.Prelude.{◌≡◌, ◌≤◌, ◌&&◌, Bool, [], length, find, filter, map, not, IsTrue, IfOk, IfSome, OnOk, OnErr};
+ghost use Rattle.std.specs.List.{list_any};
+ghost use Rattle.std.specs.List.Sorted.{IsPartitionedBy, IsSearchInRange, IsStrictlyIncreasing, IsStrictlySortedBy};
+ghost use Rattle.std.specs.Ordering.{is_eq};
+ghost use Rattle.std.specs.Option.{option_copied};
 ghost use Rattle.grid_model.specs.Rows.{IsTable, with_row};
-ghost use Rattle.grid_tables.specs.Places.{IsPlace};
+ghost use Rattle.grid_tables.specs.Places.{IsPlace, Falls, StartsAt, StopsAt, passes};
 
+use crate::probe::Probe;
 use crate::row::{Numbered, OfItem, Row};
 use grid_model::ItemKind;
 use std::alloc::{AllocError, Global};
-use std::cmp::Ordering;
 use std::marker::Model;
 
-/// Rows in rising order of their keys, no two with the same one. It goes over all rows to find the place of one: the
-/// plain first body.
+/// Rows in rising order of their keys, no two with the same one. A row is found by its key in a number of steps that
+/// grows as the logarithm of theirs.
 #[derive(Debug, Drop)]
 pub(crate) struct Table<T: Row> {
     rows: Vec<T>,
@@ -29,27 +30,12 @@ impl<T: Row> Model for Table<T> {
     ghost invariant = { λ t. IsTable T.row_cmp T.fits t.rows.items };
 }
 
-/// Where a row with some key belongs.
-#[derive(Clone, Copy, Debug, PartialEq, Eq)]
-pub(crate) enum Place {
-    /// The row at this index has the key.
-    At(usize),
-    /// No row has it, and it belongs before the row at this index, or at the end.
-    Before(usize),
-}
-
-/// The place of a row among these.
-fn place_of<T: Row>(rows: &[T], row: &T) -> Place
-    ensures { IsPlace T.row_cmp rows.now row.now result }
+/// The place of a key among rows in rising order, by a binary search.
+fn place_of<T: Row, Q: Probe<T>>(rows: &[T], key: Q) -> Result<usize, usize>
+    ensures within { IsSearchInRange result (length rows.now) }
+    ensures place { IsStrictlySortedBy T.row_cmp rows.now → IsPlace (Q.compare key) rows.now result }
 {
-    for (index, other) in rows.iter().enumerate() {
-        match row.cmp_key(other) {
-            Ordering::Less => return Place::Before(index),
-            Ordering::Equal => return Place::At(index),
-            Ordering::Greater => {}
-        }
-    }
-    Place::Before(rows.len())
+    rows.binary_search_by(|row| key.compare(row).reverse())
 }
 
 impl<T: Row> Table<T> {
@@ -71,6 +57,28 @@ impl<T: Row> Table<T> {
     }
 }
 
+impl<T: Row> Table<T> {
+    /// The row with this key.
+    pub(crate) fn get<Q: Probe<T>>(&self, key: Q) -> Option<&T>
+        ensures row { option_copied result ≡ find (λ r. Q.is_key_of key r) self.now }
+        ensures fits { IfSome result (λ row. IsTrue (T.fits row.now)) }
+        ensures alone { (test : T → Bool) → list_any (λ r. Q.is_key_of key r && test r) self.now ≡ passes test (option_copied result) }
+    {
+        let rows = self.as_slice();
+        match place_of(rows, key) {
+            Ok(index) => Some(&rows[index]),
+            Err(_) => None,
+        }
+    }
+
+    /// Whether a row has this key.
+    pub(crate) fn has<Q: Probe<T>>(&self, key: Q) -> bool
+        ensures { result ≡ list_any (λ r. Q.is_key_of key r) self.now }
+    {
+        self.get(key).is_some()
+    }
+}
+
 impl<T: Row + Drop> Table<T> {
     /// Puts a row in the place of the one with its key, or where it belongs. Fails for want of memory alone, and then
     /// nothing is put.
@@ -80,23 +88,24 @@ impl<T: Row + Drop> Table<T> {
         ensures failed { OnErr result (self.new ≡ self.old) }
     {
         match place_of(&self.rows, &row) {
-            Place::At(index) => {
+            Ok(index) => {
                 self.rows[index] = row;
                 Ok(())
             }
-            Place::Before(index) => {
+            Err(index) => {
                 self.rows.insert(index, row)?;
                 Ok(())
             }
         }
     }
 
-    /// Keeps the rows that the test passes, and drops the others.
-    pub(crate) fn retain<F: FnMut(&T) -> bool>(&mut self, is_kept: F)
-        requires { F.IsAlwaysCallable is_kept }
-        ensures { (test : T → Bool) → ComputesKey F.FnMut test is_kept → self.new ≡ filter test self.old }
+    /// Drops the row with this key, where there is one.
+    pub(crate) fn remove<Q: Probe<T>>(&mut self, key: Q)
+        ensures { self.new ≡ filter (λ r. not (Q.is_key_of key r)) self.old }
     {
-        self.rows.retain(is_kept);
+        if let Ok(index) = place_of(&self.rows, key) {
+            self.rows.remove(index);
+        }
     }
 }
 
@@ -119,20 +128,20 @@ impl<T: Numbered> Table<T> {
     }
 }
 
-/// How many rows stand before the first one of an item.
+// How many rows from the front on stand before those of an item.
 fn before_item<T: OfItem>(rows: &[T], kind: ItemKind, id: u64) -> usize
-    ensures count { result ≡ position_or_len (λ r. T.is_of r kind id) rows.now }
     ensures within { result ≤ length rows.now }
+    ensures place { Falls (T.item_order kind id) rows.now → StartsAt (T.item_order kind id) rows.now result }
 {
-    rows.iter().take_while(|row| !row.is_of(kind, id)).count()
+    rows.partition_point(|row| row.item_order(kind, id).is_gt())
 }
 
-/// How many rows from the front on are of an item.
+// How many rows from the front on are of an item, where none stands before them.
 fn first_of_item<T: OfItem>(rows: &[T], kind: ItemKind, id: u64) -> usize
-    ensures count { result ≡ prefix_len (λ r. T.is_of r kind id) rows.now }
     ensures within { result ≤ length rows.now }
+    ensures place { IsPartitionedBy (λ r. is_eq (T.item_order kind id r)) rows.now → StopsAt (T.item_order kind id) rows.now result }
 {
-    rows.iter().take_while(|row| row.is_of(kind, id)).count()
+    rows.partition_point(|row| row.item_order(kind, id).is_eq())
 }
 
 impl<T: OfItem> Table<T> {

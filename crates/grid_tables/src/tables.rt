@@ -4,10 +4,12 @@ ghost use Rattle.grid_model.specs.Rows.{empty_cat};
 ghost use Rattle.grid_tables.specs.declared.error.TableError.TheVariants.{BadDelta, Memory};
 
 use crate::TableError;
+use crate::named::Named;
 use crate::table::Table;
+use crate::vaults::Replicas;
 use grid_model::{
-    CollectionRow, Delta, EntryRow, MemberRow, Numbers, ObjectRow, OrphanRow, Pending, ReplicaRow,
-    ResourceRow, Text, TripleRow, UserRow,
+    CollectionRow, Delta, EntryRow, MemberRow, Numbers, ObjectRow, OrphanRow, Pending, ResourceRow,
+    Text, TripleRow, UserRow,
 };
 use std::alloc::Global;
 use std::marker::Model;
@@ -19,9 +21,9 @@ pub struct Tables {
     pub(crate) stores: u8,
     pub(crate) users: Table<UserRow>,
     pub(crate) members: Table<MemberRow>,
-    pub(crate) collections: Table<CollectionRow>,
-    pub(crate) objects: Table<ObjectRow>,
-    pub(crate) replicas: Table<ReplicaRow>,
+    pub(crate) collections: Named<CollectionRow>,
+    pub(crate) objects: Named<ObjectRow>,
+    pub(crate) replicas: Replicas,
     pub(crate) triples: Table<TripleRow>,
     pub(crate) entries: Table<EntryRow>,
     pub(crate) resources: Table<ResourceRow>,
@@ -64,9 +66,9 @@ impl Tables {
             stores: 0,
             users: Table::empty(alloc),
             members: Table::empty(alloc),
-            collections: Table::empty(alloc),
-            objects: Table::empty(alloc),
-            replicas: Table::empty(alloc),
+            collections: Named::empty(alloc),
+            objects: Named::empty(alloc),
+            replicas: Replicas::empty(alloc),
             triples: Table::empty(alloc),
             entries: Table::empty(alloc),
             resources: Table::empty(alloc),

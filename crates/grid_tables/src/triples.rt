@@ -4,8 +4,6 @@ ghost use Rattle.grid_model.specs.Applying.{apply, has_triple};
 ghost use Rattle.grid_model.specs.Rows.{item_there, triple_cmp};
 ghost use Rattle.grid_tables.specs.declared.error.TableError.TheVariants.{BadDelta, Memory};
 
-use crate::row::Row;
-use crate::table::Table;
 use crate::{TableError, Tables};
 use grid_model::{Delta, ItemKind, TripleRow};
 
@@ -26,10 +24,7 @@ impl Tables {
     fn has_triple(&self, row: &TripleRow) -> bool
         ensures { result ≡ has_triple self.now row.now }
     {
-        self.triples
-            .as_slice()
-            .iter()
-            .any(|other| is_same_triple(other, row))
+        self.triples.has(row)
     }
 
     // Whether its item is there and it is not yet said of it.
@@ -70,23 +65,7 @@ impl Tables {
         if !self.may_drop_triple(&row) {
             return Err(TableError::BadDelta { cause: 12 });
         }
-        self.triples.drop_triple(&row);
+        self.triples.remove(&row);
         Ok(())
-    }
-}
-
-/// Whether two rows say the same of the same item.
-fn is_same_triple(one: &TripleRow, other: &TripleRow) -> bool
-    ensures { result ≡ eq_by_cmp triple_cmp one.now other.now }
-{
-    one.cmp_key(other).is_eq()
-}
-
-impl Table<TripleRow> {
-    /// Drops the row that says the same of the same item.
-    fn drop_triple(&mut self, row: &TripleRow)
-        ensures { self.new ≡ filter (λ o. not (eq_by_cmp triple_cmp o row.now)) self.old }
-    {
-        self.retain(|other| !is_same_triple(other, row));
     }
 }

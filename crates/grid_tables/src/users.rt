@@ -6,7 +6,6 @@ ghost use Rattle.grid_model.specs.Rows.{has_user, is_member};
 ghost use Rattle.grid_tables.specs.declared.error.TableError.TheVariants.{BadDelta, Memory};
 
 use crate::kinds::{is_group_kind, is_name};
-use crate::table::Table;
 use crate::{TableError, Tables};
 use grid_model::{Delta, MemberRow, Text, UserRow};
 
@@ -15,30 +14,27 @@ impl Tables {
     pub(crate) fn has_user(&self, id: u64) -> bool
         ensures { result ≡ has_user self.now id }
     {
-        self.users
-            .as_slice()
-            .iter()
-            .any(|row| u64::from(row.id) == id)
+        self.users.has(id)
     }
 
     // Whether there is a group with this id.
     pub(crate) fn is_group(&self, id: u32) -> bool
         ensures { result ≡ is_group self.now id }
     {
-        self.users
-            .as_slice()
-            .iter()
-            .any(|row| row.id == id && is_group_kind(row.kind))
+        match self.users.get(u64::from(id)) {
+            Some(row) => is_group_kind(row.kind),
+            None => false,
+        }
     }
 
     // Whether there is a user with this id, who is no group.
     pub(crate) fn is_user(&self, id: u32) -> bool
         ensures { result ≡ is_user self.now id }
     {
-        self.users
-            .as_slice()
-            .iter()
-            .any(|row| row.id == id && !is_group_kind(row.kind))
+        match self.users.get(u64::from(id)) {
+            Some(row) => !is_group_kind(row.kind),
+            None => false,
+        }
     }
 
     // Whether it has a name, and neither id nor name are taken.
@@ -69,10 +65,7 @@ impl Tables {
     pub fn is_member(&self, group: u32, user: u32) -> bool
         ensures { result ≡ is_member self.now group user }
     {
-        self.members
-            .as_slice()
-            .iter()
-            .any(|row| row.group == group && row.user == user)
+        self.members.has(MemberRow { group, user })
     }
 
     /// Applies delta 2.
@@ -127,16 +120,7 @@ impl Tables {
         if !self.may_leave(row) {
             return Err(TableError::BadDelta { cause: 4 });
         }
-        self.members.drop_member(row.group, row.user);
+        self.members.remove(row);
         Ok(())
-    }
-}
-
-impl Table<MemberRow> {
-    /// Drops the row of this user in this group.
-    fn drop_member(&mut self, group: u32, user: u32)
-        ensures { self.new ≡ filter (λ o. not ((o.group == group) && (o.user == user))) self.old }
-    {
-        self.retain(|row| !(row.group == group && row.user == user));
     }
 }

@@ -1,5 +1,6 @@
 use Rattle.std.proofs.Common.{subst}
 use Rattle.grid_model.specs.Rows.{Cat, IsCat}
+use Rattle.grid_tables.proofs.Finding.{named_table}
 use Rattle.grid_tables.proofs.tables.Tables.in_order.Goals as goal
 
 pub returns : goal.returns
@@ -7,8 +8,8 @@ returns c =
     subst (λ (t : Cat). IsCat t) c.self.view_is (record {
       users = c.as_slice-users.ensures.table;
       members = c.as_slice-members.ensures.table;
-      collections = c.as_slice-collections.ensures.table;
-      objects = c.as_slice-objects.ensures.table;
+      collections = named_table c.self.inside.collections c.len-collections.ensures.table;
+      objects = c.len-objects.ensures.table;
       replicas = c.as_slice-replicas.ensures.table;
       triples = c.as_slice-triples.ensures.table;
       entries = c.as_slice-entries.ensures.table;

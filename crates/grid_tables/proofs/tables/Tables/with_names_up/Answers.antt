@@ -9,19 +9,19 @@ use Rattle.grid_tables.proofs.tables.Tables.with_names_up.Goals as goal
 
 pub loop-step-init : goal.loop-step-init
 loop-step-init c = (
-  behind-start c.args.self.now c.args.names.items c.args.id (length c.as_slice-step-end.result.now) (length c.args.self.now.collections)
-      (ap length c.as_slice-step-end.ensures.rows ∙ ap (λ (t : Cat). length t.collections) c.self.view_is),
+  behind-start c.args.self.now c.args.names.items c.args.id c.len-step-end.result (length c.args.self.now.collections)
+      (c.len-step-end.ensures.len ∙ ap (λ (t : Cat). length t.collections) c.self.view_is),
   c.requires,
 )
 
 pub returns-then-current-eq0-clause-names : goal.returns-then-current-eq0-clause-names
 returns-then-current-eq0-clause-names c =
-    behind-root c.args.self.now c.loop-step.names.items c.loop-step.current (length c.as_slice-step-end.result.now) c.loop-step._step c.loop-step-test.true c.if-current-eq0.true
+    behind-root c.args.self.now c.loop-step.names.items c.loop-step.current c.len-step-end.result c.loop-step._step c.loop-step-test.true c.if-current-eq0.true
     ∙ c.loop-step.invariant.0
 
 pub returns-in-None-clause-names : goal.returns-in-None-clause-names
 returns-in-None-clause-names c =
-    behind-lost c.args.self.now c.loop-step.names.items c.loop-step.current (length c.as_slice-step-end.result.now) c.loop-step._step c.loop-step-test.true c.if-current-eq0.false c.in-None.ensures.row
+    behind-lost c.args.self.now c.loop-step.names.items c.loop-step.current c.len-step-end.result c.loop-step._step c.loop-step-test.true c.if-current-eq0.false c.in-None.ensures.row
     ∙ c.loop-step.invariant.0
 
 pub loop-step-preserved : goal.loop-step-preserved
@@ -30,8 +30,8 @@ loop-step-preserved c =
     c.in_ok-push-in-Some.ensures.items ∙ ap (λ (name : Text). c.loop-step.names.items ++ name ∷ []) (c.in_ok-copy_of-in-Some.ensures ∙ c.as_slice.ensures) in
     let name : IsTrue (is_name c.in-Some.row.now.name) =
     named-below c.args.self.now c.loop-step.current c.in-Some.row.now c.in-Some.ensures.row c.if-current-eq0.false c.in-Some.ensures.named in (
-      ap (λ (names : List Text). behind names (names_within (length c.as_slice-step-end.result.now - (c.loop-step._step + 1)) c.args.self.now c.in-Some.row.now.parent)) further
-          ∙ behind-up c.args.self.now c.loop-step.names.items c.loop-step.current (length c.as_slice-step-end.result.now) c.loop-step._step
+      ap (λ (names : List Text). behind names (names_within (c.len-step-end.result - (c.loop-step._step + 1)) c.args.self.now c.in-Some.row.now.parent)) further
+          ∙ behind-up c.args.self.now c.loop-step.names.items c.loop-step.current c.len-step-end.result c.loop-step._step
           c.in-Some.row.now c.loop-step-test.true c.if-current-eq0.false c.in-Some.ensures.row
           ∙ c.loop-step.invariant.0,
       subst (λ (names : List Text). IsTrue (list_all is_name names)) (sym further)
@@ -40,5 +40,5 @@ loop-step-preserved c =
 
 pub returns-clause-names : goal.returns-clause-names
 returns-clause-names c =
-    let done : length c.as_slice-step-end.result.now - c.loop-step._step ≡ 0 = omega arith in
-    behind-done c.args.self.now c.loop-step.names.items c.loop-step.current (length c.as_slice-step-end.result.now) c.loop-step._step done ∙ c.loop-step.invariant.0
+    let done : c.len-step-end.result - c.loop-step._step ≡ 0 = omega arith in
+    behind-done c.args.self.now c.loop-step.names.items c.loop-step.current c.len-step-end.result c.loop-step._step done ∙ c.loop-step.invariant.0
