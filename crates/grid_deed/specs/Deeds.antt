@@ -1,0 +1,60 @@
+-- What the carrying out of a plan leaves.
+use Rattle.std.specs.Prelude.{◌≡◌, ◌⊎◌, ℕ, ◌+◌, ◌*◌, ◌^◌, ◌<◌, List, length, Option, None, Some, Result, Ok, Err, IsTrue}
+use Rattle.grid_outside.specs.Device.{IsSettled, Leaves}
+use Rattle.grid_outside.specs.Disk.{DiskState}
+use Rattle.grid_outside.specs.Files.{StoreState}
+use Rattle.grid_outside.specs.declared.outside.Wear.TheVariants.{Log}
+use Rattle.grid_model.specs.DataLines.{parts}
+use Rattle.grid_model.specs.Names.{Text}
+use Rattle.grid_model.specs.Rows.{Cat}
+use Rattle.grid_model.specs.declared.plans.NewFile.{NewFile}
+use Rattle.grid_journal.specs.Journal.{Journal}
+use Rattle.grid_journal.specs.Stands.{StandsEither, StandsFor}
+use Rattle.grid_journal.specs.declared.error.JournalError.{JournalError}
+use Rattle.grid_journal.specs.declared.error.JournalError.TheVariants as journal
+use Rattle.grid_vault.specs.Vault.{HasSlot, RoseAt}
+use Rattle.grid_vault.specs.declared.fault.Fault.{Fault}
+use Rattle.grid_deed.specs.Held.{IsKept, ClosesAt, CommitEnds}
+
+-- how many moments are drawn at most where so many files are made of a body
+abbrev pub moments_for : List NewFile → Text → ℕ
+moments_for files body = length files * (2 + parts (length body)) + 8
+
+-- main stands for the one, the other or the third
+abbrev pub StandsOne : Cat → Cat → Cat → Text → Type 0
+StandsOne kept mid end main = StandsEither kept mid main ⊎ StandsFor main end
+
+-- what a stop leaves of main: after a fault and where memory or room ran out, nothing of the last changes
+abbrev pub DeedLeaves : Cat → Cat → Cat → Result (Option Fault) JournalError → Text → Type 0
+DeedLeaves kept mid end (Ok None) main = StandsOne kept mid end main
+DeedLeaves kept mid end (Err journal.DiskFault) main = StandsOne kept mid end main
+DeedLeaves kept mid end other main = StandsEither kept mid main
+
+-- how it ended
+abbrev pub DeedEnds : {B : Type 0} → (B → StoreState) → List B → List B → Cat → Cat → Cat → List NewFile → DiskState → DiskState → Result (Option Fault) JournalError → Journal → Type 0
+DeedEnds plugin stores_old stores_new kept mid end files main_old main_new (Ok None) new = IsKept end main_old main_new new
+DeedEnds plugin stores_old stores_new kept mid end files main_old main_new (Ok (Some fault)) new = HasSlot files fault.slot × RoseAt plugin fault.slot stores_old stores_new × IsKept mid main_old main_new new
+DeedEnds plugin stores_old stores_new kept mid end files main_old main_new (Err journal.DiskFault) new = Unit {0}
+DeedEnds plugin stores_old stores_new kept mid end files main_old main_new (Err journal.Memory) new = IsTrue main_old.tells → StandsEither kept mid main_new.holds
+DeedEnds plugin stores_old stores_new kept mid end files main_old main_new (Err (journal.Worn what place)) new =
+    (what ≡ Log) × (2 ^ 62 < place) × (IsTrue main_old.tells → ClosesAt main_new.holds place × StandsEither kept mid main_new.holds)
+DeedEnds plugin stores_old stores_new kept mid end files main_old main_new (Err other) new = ⊥
+
+-- A plan was carried out that leads from the first catalogue over the second to the third, or how far that came, from so many
+-- moments on.
+pub record IsDone {B : Type 0} (plugin : B → StoreState) (kept mid end : Cat) (files : List NewFile) (from : ℕ) (main_old main_new : DiskState) (stores_old stores_new : List B) (result : Result (Option Fault) JournalError) (new : Journal) : Type 0 where
+  pub ends : DeedEnds plugin stores_old stores_new kept mid end files main_old main_new result new
+  pub leaves : IsTrue main_old.tells → IsSettled main_old → Leaves from (DeedLeaves kept mid end result) main_new
+
+-- ---- the removal of an orphan's file
+
+-- how it ended: where a store failed, nothing else was done
+abbrev pub DiscardEnds : {B : Type 0} → (B → StoreState) → List B → List B → Cat → Cat → ℕ → DiskState → DiskState → Journal → Result (Option Fault) JournalError → Journal → Type 0
+DiscardEnds plugin stores_old stores_new kept after slot main_old main_new old (Ok None) new = IsKept after main_old main_new new
+DiscardEnds plugin stores_old stores_new kept after slot main_old main_new old (Ok (Some fault)) new = (fault.slot ≡ slot) × RoseAt plugin slot stores_old stores_new × (new ≡ old)
+DiscardEnds plugin stores_old stores_new kept after slot main_old main_new old (Err e) new = CommitEnds kept after old main_old main_new (Err e) new
+
+-- The file is gone and its row too, or how far that came, from so many moments on.
+pub record IsDiscarded {B : Type 0} (plugin : B → StoreState) (kept after : Cat) (slot from : ℕ) (main_old main_new : DiskState) (stores_old stores_new : List B) (old : Journal) (result : Result (Option Fault) JournalError) (new : Journal) : Type 0 where
+  pub ends : DiscardEnds plugin stores_old stores_new kept after slot main_old main_new old result new
+  pub leaves : IsTrue main_old.tells → IsSettled main_old → Leaves from (StandsEither kept after) main_new

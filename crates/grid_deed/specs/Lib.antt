@@ -1,0 +1,4 @@
+pub mod Deeds
+pub mod Frame
+pub mod Held
+pub mod Safe

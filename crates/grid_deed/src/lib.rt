@@ -1,0 +1,8 @@
+//! A deed: changes of the catalogue with the files that they make, so that a stop leaves no file unnamed.
+#![tactic(auto)]
+
+mod discarding;
+mod performing;
+
+pub use discarding::discard;
+pub use performing::{commit, perform};
