@@ -1,0 +1,68 @@
+-- What a run of `serve` over a catalogue is, whatever disks and stores refuse and wherever the server stops.
+use Rattle.std.specs.Prelude.{◌≡◌, ℕ, ◌+◌, ◌^◌, ◌<◌, ◌≤◌, ◌++◌, Ok, length, take, IsTrue}
+use Rattle.grid_model.specs.Names.{Text}
+use Rattle.grid_model.specs.Rows.{Cat}
+use Rattle.grid_model.specs.Completing.{AreClean, AllEndByRows}
+use Rattle.grid_journal.specs.Stands.{Stands}
+use Rattle.grid_headline.specs.Worlds.{World, Image, Leaves}
+use Rattle.grid_headline.specs.Served.{Run, report_of, text_of, acknowledged, marks_of}
+use Rattle.grid_headline.specs.Stops.{OneImage}
+use Rattle.grid_headline.specs.Files.{IsKnown, DisksAreSettled, AreSettled, WereWhole, StayWhole}
+use Rattle.grid_headline.specs.Silence.{NoneIsSilent}
+use Rattle.grid_headline.specs.Causes.{AreCaused, NoneFailed, AllTell}
+use Rattle.grid_headline.specs.Draws.{Draws, shown_marks}
+use Rattle.grid_headline.specs.Ends.{RunEnd, read_all, no_memory, worn, Says, HadNumbers, LeavesFewOrphans}
+
+-- The run begins on this catalogue, of as many stores as there are: main, spare and source tell.
+pub record BeginsOn {B : Type 0} (old : World B) (found : Cat) : Type 0 where
+  pub main_tells : IsTrue old.main.tells
+  pub spare_tells : IsTrue old.spare.tells
+  pub source_tells : IsTrue old.source.tells
+  pub stands : Stands old.main.holds old.spare.holds (Ok found)
+  pub stores : found.stores ≡ length old.stores
+
+-- all was read, or numbers, room or memory ran out
+abbrev pub IsGoodEnd : RunEnd → Type 0
+IsGoodEnd read_all = Unit {0}
+IsGoodEnd (worn what place) = Unit {0}
+IsGoodEnd no_memory = Unit {0}
+IsGoodEnd other = ⊥
+
+module _ {B : Type 0} {found : Cat} (old new : World B) (run : Run (IsKnown old found) found old.source.left) where
+  -- This is what the sink shows: a front of what the run has to write, with at least all but the last text of it.
+  pub record Shows : Type 0 where
+    pub part : Text
+    pub more : Text
+    pub sink : new.sink.holds ≡ old.sink.holds ++ part
+    pub split : text_of run ≡ part ++ more
+    -- at most one request, or the report, is not shown whole
+    pub report_first : 0 < length run.begun → length (report_of run) ≤ length part
+    pub all_but_one : length run.begun ≤ acknowledged run (length part) + 1
+    -- times and words were given by the ambient
+    pub drawn : IsTrue new.ambient.tells → Draws run (length part) old.ambient new.ambient
+
+  -- Where no device failed, each mark that is shown is clean, and what is not answered ok is so by a rule of its row or of a step.
+  pub record Completes (shows : Shows) (end : RunEnd) : Type 0 where
+    pub good_end : IsGoodEnd end
+    pub clean : AreClean (shown_marks run (length shows.part))
+    pub by_rows : AllEndByRows (take (acknowledged run (length shows.part)) run.done)
+
+-- A run over this catalogue that ended so.
+pub record Serves {B : Type 0} (old new : World B) (found : Cat) (end : RunEnd) : Type 0 where
+  pub run : Run (IsKnown old found) found old.source.left
+  pub shown : IsTrue old.sink.tells → Shows old new run
+  pub says : Says run old new end
+  -- whatever a stop at any moment leaves of the disks and the sink
+  pub images : IsTrue old.sink.tells → AreSettled old → (t : ℕ) (i : Image) → old.moments < t → Leaves new t i → OneImage run old.sink.holds i
+  -- the files of stores that tell stay whole
+  pub whole : DisksAreSettled old → WereWhole old old.moments found → StayWhole new old.moments
+  -- each fault that is told was counted
+  pub caused : AreCaused old new (run.report ++ marks_of run.begun)
+  pub completes : (tells : IsTrue old.sink.tells) → NoneFailed old new → AllTell old → DisksAreSettled old → WereWhole old old.moments found
+      → length old.source.left ≤ 2 ^ 48 → Completes old new run (shown tells) end
+
+-- What more is to be said of it: no row is committed in silence, no number is given past the last one, and few orphans are left.
+pub record ServesTidily {B : Type 0} (old new : World B) (found : Cat) (end : RunEnd) (serves : Serves old new found end) : Type 0 where
+  pub silent : IsTrue old.sink.tells → AreSettled old → NoneIsSilent serves.run old new
+  pub numbers : IsTrue old.sink.tells → AreSettled old → HadNumbers serves.run old new
+  pub orphans : end ≡ read_all → LeavesFewOrphans serves.run old new

@@ -1,0 +1,48 @@
+-- What a request asks for, and the rules of a catalogue, by the texts of rules and calls.
+use Rattle.std.specs.Prelude.{◌≡◌, ℕ, Bool, true, false, List, [], ◌∷◌, Ok}
+use Rattle.grid_model.specs.RuleText.{Rule}
+use Rattle.grid_model.specs.Rows.{Cat}
+use Rattle.grid_model.specs.Inputs.{Asked}
+use Rattle.grid_model.specs.Sessions.{State}
+use Rattle.grid_model.specs.Orders.{quits}
+use Rattle.grid_model.specs.Runs.{Request}
+use Rattle.grid_model.specs.declared.grid.Mode.TheVariants.{New}
+use Rattle.grid_model.specs.declared.requests.Verb.{Verb}
+use Rattle.grid_model.specs.declared.requests.Verb.TheVariants as verb
+use Rattle.cmd_read.specs.Orders.{Texts, Asks}
+use Rattle.rule_parse.specs.RuleOrders.{ReadsRules, ReadsCall}
+use Rattle.rule_parse.specs.Printed.{print_rules}
+
+-- what is built: these verbs, and of put that of a new object; all else is refused as unknown
+abbrev pub is_built : Verb → Bool
+is_built (verb.Login user) = true
+is_built verb.Logout = true
+is_built verb.Quit = true
+is_built (verb.MkDir path) = true
+is_built (verb.Put path resource New count) = true
+is_built (verb.Get path resource) = true
+is_built other = false
+
+-- the texts of rules and calls are read and printed so
+abbrev pub texts : Texts
+texts = record { rules = ReadsRules; call = ReadsCall; printed = print_rules; built = is_built }
+
+-- a request as it was read asks for this, where the state is so
+abbrev pub Means : State → Asked → Request → Type 0
+Means at a request = Asks texts at a.line a.body request
+
+-- the catalogue has the text of these rules, as they are printed
+abbrev pub HasRules : Cat → List Rule → Type 0
+HasRules c rules = c.rules ≡ print_rules rules
+
+-- the request ends the input
+pub record IsQuit (a : Asked) : Type 0 where
+  pub at : State
+  pub session : ℕ
+  pub quits : Means at a (Ok (session, quits))
+
+-- none of them but the last one does
+abbrev pub QuitLast : List Asked → Type 0
+QuitLast [] = Unit {0}
+QuitLast (a ∷ []) = Unit {0}
+QuitLast (a ∷ b ∷ more) = ¬ IsQuit a × QuitLast (b ∷ more)

@@ -1,0 +1,137 @@
+-- What requests ask for as long as few verbs are built: no rules are set, and no upload is opened.
+use Rattle.std.proofs.Common.{◌≡◌, ℕ, Bool, true, false, List, [], ◌∷◌, ◌++◌, Option, Some, None, Ok, Err, refl, sym, ap, ◌∙◌, subst}
+use Rattle.std.specs.Prelude.{nat_le}
+use Rattle.std.proofs.lemmas.Bool.{both_ways}
+use Rattle.grid_model.specs.Maps.{get, remove}
+use Rattle.grid_model.specs.Names.{Text}
+use Rattle.grid_model.specs.Inputs.{Asked}
+use Rattle.grid_model.specs.Meanings.{Meaning, gives}
+use Rattle.grid_model.specs.Limits.{object_size}
+use Rattle.grid_model.specs.Doing.{Course}
+use Rattle.grid_model.specs.Operations.Common.{is_person}
+use Rattle.grid_model.specs.Operations.Table.{Operation}
+use Rattle.grid_model.specs.Sessions.{Session, State}
+use Rattle.grid_model.specs.Orders.{Order, logs_in, logs_out, quits, works}
+use Rattle.grid_model.specs.Working.{Done, answered, refused_at_once, well, begun, work, running, operate}
+use Rattle.grid_model.specs.Uploading.{has_upload, with_session, log_in, log_out, is_uploading}
+use Rattle.grid_model.specs.Obeying.{do_works, logged_in, not_logged_in}
+use Rattle.grid_model.specs.Runs.{Request, does}
+use Rattle.grid_model.specs.declared.marks.Mark.{Mark}
+use Rattle.grid_model.specs.declared.requests.Verb.{Verb}
+use Rattle.grid_model.specs.declared.requests.Verb.TheVariants as verb
+use Rattle.grid_model.specs.declared.refusal.Refusal.TheVariants as refusal
+use Rattle.grid_model.proofs.MeaningLemmas.{gives_is, mapped_gives}
+use Rattle.grid_model.proofs.WithoutRules.{operate_alone, answers}
+use Rattle.cmd_read.specs.Orders.{Asks, asks_for, not_built, cut_short, wrong_words, no_words as line_refused, too_long}
+use Rattle.cmd_read.specs.Orders as orders
+use Rattle.grid_headline.specs.Reads.{Means, texts, is_built}
+use Rattle.grid_headline.specs.Draws.{AreSomeOf, skip, keep, words_of, Words, request_words}
+
+-- the order is one of those that are built
+abbrev pub IsBuilt : Order → Type 0
+IsBuilt (logs_in user) = Unit {0}
+IsBuilt logs_out = Unit {0}
+IsBuilt quits = Unit {0}
+IsBuilt (works op count) = Unit {0}
+IsBuilt other = ⊥
+
+abbrev pub IsBuiltRequest : Request → Type 0
+IsBuiltRequest (Err r) = Unit {0}
+IsBuiltRequest (Ok (session, order)) = IsBuilt order
+
+built_verb : (at : State) (v : Verb) (body : Text) (order : Order) → is_built v ≡ true → orders.Means texts at v body order → IsBuilt order
+built_verb at (verb.Login user) body order built means = subst IsBuilt (sym means) tt
+built_verb at verb.Logout body order built means = subst IsBuilt (sym means) tt
+built_verb at verb.Quit body order built means = subst IsBuilt (sym means) tt
+built_verb at (verb.MkDir path) body order built means = subst IsBuilt (sym means) tt
+built_verb at (verb.Put path resource mode count) body order built means = subst IsBuilt (sym means) tt
+built_verb at (verb.Get path resource) body order built means = subst IsBuilt (sym means) tt
+built_verb at other body order built means = absurd (both_ways false refl built)
+
+pub built : {at : State} {line body : Text} {request : Request} → Asks texts at line body request → IsBuiltRequest request
+built {at = at} {body = body} (asks_for {order = order} request short spells reads number whole is means) = built_verb at request.verb body order is means
+built (not_built request short spells reads whole is) = tt
+built (cut_short request short spells reads less) = tt
+built (wrong_words why short spells reads is) = tt
+built (line_refused short refused) = tt
+built (too_long long) = tt
+
+-- ---- rules
+
+log_in-rules : (at : State) (n : ℕ) (user : Text) (s : Course) → (log_in at n user s).state.rules ≡ at.rules
+log_in-rules at n user s = by (is_person (get s.grid.users user)) (has_upload (get at.sessions n))
+  where
+    by : (p u : Bool) → (let d : Done = elim p [
+      | false ↦ refused_at_once at s refusal.NoUser
+      | true ↦ elim u [ true ↦ refused_at_once at s refusal.Open | false ↦ answered (with_session at n (record { user = user; upload = None })) s well ]
+    ] in d.state.rules ≡ at.rules)
+    by false u = refl
+    by true true = refl
+    by true false = refl
+
+log_out-rules : (at : State) (n : ℕ) (x : Session) (s : Course) → (log_out at n x s).state.rules ≡ at.rules
+log_out-rules at n x s = by (is_uploading x)
+  where
+    by : (u : Bool)
+        → (let d : Done = elim u [ true ↦ refused_at_once at s refusal.Open | false ↦ answered (record at { sessions = remove at.sessions n }) s well ] in
+        d.state.rules ≡ at.rules)
+    by true = refl
+    by false = refl
+
+-- whatever is given keeps the rules
+abbrev AllKeep : State → Meaning Done → Type 0
+AllKeep at m = (d : Done) → m ≡ gives d → d.state.rules ≡ at.rules
+
+given-keeps : (at : State) (d : Done) → d.state.rules ≡ at.rules → AllKeep at (gives d)
+given-keeps at d same x e = ap (λ (z : Done). z.state.rules) (sym (gives_is e)) ∙ same
+
+works-rules : (at : State) (x : Session) (op : Operation) (count : ℕ) (s : Course) → at.rules ≡ [] → AllKeep at (do_works at x op count s)
+works-rules at x op count s none = by (nat_le count object_size)
+  where
+    by : (fits : Bool) → AllKeep at (elim fits [ false ↦ gives (refused_at_once at s (refusal.TooLarge object_size)) | true ↦ operate at x.user op s ])
+    by false = given-keeps at (refused_at_once at s (refusal.TooLarge object_size)) refl
+    by true = λ d e.
+        let w = mapped_gives (answers at) (work (running op) x.user op s) d (sym (operate_alone at x.user op s none) ∙ e) in
+        ap (λ (z : Done). z.state.rules) (sym w.2)
+
+obey-rules : (at : State) (n : ℕ) (order : Order) (s : Course) → IsBuilt order → at.rules ≡ [] → (o : Option Session)
+    → AllKeep at (elim o [ None ↦ not_logged_in at n order s | Some x ↦ logged_in at n x order s ])
+obey-rules at n (logs_in user) s is none None = given-keeps at (log_in at n user s) (log_in-rules at n user s)
+obey-rules at n (logs_in user) s is none (Some x) = given-keeps at (log_in at n user s) (log_in-rules at n user s)
+obey-rules at n logs_out s is none None = given-keeps at (refused_at_once at s refusal.NoLogin) refl
+obey-rules at n logs_out s is none (Some x) = given-keeps at (log_out at n x s) (log_out-rules at n x s)
+obey-rules at n quits s is none None = given-keeps at (answered at s well) refl
+obey-rules at n quits s is none (Some x) = given-keeps at (answered at s well) refl
+obey-rules at n (works op count) s is none None = given-keeps at (refused_at_once at s refusal.NoLogin) refl
+obey-rules at n (works op count) s is none (Some x) = works-rules at x op count s none
+obey-rules at n other s is none o = absurd is
+
+-- a request keeps the rules where there are none
+pub does-rules : (at : State) (request : Request) (marks : List Mark) → IsBuiltRequest request → at.rules ≡ [] → AllKeep at (does at request marks)
+does-rules at (Err r) marks is none = given-keeps at (refused_at_once at (begun at.grid marks) r) refl
+does-rules at (Ok (n, order)) marks is none = obey-rules at n order (begun at.grid marks) is none (get at.sessions n)
+
+-- ---- words
+
+some-behind : {some all : List ℕ} (more : List ℕ) → AreSomeOf some all → AreSomeOf some (more ++ all)
+some-behind [] is = is
+some-behind (n ∷ more) is = skip (some-behind more is)
+
+some-front : {some all : List ℕ} (more : List ℕ) → AreSomeOf some all → AreSomeOf (more ++ some) (more ++ all)
+some-front [] is = is
+some-front (n ∷ more) is = keep (some-front more is)
+
+words_by : (at : State) (request : Request) (marks : List Mark) (ok : Bool) (w : Words) (all : List ℕ) → IsBuiltRequest request → AreSomeOf w.words all
+    → AreSomeOf (request_words at request marks ok w).words (words_of marks ++ all)
+words_by at (Err r) marks ok w all is some = some-behind (words_of marks) some
+words_by at (Ok (n, logs_in user)) marks ok w all is some = some-front (words_of marks) some
+words_by at (Ok (n, logs_out)) marks ok w all is some = some-front (words_of marks) some
+words_by at (Ok (n, quits)) marks ok w all is some = some-front (words_of marks) some
+words_by at (Ok (n, works op count)) marks ok w all is some = some-front (words_of marks) some
+words_by at (Ok (n, other)) marks ok w all is some = absurd is
+
+-- the words of a request and of those behind it are some of those of its marks, and of all
+pub words_in : (at : State) (asked : Asked) (request : Request) (marks : List Mark) (ok : Bool) (w : Words) (all : List ℕ) → Means at asked request
+    → AreSomeOf w.words all
+    → AreSomeOf (request_words at request marks ok w).words (words_of marks ++ all)
+words_in at asked request marks ok w all means some = words_by at request marks ok w all (built means) some

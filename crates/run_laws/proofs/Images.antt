@@ -1,0 +1,320 @@
+-- What a stop leaves of main and the sink, one request after another.
+use Rattle.std.proofs.Common.{◌≡◌, ◌⊎◌, inl, inr, ℕ, zero, suc, ◌+◌, ◌-◌, ◌<◌, ◌≤◌, List, [], ◌∷◌, ◌++◌, length, take, drop, slice_get, Option, Some, None, refl, sym, ap, ◌∙◌, subst, append_assoc, take-append-drop, length-append, arith}
+use Rattle.std.specs.Prelude.{max, Bool, true, false, ◌==◌, codes, decimal, flat_map}
+use Rattle.std.specs.Bool.{MatchBool}
+use Rattle.std.proofs.lemmas.List.{append-nil, take-append-le, take_at, length-take-le}
+use Rattle.std.proofs.lemmas.Option.{slice_get_past, same_Some}
+use Rattle.std.proofs.lemmas.Bool.{cases_lt}
+use Rattle.grid_outside.specs.Sink.{AddsPart}
+use Rattle.grid_model.specs.Names.{Text}
+use Rattle.grid_model.specs.Rows.{Cat}
+use Rattle.grid_model.specs.RowGrids.{grid_of}
+use Rattle.grid_model.specs.Beginning.{begins}
+use Rattle.grid_model.specs.Sessions.{State}
+use Rattle.grid_model.specs.Working.{Done, Sent}
+use Rattle.grid_model.specs.Printing.{line, spaced}
+use Rattle.grid_model.specs.DataLines.{data_lines}
+use Rattle.grid_model.specs.Replies.{mark_words, mark_line, passed_line, row_line, end_words, end_line, rest_lines}
+use Rattle.grid_model.specs.Runs.{Marked}
+use Rattle.grid_model.specs.ReplyTexts.{SendsBytes, IsPiece, ArePieces, reply_text}
+use Rattle.grid_model.specs.declared.replies.Reply.{Reply}
+use Rattle.grid_model.specs.declared.marks.Mark.{Mark}
+use Rattle.grid_journal.specs.Stands.{StandsFor}
+use Rattle.grid_headline.specs.Served.{joined, whole_in}
+use Rattle.grid_headline.specs.Numbers.{KeepsNumbers}
+use Rattle.run_laws.specs.Handled.{Handled, with_one, replies_of, first_of, told_of, reached, state_at, IsOfRun, IsBehindSome, OneOfRun, not_begun, in_run, ShowsMost}
+use Rattle.run_laws.specs.Steps.{IsLike, IsBehind, Follows, kept, nothing, IsUntold, OneOf, not_kept, kept_so}
+use Rattle.run_laws.proofs.Lists.{get-front, get-last, state-more, state-last}
+use Rattle.run_laws.proofs.Texts.{HaveBytes, joined-push, whole-none, whole-behind, whole-more, whole-most, whole-all, whole-less}
+
+pub keeps-then : (a b c : Cat) → KeepsNumbers a b → KeepsNumbers b c → KeepsNumbers a c
+keeps-then a b c first then = record {
+  rises = omega (arith, first.rises, then.rises);
+  names = λ slot name row low its.
+      let was = then.names slot name row (omega (arith, low, first.rises)) its in
+      first.names slot name was.0 low was.1;
+}
+
+take_nil : (n : ℕ) → (let none : List Mark = [] in take n none ≡ [])
+take_nil zero = refl
+take_nil (suc n) = refl
+
+-- of no bytes no mark is told
+first-none : (m : Option Marked) (ts : Option (List Text)) (n : ℕ) → ((us : List Text) → ts ≡ Some us → whole_in us n ≡ 0) → first_of m ts n ≡ []
+first-none None None n none = refl
+first-none None (Some ts) n none = refl
+first-none (Some m) None n none = refl
+first-none (Some m) (Some ts) n none = ap (λ k. take k m.marks) (none ts refl)
+
+pub like-of : (found c e : Cat) → IsOfRun found c → IsLike c e → IsOfRun found e
+like-of found c e its like = record {
+  number = like.run ∙ its.number;
+  rules = like.rules ∙ its.rules;
+  none = like.pending ∙ its.none;
+  keeps = keeps-then found c e its.keeps like.keeps;
+  stores = like.stores ∙ its.stores;
+}
+
+pub behind-of : (found c : Cat) (n : ℕ) (d : Done) (e : Cat) → IsOfRun found c → IsBehind c n d e → IsOfRun found e
+behind-of found c n d e its behind = record {
+  number = behind.run ∙ its.number;
+  rules = behind.rules ∙ its.rules;
+  none = behind.pending ∙ its.none;
+  keeps = keeps-then found c e its.keeps behind.keeps;
+  stores = behind.stores ∙ its.stores;
+}
+
+-- one request more than those that were handled, with this text and these texts of its marks
+pub record IsOneMore (h : Handled) (m : Marked) (d : Done) (ts : List Text) (t : Text) : Type 0 where
+  pub texts_are : replies_of (with_one h m d ts) ≡ replies_of h ++ t ∷ []
+  pub begun_length : length h.begun ≡ length (replies_of h)
+  pub done_length : length h.done ≡ length (replies_of h)
+  pub pieces_length : length h.pieces ≡ length (replies_of h)
+  pub has_bytes : 0 < length t
+  pub pieces_have : HaveBytes ts
+  pub rest : Text
+  pub pieces_first : t ≡ joined ts ++ rest
+
+module _ (found : Cat) (h : Handled) (m : Marked) (d : Done) (ts : List Text) (t : Text) (one : IsOneMore h m d ts t) where
+  abbrev size : ℕ
+  size = length (replies_of h)
+
+  abbrev more : Handled
+  more = with_one h m d ts
+
+  abbrev bytes : ℕ
+  bytes = length (joined (replies_of h))
+
+  -- ---- a front of the texts before it
+
+  module _ (count : ℕ) (within : count ≤ bytes) where
+    same_whole : whole_in (replies_of more) count ≡ whole_in (replies_of h) count
+    same_whole = ap (λ (l : List Text). whole_in l count) one.texts_are ∙ whole-more (replies_of h) (t ∷ []) count (one.has_bytes, tt) within
+
+    no_more_told : (n : ℕ) → n ≤ size → told_of h n count ≡ [] → told_of more n count ≡ []
+    no_more_told n most told = by (cases_lt n size)
+      where
+        by : (n < size) ⊎ (size ≤ n) → told_of more n count ≡ []
+        by (inl less) =
+            let b : slice_get more.begun n ≡ slice_get h.begun n = get-front h.begun (m ∷ []) n (omega (arith, less, one.begun_length)) in
+            let p : slice_get more.pieces n ≡ slice_get h.pieces n = get-front h.pieces (ts ∷ []) n (omega (arith, less, one.pieces_length)) in
+            let f : take n (replies_of more) ≡ take n (replies_of h) = ap (take n) one.texts_are ∙ take-append-le n (replies_of h) (t ∷ []) (omega (arith, less)) in
+            ap (λ (x : Option Marked). first_of x (slice_get more.pieces n) (count - length (joined (take n (replies_of more))))) b
+            ∙ ap (λ (x : Option (List Text)). first_of (slice_get h.begun n) x (count - length (joined (take n (replies_of more))))) p
+            ∙ ap (λ (l : List Text). first_of (slice_get h.begun n) (slice_get h.pieces n) (count - length (joined l))) f ∙ told
+        by (inr same) =
+            let e : size ≡ n = omega (arith, same, most) in
+            let f : take n (replies_of more) ≡ replies_of h = ap (take n) one.texts_are ∙ take_at (replies_of h) (t ∷ []) n e in
+            let none : count - length (joined (take n (replies_of more))) ≡ 0 = ap (λ (l : List Text). count - length (joined l)) f ∙ omega (arith, within) in
+            let last : slice_get more.pieces n ≡ Some ts = ap (slice_get more.pieces) (sym (one.pieces_length ∙ e)) ∙ get-last h.pieces ts in
+            first-none (slice_get more.begun n) (slice_get more.pieces n) (count - length (joined (take n (replies_of more)))) (λ us is.
+            let same_texts : us ≡ ts = same_Some us ts (sym is ∙ last) in
+            ap (whole_in us) none ∙ whole-none us (subst HaveBytes (sym same_texts) one.pieces_have))
+
+    behind-more : (c : Cat) → IsBehindSome found h c count → IsBehindSome found more c count
+    behind-more c b =
+        let r : reached found more c count ≡ reached found h c count = ap (λ k. max k c.numbers.last) same_whole in
+        let s : state_at found more (reached found more c count) ≡ state_at found h (reached found h c count) =
+        ap (state_at found more) r ∙ state-more (begins (grid_of found) []) h.done d (reached found h c count) (omega (arith, b.within, one.begun_length, one.done_length)) in
+        record {
+          of_run = b.of_run;
+          within = omega (arith, b.within, r, length-append h.begun (m ∷ []));
+          near = omega (arith, b.near, same_whole);
+          no_rules = ap (λ (x : State). x.rules) s ∙ b.no_rules;
+          grid = b.grid ∙ ap (λ (x : State). x.grid) (sym s);
+          untold = λ less. ap (λ k. told_of more k count) same_whole
+              ∙ no_more_told (whole_in (replies_of h) count) (whole-most (replies_of h) count) (b.untold (omega (arith, less, same_whole)));
+        }
+
+  -- what was left of the requests before it is left of it
+  pub image-more : (old_sink main sink : Text) → OneOfRun found h old_sink main sink → OneOfRun found more old_sink main sink
+  image-more old_sink main sink (not_begun stands is) = not_begun stands is
+  image-more old_sink main sink (in_run c part left stands is split behind) =
+      in_run c part (left ++ t) stands is
+      (ap joined one.texts_are ∙ joined-push (replies_of h) t ∙ ap (λ (u : Text). u ++ t) split ∙ append_assoc part left t)
+      (behind-more (length part) (omega (arith, ap length split, length-append part left)) c behind)
+
+  -- ---- so many bytes of its own text
+
+  module _ (k : ℕ) where
+    whole_with : whole_in (replies_of more) (bytes + k) ≡ size + whole_in (t ∷ []) k
+    whole_with = ap (λ (l : List Text). whole_in l (bytes + k)) one.texts_are ∙ whole-behind (replies_of h) (t ∷ []) k
+
+    whole_cut : k < length t → whole_in (replies_of more) (bytes + k) ≡ size
+    whole_cut less = let none = whole-less t [] k less in whole_with ∙ omega (arith, none)
+
+    whole_full : length t ≡ k → whole_in (replies_of more) (bytes + k) ≡ suc size
+    whole_full all =
+        let one_whole : whole_in (t ∷ []) k ≡ 1 = ap (whole_in (t ∷ [])) (sym all ∙ omega (arith, length-append t [])) ∙ whole-all (t ∷ []) in
+        whole_with ∙ omega (arith, one_whole)
+
+    told_next : told_of more size (bytes + k) ≡ take (whole_in ts k) m.marks
+    told_next =
+        let b : slice_get more.begun size ≡ Some m = ap (slice_get more.begun) (sym one.begun_length) ∙ get-last h.begun m in
+        let p : slice_get more.pieces size ≡ Some ts = ap (slice_get more.pieces) (sym one.pieces_length) ∙ get-last h.pieces ts in
+        let f : take size (replies_of more) ≡ replies_of h = ap (take size) one.texts_are ∙ take_at (replies_of h) (t ∷ []) size refl in
+        let e : bytes + k - length (joined (take size (replies_of more))) ≡ k = ap (λ (l : List Text). bytes + k - length (joined l)) f ∙ omega arith in
+        ap (λ (x : Option Marked). first_of x (slice_get more.pieces size) (bytes + k - length (joined (take size (replies_of more))))) b
+        ∙ ap (λ (x : Option (List Text)). first_of (Some m) x (bytes + k - length (joined (take size (replies_of more))))) p
+        ∙ ap (first_of (Some m) (Some ts)) e
+
+    told_past : told_of more (suc size) (bytes + k) ≡ []
+    told_past =
+        let b : slice_get more.begun (suc size) ≡ None = slice_get_past more.begun (suc size) (omega (arith, length-append h.begun (m ∷ []), one.begun_length)) in
+        ap (λ (x : Option Marked). first_of x (slice_get more.pieces (suc size)) (bytes + k - length (joined (take (suc size) (replies_of more))))) b
+
+  -- ---- what is left of it
+
+  module _ (at : State) (at_is : state_at found h size ≡ at) (none_at : at.rules ≡ []) (none_next : d.state.rules ≡ []) where
+    at_size : state_at found more size ≡ at
+    at_size = state-more (begins (grid_of found) []) h.done d size (omega (arith, one.done_length)) ∙ at_is
+
+    at_next : state_at found more (suc size) ≡ d.state
+    at_next = ap (λ k. state_at found more (suc k)) (sym one.done_length) ∙ state-last (begins (grid_of found) []) h.done d
+
+    -- a catalogue with so many bytes shown, where that many requests are shown whole, and that many done
+    made : (c : Cat) (k w n : ℕ) → IsOfRun found c → whole_in (replies_of more) (bytes + k) ≡ w → max w c.numbers.last ≡ n → n ≤ suc size
+        → c.numbers.last ≤ w + 1
+        → (s : State) → state_at found more n ≡ s → s.rules ≡ [] → grid_of c ≡ s.grid → (c.numbers.last < w + 1 → told_of more w (bytes + k) ≡ [])
+        → IsBehindSome found more c (bytes + k)
+    made c k w n its whole most within near s state none grid told =
+        let r : reached found more c (bytes + k) ≡ n = ap (λ i. max i c.numbers.last) whole ∙ most in
+        let e : s ≡ state_at found more (reached found more c (bytes + k)) = sym (ap (state_at found more) r ∙ state) in
+        record {
+          of_run = its;
+          within = omega (arith, r, within, length-append h.begun (m ∷ []), one.begun_length);
+          near = omega (arith, near, whole);
+          no_rules = ap (λ (x : State). x.rules) (sym e) ∙ none;
+          grid = grid ∙ ap (λ (x : State). x.grid) e;
+          untold = λ less. ap (λ i. told_of more i (bytes + k)) whole ∙ told (omega (arith, less, whole));
+        }
+
+    module _ (c : Cat) (its : IsOfRun found c) (last : c.numbers.last ≤ size) (grid : grid_of c ≡ at.grid) (marks_are : d.reply.marks ≡ m.marks)
+        (n : ℕ) (n_is : n ≡ size + 1) where
+      -- nothing is seen to be changed, and no mark is told
+      not_changed : (e : Cat) (k : ℕ) → IsLike c e → k < length t → whole_in ts k ≡ 0 → IsBehindSome found more e (bytes + k)
+      not_changed e k like less none =
+          made e k size size (like-of found c e its like) (whole_cut k less) (omega (arith, last, like.last)) (omega arith) (omega (arith, last, like.last)) at at_size none_at
+          (like.grid ∙ grid) (λ l. told_next k ∙ ap (λ i. take i m.marks) none)
+
+      -- it was kept
+      changed : (e : Cat) (k : ℕ) → IsBehind c n d e → (k < length t) ⊎ (length t ≡ k) → IsBehindSome found more e (bytes + k)
+      changed e k behind (inl less) =
+          made e k size (suc size) (behind-of found c n d e its behind) (whole_cut k less) (omega (arith, behind.last, n_is)) (omega arith) (omega (arith, behind.last, n_is)) d.state at_next none_next
+          behind.grid (λ l. absurd (omega (arith, l, behind.last, n_is)))
+      changed e k behind (inr all) =
+          made e k (suc size) (suc size) (behind-of found c n d e its behind) (whole_full k all) (omega (arith, behind.last, n_is)) (omega arith) (omega (arith, behind.last, n_is)) d.state at_next none_next
+          behind.grid (λ l. told_past k)
+
+      -- there was nothing to keep
+      no_change : (k : ℕ) → m.marks ≡ [] → d.state.grid ≡ grid_of c → (k < length t) ⊎ (length t ≡ k) → IsBehindSome found more c (bytes + k)
+      no_change k no_marks same (inl less) =
+          made c k size size its (whole_cut k less) (omega (arith, last)) (omega arith) (omega (arith, last)) at at_size none_at
+          grid (λ l. told_next k ∙ ap (take (whole_in ts k)) no_marks ∙ take_nil (whole_in ts k))
+      no_change k no_marks same (inr all) =
+          made c k (suc size) (suc size) its (whole_full k all) (omega (arith, last)) (omega arith) (omega (arith, last)) d.state at_next none_next
+          (sym same) (λ l. told_past k)
+
+      follows : (e : Cat) (k : ℕ) → Follows c n d e → (k < length t) ⊎ (length t ≡ k) → IsBehindSome found more e (bytes + k)
+      follows e k (kept behind) most = changed e k behind most
+      follows e k (nothing same no_marks grid_same) most =
+          subst (λ (x : Cat). IsBehindSome found more x (bytes + k)) (sym same) (no_change k (sym marks_are ∙ no_marks) grid_same most)
+
+  -- ---- a part of its text is shown
+
+  module _ (old_sink shown sink : Text) (shown_is : shown ≡ old_sink ++ joined (replies_of h)) (adds : AddsPart t shown sink) where
+    abbrev part : Text
+    part = joined (replies_of h) ++ take adds.count t
+
+    part_length : length part ≡ bytes + adds.count
+    part_length = length-append (joined (replies_of h)) (take adds.count t) ∙ ap (λ k. bytes + k) (length-take-le adds.count t adds.within)
+
+    sink_is : sink ≡ old_sink ++ part
+    sink_is = adds.is ∙ ap (λ (u : Text). u ++ take adds.count t) shown_is ∙ append_assoc old_sink (joined (replies_of h)) (take adds.count t)
+
+    split : joined (replies_of more) ≡ part ++ drop adds.count t
+    split = ap joined one.texts_are ∙ joined-push (replies_of h) t ∙ ap (λ (u : Text). joined (replies_of h) ++ u) (sym (take-append-drop adds.count t))
+        ∙ sym (append_assoc (joined (replies_of h)) (take adds.count t) (drop adds.count t))
+
+    cut_or_full : (adds.count < length t) ⊎ (length t ≡ adds.count)
+    cut_or_full = elim (cases_lt adds.count (length t)) [ inl less ↦ inl less | inr all ↦ inr (omega (arith, all, adds.within)) ]
+
+    image_by : (main : Text) (c : Cat) → StandsFor main c → IsBehindSome found more c (bytes + adds.count) → OneOfRun found more old_sink main sink
+    image_by main c stands behind = in_run c part (drop adds.count t) stands sink_is split (subst (IsBehindSome found more c) (sym part_length) behind)
+
+    pub shows-one : ShowsMost more old_sink sink
+    shows-one = record {
+      part = part;
+      more = drop adds.count t;
+      is = sink_is;
+      split = split;
+      all_but_one =
+          let w : whole_in (replies_of more) (length part) ≡ size + whole_in (t ∷ []) adds.count = ap (whole_in (replies_of more)) part_length ∙ whole_with adds.count in
+          omega (arith, w, length-append h.begun (m ∷ []), one.begun_length);
+    }
+
+-- all that was handled is shown
+pub shows-all : (h : Handled) (old_sink sink : Text) → length h.begun ≡ length (replies_of h) → sink ≡ old_sink ++ joined (replies_of h)
+    → ShowsMost h old_sink sink
+shows-all h old_sink sink e is = record {
+  part = joined (replies_of h);
+  more = [];
+  is = is;
+  split = sym (append-nil (joined (replies_of h)));
+  all_but_one = omega (arith, e, whole-all (replies_of h));
+}
+
+-- ---- one request
+
+untold_cut : (ts : List Text) (t rest : Text) (k : ℕ) → 0 < length t → t ≡ joined ts ++ rest → IsUntold ts k → (k < length t) × (whole_in ts k ≡ 0)
+untold_cut [] t rest k some e untold = (omega (arith, some, untold), refl)
+untold_cut (u ∷ ts) t rest k some e untold =
+    (omega (arith, untold, ap length e, length-append (u ++ joined ts) rest, length-append u (joined ts)), whole-less u ts k untold)
+
+-- while a request is handled a stop leaves that nothing is seen of it, or that it is kept
+pub image-one : (found c : Cat) (h : Handled) (m : Marked) (d : Done) (ts : List Text) (n : ℕ) → IsOneMore h m d ts (reply_text n d.reply ts) → (at : State)
+    → state_at found h (length (replies_of h)) ≡ at → at.rules ≡ [] → d.state.rules ≡ [] → IsOfRun found c → c.numbers.last ≤ length (replies_of h)
+    → grid_of c ≡ at.grid
+    → d.reply.marks ≡ m.marks → n ≡ length (replies_of h) + 1 → (old_sink shown main sink : Text) → shown ≡ old_sink ++ joined (replies_of h)
+    → OneOf c n d ts shown main sink → OneOfRun found (with_one h m d ts) old_sink main sink
+image-one found c h m d ts n one at at_is none_at none_next its last grid marks_are n_is old_sink shown main sink shown_is (not_kept e like stands adds untold) =
+    let cut = untold_cut ts (reply_text n d.reply ts) one.rest adds.count one.has_bytes one.pieces_first untold in
+    image_by found h m d ts (reply_text n d.reply ts) one old_sink shown sink shown_is adds main e stands
+    (not_changed found h m d ts (reply_text n d.reply ts) one at at_is none_at none_next c its last grid marks_are n n_is e adds.count like cut.0 cut.1)
+image-one found c h m d ts n one at at_is none_at none_next its last grid marks_are n_is old_sink shown main sink shown_is (kept_so e after stands adds) =
+    image_by found h m d ts (reply_text n d.reply ts) one old_sink shown sink shown_is adds main e stands
+    (follows found h m d ts (reply_text n d.reply ts) one at at_is none_at none_next c its last grid marks_are n n_is e adds.count after
+    (cut_or_full found h m d ts (reply_text n d.reply ts) one old_sink shown sink shown_is adds))
+
+-- ---- texts have bytes
+
+line_has : (n : ℕ) (words : List Text) → 0 < length (line n words)
+line_has n words = omega (arith, length-append (spaced (decimal n ∷ words)) (0x0A ∷ []))
+
+piece_has : (known : ℕ → Type 0) (n place : ℕ) (sent : Option Sent) (mark : Mark) (text : Text) → IsPiece known n place sent mark text → 0 < length text
+piece_has known n place None mark text is = omega (arith, ap length is, line_has n (codes "mark" ∷ mark_words mark))
+piece_has known n place (Some s) mark text is = by (place == s.before) is
+  where
+    by : (b : Bool)
+        → MatchBool b ((bytes : List ℕ) × SendsBytes known s mark bytes × (text ≡ data_lines n bytes ++ mark_line n mark)) (text ≡ mark_line n mark)
+        → 0 < length text
+    by true sends = omega (arith, ap length sends.2, length-append (data_lines n sends.0) (mark_line n mark), line_has n (codes "mark" ∷ mark_words mark))
+    by false same = omega (arith, ap length same, line_has n (codes "mark" ∷ mark_words mark))
+
+pub pieces-have : (known : ℕ → Type 0) (n place : ℕ) (sent : Option Sent) (marks : List Mark) (ts : List Text) → ArePieces known n sent place marks ts
+    → HaveBytes ts
+pieces-have known n place sent [] [] are = tt
+pieces-have known n place sent (mark ∷ marks) (t ∷ ts) are = (piece_has known n place sent mark t are.0, pieces-have known n (place + 1) sent marks ts are.1)
+pieces-have known n place sent [] (t ∷ ts) are = absurd are
+pieces-have known n place sent (mark ∷ marks) [] are = absurd are
+
+rest_has : (n : ℕ) (r : Reply) → 0 < length (rest_lines n r)
+rest_has n r =
+    let a = data_lines n r.shown in
+    let b = flat_map (passed_line n) r.passed in
+    let c = flat_map (row_line n) r.rows in
+    let e = end_line n r.end in
+    omega (arith, length-append ((a ++ b) ++ c) e, line_has n (end_words r.end))
+
+pub reply_has : (n : ℕ) (r : Reply) (ts : List Text) → 0 < length (reply_text n r ts)
+reply_has n r ts = omega (arith, length-append (joined ts) (rest_lines n r), rest_has n r)

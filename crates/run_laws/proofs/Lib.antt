@@ -1,0 +1,13 @@
+pub mod Texts
+pub mod Lists
+pub mod Known
+pub mod Goings
+pub mod Causes
+pub mod BuiltOrders
+pub mod Draws
+pub mod Images
+pub mod More
+pub mod Opening
+pub mod Quiet
+pub mod Runs
+pub mod RunLaws

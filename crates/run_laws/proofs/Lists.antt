@@ -1,0 +1,113 @@
+-- Requests that were handled, one more.
+use Rattle.std.proofs.Common.{◌≡◌, ℕ, zero, suc, ◌+◌, ◌<◌, ◌≤◌, List, [], ◌∷◌, ◌++◌, length, slice_get, Some, refl, ap, ◌∙◌, subst, arith}
+use Rattle.std.specs.List.{AllByRecursion}
+use Rattle.std.proofs.lemmas.List.{append-nil}
+use Rattle.std.proofs.lemmas.Grind.{flat_map-append}
+use Rattle.grid_model.specs.Names.{Text}
+use Rattle.grid_model.specs.Inputs.{Asked}
+use Rattle.grid_model.specs.Meanings.{gives}
+use Rattle.grid_model.specs.Sessions.{State}
+use Rattle.grid_model.specs.Working.{Done}
+use Rattle.grid_model.specs.ReplyTexts.{ArePieces, reply_text}
+use Rattle.grid_model.specs.Runs.{Request, Marked, After, none, next, does, state_after}
+use Rattle.grid_model.specs.Completing.{AreClean, EndsByRows}
+use Rattle.grid_model.specs.declared.marks.Mark.{Mark}
+use Rattle.grid_headline.specs.Reads.{Means}
+use Rattle.grid_headline.specs.Served.{AllPieces, reply_texts, marks_of, asked_of}
+use Rattle.run_laws.specs.Sofar.{AllByRows}
+
+-- ---- lists
+
+pub get-front : {X : Type 0} (xs ys : List X) (k : ℕ) → k < length xs → slice_get (xs ++ ys) k ≡ slice_get xs k
+get-front [] ys k less = absurd (omega (arith, less))
+get-front (x ∷ xs) ys zero less = refl
+get-front (x ∷ xs) ys (suc k) less = get-front xs ys k (omega (arith, less))
+
+pub get-last : {X : Type 0} (xs : List X) (x : X) → slice_get (xs ++ x ∷ []) (length xs) ≡ Some x
+get-last [] x = refl
+get-last (y ∷ xs) x = get-last xs x
+
+pub all-append : {X : Type 0} (P : X → Type 0) (xs ys : List X) → AllByRecursion P xs → AllByRecursion P ys → AllByRecursion P (xs ++ ys)
+all-append P [] ys one other = other
+all-append P (x ∷ xs) ys one other = (one.0, all-append P xs ys one.1 other)
+
+pub all-map : {X : Type 0} (P Q : X → Type 0) → ((x : X) → P x → Q x) → (xs : List X) → AllByRecursion P xs → AllByRecursion Q xs
+all-map P Q f [] all = tt
+all-map P Q f (x ∷ xs) all = (f x all.0, all-map P Q f xs all.1)
+
+pub marks-push : (ms : List Marked) (m : Marked) → marks_of (ms ++ m ∷ []) ≡ marks_of ms ++ m.marks
+marks-push ms m = flat_map-append (λ (x : Marked). x.marks) ms (m ∷ []) ∙ ap (λ (t : List Mark). marks_of ms ++ t) (append-nil m.marks)
+
+pub asked-push : (ms : List Marked) (m : Marked) → asked_of (ms ++ m ∷ []) ≡ asked_of ms ++ m.asked ∷ []
+asked-push [] m = refl
+asked-push (x ∷ ms) m = ap (λ (t : List Asked). x.asked ∷ t) (asked-push ms m)
+
+pub asked-length : (ms : List Marked) → length (asked_of ms) ≡ length ms
+asked-length [] = refl
+asked-length (m ∷ ms) = ap suc (asked-length ms)
+
+-- ---- what they did
+
+pub after-length : {s end : State} {ms : List Marked} {ds : List Done} → After Means s ms ds end → length ds ≡ length ms
+after-length none = refl
+after-length (next request means did left more) = ap suc (after-length more)
+
+pub after-push : {s end : State} {ms : List Marked} {ds : List Done} (m : Marked) (d : Done) (request : Request) → After Means s ms ds end
+    → Means end m.asked request
+    → does end request m.marks ≡ gives d → d.left ≡ [] → After Means s (ms ++ m ∷ []) (ds ++ d ∷ []) d.state
+after-push m d request none means did left = next request means did left none
+after-push m d request (next first means_first did_first left_first more) means did left =
+    next first means_first did_first left_first (after-push m d request more means did left)
+
+pub by_rows-push : {s end : State} {ms : List Marked} {ds : List Done} (m : Marked) (d : Done) → After Means s ms ds end → AllByRows ms ds
+    → (AreClean m.marks → EndsByRows d.reply.end)
+    → AllByRows (ms ++ m ∷ []) (ds ++ d ∷ [])
+by_rows-push m d none rows row = (row, tt)
+by_rows-push m d (next request means did left more) rows row = (rows.0, by_rows-push m d more rows.1 row)
+
+-- ---- states in between
+
+pub state-all : {s end : State} {ms : List Marked} {ds : List Done} → After Means s ms ds end → state_after s ds (length ds) ≡ end
+state-all none = refl
+state-all (next request means did left more) = state-all more
+
+pub state-more : (s : State) (ds : List Done) (d : Done) (n : ℕ) → n ≤ length ds → state_after s (ds ++ d ∷ []) n ≡ state_after s ds n
+state-more s [] d zero le = refl
+state-more s [] d (suc n) le = absurd (omega (arith, le))
+state-more s (e ∷ ds) d zero le = refl
+state-more s (e ∷ ds) d (suc n) le = state-more e.state ds d n (omega (arith, le))
+
+pub state-last : (s : State) (ds : List Done) (d : Done) → state_after s (ds ++ d ∷ []) (suc (length ds)) ≡ d.state
+state-last s [] d = refl
+state-last s (e ∷ ds) d = state-last e.state ds d
+
+-- ---- the texts of their replies
+
+pub pieces-length : (known : ℕ → Type 0) (n : ℕ) (ds : List Done) (tss : List (List Text)) → AllPieces known n ds tss → length tss ≡ length ds
+pieces-length known n [] [] all = refl
+pieces-length known n (d ∷ ds) (ts ∷ tss) all = ap suc (pieces-length known (n + 1) ds tss all.1)
+pieces-length known n [] (ts ∷ tss) all = absurd all
+pieces-length known n (d ∷ ds) [] all = absurd all
+
+pub pieces-push : (known : ℕ → Type 0) (n k : ℕ) (ds : List Done) (tss : List (List Text)) (d : Done) (ts : List Text) → k ≡ n + length ds
+    → AllPieces known n ds tss
+    → ArePieces known k d.sent 0 d.reply.marks ts → AllPieces known n (ds ++ d ∷ []) (tss ++ ts ∷ [])
+pieces-push known n k [] [] d ts e all are = (let same : k ≡ n = omega (arith, e) in subst (λ i. ArePieces known i d.sent 0 d.reply.marks ts) same are, tt)
+pieces-push known n k (f ∷ ds) (us ∷ tss) d ts e all are = (all.0, pieces-push known (n + 1) k ds tss d ts (omega (arith, e)) all.1 are)
+pieces-push known n k [] (ts ∷ tss) d us e all are = absurd all
+pieces-push known n k (f ∷ ds) [] d us e all are = absurd all
+
+pub replies-length : (known : ℕ → Type 0) (n : ℕ) (ds : List Done) (tss : List (List Text)) → AllPieces known n ds tss
+    → length (reply_texts n ds tss) ≡ length ds
+replies-length known n [] [] all = refl
+replies-length known n (d ∷ ds) (ts ∷ tss) all = ap suc (replies-length known (n + 1) ds tss all.1)
+replies-length known n [] (ts ∷ tss) all = absurd all
+replies-length known n (d ∷ ds) [] all = absurd all
+
+pub replies-push : (known : ℕ → Type 0) (n k : ℕ) (ds : List Done) (tss : List (List Text)) (d : Done) (ts : List Text) → k ≡ n + length ds
+    → AllPieces known n ds tss
+    → reply_texts n (ds ++ d ∷ []) (tss ++ ts ∷ []) ≡ reply_texts n ds tss ++ reply_text k d.reply ts ∷ []
+replies-push known n k [] [] d ts e all = let same : n ≡ k = omega (arith, e) in ap (λ i. reply_text i d.reply ts ∷ []) same
+replies-push known n k (f ∷ ds) (us ∷ tss) d ts e all = ap (λ (l : List Text). reply_text n f.reply us ∷ l) (replies-push known (n + 1) k ds tss d ts (omega (arith, e)) all.1)
+replies-push known n k [] (ts ∷ tss) d us e all = absurd all
+replies-push known n k (f ∷ ds) [] d us e all = absurd all

@@ -1,0 +1,191 @@
+-- One more request, behind those that were handled.
+use Rattle.std.proofs.Common.{◌≡◌, ◌⊎◌, inl, inr, ℕ, ◌+◌, ◌<◌, ◌≤◌, List, [], ◌∷◌, ◌++◌, length, IsTrue, refl, sym, ap, ◌∙◌, subst, append_assoc, length-append, arith}
+use Rattle.std.specs.List.{AllByRecursion}
+use Rattle.std.proofs.lemmas.Bool.{cases_lt}
+use Rattle.grid_model.specs.Names.{Text}
+use Rattle.grid_model.specs.Rows.{Cat}
+use Rattle.grid_model.specs.Inputs.{Asked}
+use Rattle.grid_model.specs.Sessions.{State}
+use Rattle.grid_model.specs.Runs.{Request, Marked}
+use Rattle.grid_model.specs.ReplyTexts.{reply_text}
+use Rattle.grid_model.specs.declared.marks.Mark.{Mark}
+use Rattle.grid_model.specs.Replies.{rest_lines}
+use Rattle.grid_journal.specs.Stands.{StandsFor}
+use Rattle.grid_headline.specs.Worlds.{World}
+use Rattle.grid_headline.specs.Reads.{Means, IsQuit}
+use Rattle.grid_headline.specs.Served.{joined, marks_of}
+use Rattle.grid_headline.specs.Files.{IsKnown, AreSettled, DisksAreSettled, WereWhole, StayWhole}
+use Rattle.grid_headline.specs.Causes.{AreCaused}
+use Rattle.grid_headline.specs.Headline.{BeginsOn}
+use Rattle.run_laws.specs.Handled.{Handled, with_one, replies_of, IsOfRun, state_at, OneOfRun}
+use Rattle.run_laws.specs.Steps.{Gave, IsToldOf, Follows, kept, nothing, Step, IsWhole}
+use Rattle.run_laws.specs.Sofar.{Ran, Sofar, KeepsWhole}
+use Rattle.run_laws.specs.Went.{Went, AreInOrder}
+use Rattle.run_laws.proofs.Texts.{joined-push}
+use Rattle.run_laws.proofs.Lists.{all-append, all-map, marks-push, asked-push, asked-length, after-length, after-push, by_rows-push, state-all, pieces-length, pieces-push, replies-length, replies-push}
+use Rattle.run_laws.proofs.Known.{pieces-less, told-less}
+use Rattle.run_laws.proofs.Goings.{disks-settled, whole-now, known-now, went-then, whole-then}
+use Rattle.run_laws.proofs.Causes.{caused-then}
+use Rattle.run_laws.proofs.Draws.{gave-then}
+use Rattle.run_laws.proofs.BuiltOrders.{built, does-rules}
+use Rattle.run_laws.proofs.Images.{IsOneMore, behind-of, image-more, image-one, shows-one, pieces-have, reply_has}
+
+-- ---- what was handled so far
+
+module _ {B : Type 0} (old now : World B) (found : Cat) (at : State) (asked : List Asked) (ran : Ran old now found at asked) where
+  -- as many were begun as were asked, were done and have replies
+  pub begun-many : length ran.handled.begun ≡ length asked
+  begun-many = sym (asked-length ran.handled.begun) ∙ ap length ran.asked_are
+
+  pub done-many : length ran.handled.done ≡ length asked
+  done-many = after-length ran.after ∙ begun-many
+
+  pub replies-many : length (replies_of ran.handled) ≡ length asked
+  replies-many = replies-length (IsKnown old found) 1 ran.handled.done ran.handled.pieces ran.pieces_are ∙ done-many
+
+  -- the state is that behind all of them
+  pub state-now : state_at found ran.handled (length (replies_of ran.handled)) ≡ at
+  state-now = ap (state_at found ran.handled) (replies-many ∙ sym done-many) ∙ state-all ran.after
+
+module _ {B : Type 0} (old mid : World B) (found c : Cat) (at : State) (asked : List Asked) (so : Sofar old mid found c at asked) where
+  module _ (begin : BeginsOn old found) (order : AreInOrder mid) where
+    -- the files that were known are known now
+    pub known-so : (slot : ℕ) → IsKnown old found slot → IsKnown mid c slot
+    known-so = known-now old mid so.ran.went begin.main_tells begin.spare_tells order found c so.main_settled so.stands so.ran.whole
+
+    -- all stays whole, where it does from here on
+    pub whole-so : (new : World B) → Went mid new → KeepsWhole mid new c → DisksAreSettled old → WereWhole old old.moments found → StayWhole new old.moments
+    whole-so new then stay settled whole =
+        let so_far = so.ran.whole settled whole in
+        whole-then old mid new so.ran.went then so_far
+        (stay (disks-settled old mid so.ran.went begin.spare_tells so.main_settled settled)
+        (whole-now old mid so.ran.went begin.main_tells begin.spare_tells order c old.moments so.ran.went.drawn so.stands so_far))
+
+-- ---- one more
+
+module _ {B : Type 0} (old mid new : World B) (found c : Cat) (at : State) (asked : List Asked) (begin : BeginsOn old found) (order : AreInOrder mid)
+    (so : Sofar old mid found c at asked) (then : Went mid new)
+    (stay : KeepsWhole mid new c) (a : Asked) (request : Request) (means : Means at a request) (step : Step mid new at c (length asked + 1) request) where
+  abbrev h : Handled
+  h = so.ran.handled
+
+  abbrev m : Marked
+  m = record { asked = a; marks = step.marks }
+
+  abbrev more : Handled
+  more = with_one h m step.d step.pieces
+
+  abbrev known : ℕ → Type 0
+  known = IsKnown old found
+
+  texts_are : replies_of more ≡ replies_of h ++ reply_text (length asked + 1) step.d.reply step.pieces ∷ []
+  texts_are = replies-push known 1 (length asked + 1) h.done h.pieces step.d step.pieces (omega (arith, done-many old mid found at asked so.ran)) so.ran.pieces_are
+
+  pub one-more : IsOneMore h m step.d step.pieces (reply_text (length asked + 1) step.d.reply step.pieces)
+  one-more =
+      let replies = replies-many old mid found at asked so.ran in
+      record {
+        texts_are = texts_are;
+        begun_length = begun-many old mid found at asked so.ran ∙ sym replies;
+        done_length = done-many old mid found at asked so.ran ∙ sym replies;
+        pieces_length = pieces-length known 1 h.done h.pieces so.ran.pieces_are ∙ done-many old mid found at asked so.ran ∙ sym replies;
+        has_bytes = reply_has (length asked + 1) step.d.reply step.pieces;
+        pieces_have = pieces-have (IsKnown mid c) (length asked + 1) 0 step.d.sent step.d.reply.marks step.pieces step.pieces_are;
+        rest = rest_lines (length asked + 1) step.d.reply;
+        pieces_first = refl;
+      }
+
+  -- it keeps the rules: none
+  pub no-rules : step.d.state.rules ≡ []
+  no-rules = does-rules at request step.marks (built means) so.no_rules step.d step.does_so ∙ so.no_rules
+
+  pub told-more : AllByRecursion (IsToldOf known (length old.stores)) (marks_of more.begun)
+  told-more =
+      let P : List Mark → Type 0 = λ ms. AllByRecursion (IsToldOf known (length old.stores)) ms in
+      let N : ℕ → Type 0 = λ k. AllByRecursion (IsToldOf known k) step.marks in
+      subst P (sym (marks-push h.begun m))
+      (all-append (IsToldOf known (length old.stores)) (marks_of h.begun) step.marks so.ran.told_of
+      (subst N so.ran.went.count (all-map (IsToldOf (IsKnown mid c) (length mid.stores)) (IsToldOf known (length mid.stores))
+      (told-less (IsKnown mid c) known (known-so old mid found c at asked so begin order) (length mid.stores)) step.marks step.told_of)))
+
+  module _ (tells : IsTrue old.sink.tells) where
+    pub sink-mid : IsTrue mid.sink.tells
+    sink-mid = subst IsTrue (sym so.ran.went.sink.tells) tells
+
+    -- what a stop leaves
+    pub images-more : AreSettled old → (t : ℕ) (main sink : Text) → old.moments < t → new.main.left t main → new.sink.left t sink
+        → OneOfRun found more old.sink.holds main sink
+    images-more settled t main sink late main_left sink_left = by (cases_lt mid.moments t)
+      where
+        by : (mid.moments < t) ⊎ (t ≤ mid.moments) → OneOfRun found more old.sink.holds main sink
+        by (inl later) =
+            image-one found c h m step.d step.pieces (length asked + 1) one-more at (state-now old mid found at asked so.ran) so.no_rules no-rules so.of_run
+            (omega (arith, so.last, replies-many old mid found at asked so.ran)) so.grid step.marks_are (omega (arith, replies-many old mid found at asked so.ran))
+            old.sink.holds mid.sink.holds main sink (so.text tells)
+            (step.images (subst IsTrue (sym so.ran.went.main.tells) begin.main_tells) sink-mid (so.main_settled settled.disks.of_main) (so.sink_settled tells settled.of_sink) t main sink later main_left sink_left)
+        by (inr early) =
+            image-more found h m step.d step.pieces (reply_text (length asked + 1) step.d.reply step.pieces) one-more old.sink.holds main sink
+            (so.ran.images tells settled t main sink late (then.main.earlier t main early main_left) (then.sink.earlier t sink early sink_left))
+
+  -- it was begun, and maybe not handled whole
+  abbrev pub ran-more : Ran old new found step.d.state (asked ++ a ∷ [])
+  ran-more = record {
+    handled = more;
+    asked_are = asked-push h.begun m ∙ ap (λ (l : List Asked). l ++ a ∷ []) so.ran.asked_are;
+    after = after-push m step.d request so.ran.after means step.does_so step.all;
+    pieces_are = pieces-push known 1 (length asked + 1) h.done h.pieces step.d step.pieces (omega (arith, done-many old mid found at asked so.ran)) so.ran.pieces_are
+        (pieces-less (IsKnown mid c) known (known-so old mid found c at asked so begin order) (length asked + 1) 0 step.d.sent step.d.reply.marks step.pieces step.pieces_are);
+    told_of = told-more;
+    by_rows = by_rows-push m step.d so.ran.after so.ran.by_rows step.by_rows;
+    went = went-then old mid new so.ran.went then;
+    shown = λ tells. shows-one found h m step.d step.pieces (reply_text (length asked + 1) step.d.reply step.pieces) one-more old.sink.holds mid.sink.holds new.sink.holds (so.text tells)
+        (step.shown (sink-mid tells));
+    caused = subst (AreCaused old new) (sym (marks-push h.begun m)) (caused-then old mid new (marks_of h.begun) step.marks so.ran.went.count so.ran.caused step.caused);
+    gave = λ tells. (let P : List Mark → Type 0 = λ ms. Gave ms old.ambient new.ambient in
+        subst P (sym (marks-push h.begun m)) (gave-then (marks_of h.begun) step.marks old.ambient mid.ambient new.ambient so.ran.gave step.gave tells));
+    whole = whole-so old mid found c at asked so begin order new then stay;
+    images = images-more;
+  }
+
+  module _ (after : Cat) (end : State) (whole : IsWhole mid new at c (length asked + 1) request step after end) where
+    -- all replies are shown
+    pub text-more : IsTrue old.sink.tells → new.sink.holds ≡ old.sink.holds ++ joined (replies_of more)
+    text-more tells =
+        whole.text (sink-mid tells) ∙ ap (λ (t : Text). t ++ reply_text (length asked + 1) step.d.reply step.pieces) (so.text tells)
+        ∙ append_assoc old.sink.holds (joined (replies_of h)) (reply_text (length asked + 1) step.d.reply step.pieces)
+        ∙ ap (λ (t : Text). old.sink.holds ++ t) (sym (ap joined texts_are ∙ joined-push (replies_of h) (reply_text (length asked + 1) step.d.reply step.pieces)))
+
+    pub of-run-more : IsOfRun found after
+    of-run-more = by whole.follows
+      where
+        by : Follows c (length asked + 1) step.d after → IsOfRun found after
+        by (kept behind) = behind-of found c (length asked + 1) step.d after so.of_run behind
+        by (nothing same no_marks grid) = subst (IsOfRun found) (sym same) so.of_run
+
+    last_more : after.numbers.last ≤ length (asked ++ a ∷ [])
+    last_more = by whole.follows
+      where
+        by : Follows c (length asked + 1) step.d after → after.numbers.last ≤ length (asked ++ a ∷ [])
+        by (kept behind) = omega (arith, behind.last, length-append asked (a ∷ []))
+        by (nothing same no_marks grid) = omega (arith, ap (λ (x : Cat). x.numbers.last) same, so.last, length-append asked (a ∷ []))
+
+    pub stands-more : StandsFor new.main.holds after
+    stands-more = whole.stands (subst IsTrue (sym so.ran.went.main.tells) begin.main_tells)
+
+    -- it was handled whole, and the run goes on
+    sofar_did : ¬ IsQuit a → Sofar old new found after step.d.state (asked ++ a ∷ [])
+    sofar_did goes_on = record {
+      ran = ran-more;
+      no_quit = all-append (λ (x : Asked). ¬ IsQuit x) asked (a ∷ []) so.no_quit (goes_on, tt);
+      text = text-more;
+      of_run = of-run-more;
+      last = last_more;
+      grid = whole.grid ∙ ap (λ (s : State). s.grid) (sym whole.state);
+      no_rules = no-rules;
+      stands = stands-more;
+      main_settled = λ settled. whole.main_settled (subst IsTrue (sym so.ran.went.main.tells) begin.main_tells) (so.main_settled settled);
+      sink_settled = λ tells settled. whole.sink_settled (sink-mid tells) (so.sink_settled tells settled);
+    }
+
+    pub sofar-more : ¬ IsQuit a → Sofar old new found after end (asked ++ a ∷ [])
+    sofar-more goes_on = subst (λ (s : State). Sofar old new found after s (asked ++ a ∷ [])) whole.state (sofar_did goes_on)

@@ -1,0 +1,148 @@
+-- A run is begun over a catalogue without a pending command or rules.
+use Rattle.std.proofs.Common.{◌≡◌, inl, inr, ℕ, ◌<◌, [], None, Ok, IsTrue, refl, sym, ◌∙◌, subst, arith}
+use Rattle.std.proofs.lemmas.List.{append-nil}
+use Rattle.grid_outside.specs.Ambient.{AmbientState}
+use Rattle.grid_outside.specs.Device.{IsSettled}
+use Rattle.grid_outside.specs.Files.{Files}
+use Rattle.grid_model.specs.Names.{Text}
+use Rattle.grid_model.specs.Rows.{Cat}
+use Rattle.grid_model.specs.RowGrids.{grid_of}
+use Rattle.grid_model.specs.Beginning.{begins}
+use Rattle.grid_model.specs.Runs as runs
+use Rattle.grid_model.specs.Whole.{IsLikeObject, HasGoodRows, IsWhole, Names, Naming, by_replica, by_orphan}
+use Rattle.grid_model.specs.declared.deltas.ReplicaRow.{ReplicaRow}
+use Rattle.tables_laws.proofs.Grids.{grid-same}
+use Rattle.grid_journal.specs.Stands.{Stands, stands as made_of, StandsFor, StandsEither}
+use Rattle.grid_headline.specs.Worlds.{World}
+use Rattle.grid_headline.specs.Files.{AreWhole, AreSettled, DisksAreSettled, WereWhole, StayWhole}
+use Rattle.grid_headline.specs.Numbers.{KeepsNumbers}
+use Rattle.grid_headline.specs.Headline.{BeginsOn}
+use Rattle.grid_headline.proofs.PutStops.{the_catalogue}
+use Rattle.run_laws.specs.Handled.{none_handled, IsOfRun, OneOfRun, not_begun, in_run}
+use Rattle.run_laws.specs.Opening.{Opens, Opened}
+use Rattle.run_laws.specs.Sofar.{begun, Ran, Sofar}
+use Rattle.run_laws.specs.Steps.{Gave}
+use Rattle.run_laws.specs.Went.{Rests, AreInOrder}
+use Rattle.run_laws.proofs.Lists.{all-map}
+use Rattle.run_laws.proofs.Goings.{files-rest, rests-settled}
+use Rattle.run_laws.proofs.Causes.{caused-none}
+use Rattle.run_laws.proofs.Draws.{gave-none}
+use Rattle.run_laws.proofs.Images.{shows-all}
+
+-- what the disks stand for does not hang on spare
+any_spare : {main spare : Text} {c : Cat} → Stands main spare (Ok c) → StandsFor main c
+any_spare (made_of records c head log replays zone) spare = made_of records c head log replays zone
+
+-- ---- the catalogue of the run that is begun
+
+module _ (found : Cat) where
+  names_same : (slot name : ℕ) (row : Naming) → Names (begun found) slot name row → Names found slot name row
+  names_same slot name (by_replica r) its = its
+  names_same slot name (by_orphan o) its = its
+
+  names_begun : (slot name : ℕ) (row : Naming) → Names found slot name row → Names (begun found) slot name row
+  names_begun slot name (by_replica r) its = its
+  names_begun slot name (by_orphan o) its = its
+
+  keeps_begun : KeepsNumbers found (begun found)
+  keeps_begun = record { rises = omega arith; names = λ slot name row low its. (row, names_same slot name row its) }
+
+  rows_begun : HasGoodRows found → HasGoodRows (begun found)
+  rows_begun rows = all-map (λ (r : ReplicaRow). IsTrue r.good → IsLikeObject found r) (λ (r : ReplicaRow). IsTrue r.good → IsLikeObject (begun found) r)
+      (λ r is good. let like = is good in record { row = like.row; there = like.there; size = like.size; digest = like.digest }) found.replicas rows
+
+  files_begun : (slot : ℕ) (files : Files) → IsWhole found slot files → IsWhole (begun found) slot files
+  files_begun slot files whole = record {
+    good = whole.good;
+    accounted = λ name file is.
+        let one = whole.accounted name file is in
+        record { row = one.row; names = names_begun slot name one.row one.names; only = λ other its. one.only other (names_same slot name other its) };
+  }
+
+  grid-begun : grid_of (begun found) ≡ grid_of found
+  grid-begun = grid-same found (begun found) refl (grid_of found) refl
+
+  of-run-begun : found.pending ≡ None → found.rules ≡ [] → IsOfRun found (begun found)
+  of-run-begun pending rules = record { number = refl; rules = rules; none = pending; keeps = keeps_begun; stores = refl }
+
+-- ---- the world
+
+module _ {B : Type 0} (old now : World B) (found : Cat) (begin : BeginsOn old found) (order : AreInOrder old) (pending : found.pending ≡ None)
+    (rules : found.rules ≡ [])
+    (opens : Opens old now found) where
+  whole_found : (t : ℕ) → AreWhole old t found → AreWhole now t found
+  whole_found t whole = record { rows = whole.rows; call = whole.call; files = λ slot files left. whole.files slot files (files-rest old now opens.went opens.stores t slot files left) }
+
+  whole_begun : (t : ℕ) → AreWhole old t found → AreWhole now t (begun found)
+  whole_begun t whole = record {
+    rows = rows_begun found whole.rows;
+    call = whole.call;
+    files = λ slot files left. files_begun found slot files (whole.files slot files (files-rest old now opens.went opens.stores t slot files left));
+  }
+
+  pub stay-whole : DisksAreSettled old → WereWhole old old.moments found → StayWhole now old.moments
+  stay-whole settled whole t main spare c late left its = by (opens.images settled.of_main t main late left.of_main)
+    where
+      by : StandsEither found (begun found) main → AreWhole now t c
+      by (inl is) = subst (AreWhole now t) (sym (the_catalogue main spare found c (is spare) its)) (whole_found t (whole t late))
+      by (inr is) = subst (AreWhole now t) (sym (the_catalogue main spare (begun found) c (is spare) its)) (whole_begun t (whole t late))
+
+  pub images-none : IsTrue old.sink.tells → AreSettled old → (t : ℕ) (main sink : Text) → old.moments < t → now.main.left t main → now.sink.left t sink
+      → OneOfRun found none_handled old.sink.holds main sink
+  images-none tells settled t main sink late main_left sink_left = by (opens.images settled.disks.of_main t main late main_left)
+    where
+      same : sink ≡ old.sink.holds
+      same = settled.of_sink t sink (omega (arith, order.sink_last, late)) (opens.sink.left t sink sink_left)
+
+      by : StandsEither found (begun found) main → OneOfRun found none_handled old.sink.holds main sink
+      by (inl is) = not_begun is same
+      by (inr is) = in_run (begun found) [] [] is (same ∙ sym (append-nil old.sink.holds)) refl (record {
+        of_run = of-run-begun found pending rules;
+        within = omega arith;
+        near = omega arith;
+        no_rules = refl;
+        grid = grid-begun found;
+        untold = λ less. refl;
+      })
+
+  -- nothing was asked yet, and maybe the run is not begun
+  abbrev pub ran-none : Ran old now found (begins (grid_of found) []) []
+  ran-none = record {
+    handled = none_handled;
+    asked_are = refl;
+    after = runs.none;
+    pieces_are = tt;
+    told_of = tt;
+    by_rows = tt;
+    went = opens.went;
+    shown = λ tells. shows-all none_handled old.sink.holds now.sink.holds refl (opens.sink.holds tells ∙ sym (append-nil old.sink.holds));
+    caused = caused-none old now opens.went;
+    gave = λ tells. (let P : AmbientState → Type 0 = λ s. IsTrue s.tells → Gave [] old.ambient s in subst P (sym opens.ambient) (gave-none old.ambient) tells);
+    whole = stay-whole;
+    images = images-none;
+  }
+
+-- it is begun
+pub sofar-none : {B : Type 0} (old now : World B) (found : Cat) → BeginsOn old found → AreInOrder old → found.pending ≡ None → found.rules ≡ []
+    → Opened old now found
+    → Sofar old now found (begun found) (begins (grid_of found) []) []
+sofar-none old now found begin order pending rules opened = record {
+  ran = ran-none old now found begin order pending rules opened.opens;
+  no_quit = tt;
+  text = λ tells. opened.opens.sink.holds tells ∙ sym (append-nil old.sink.holds);
+  of_run = of-run-begun found pending rules;
+  last = omega arith;
+  grid = grid-begun found;
+  no_rules = refl;
+  stands = opened.stands;
+  main_settled = opened.settled;
+  sink_settled = λ tells settled. rests-settled old.sink now.sink tells opened.opens.sink settled;
+}
+
+-- where main was not even called a stop leaves what was found
+pub images-rest : {B : Type 0} (old now : World B) (found : Cat) → BeginsOn old found → AreInOrder old → Rests old.main now.main → IsSettled old.main
+    → (t : ℕ) (main : Text)
+    → old.moments < t → now.main.left t main → StandsEither found (begun found) main
+images-rest old now found begin order rests settled t main late left =
+    let same : main ≡ old.main.holds = settled t main (omega (arith, order.main_last, late)) (rests.left t main left) in
+    inl (subst (λ (m : Text). StandsFor m found) (sym same) (any_spare begin.stands))

@@ -1,0 +1,130 @@
+-- The requests that were handled, where nothing is seen of what came behind them, or the source alone was read.
+use Rattle.std.proofs.Common.{◌≡◌, ◌⊎◌, inl, inr, ℕ, ◌<◌, ◌≤◌, List, [], ◌-◌, length, take, slice_get, Option, None, IsTrue, sym, ap, ◌∙◌, subst, arith}
+use Rattle.std.specs.Prelude.{max}
+use Rattle.std.proofs.lemmas.Bool.{cases_lt}
+use Rattle.std.proofs.lemmas.List.{append-nil}
+use Rattle.std.proofs.lemmas.Option.{slice_get_past}
+use Rattle.grid_outside.specs.Source.{SourceState}
+use Rattle.grid_model.specs.Names.{Text}
+use Rattle.grid_model.specs.Rows.{Cat}
+use Rattle.grid_model.specs.Inputs.{Asked}
+use Rattle.grid_model.specs.Sessions.{State}
+use Rattle.grid_model.specs.Runs.{Marked}
+use Rattle.grid_model.specs.declared.marks.Mark.{Mark}
+use Rattle.grid_headline.specs.Worlds.{World}
+use Rattle.grid_headline.specs.Files.{AreSettled}
+use Rattle.grid_headline.specs.Served.{joined, whole_in, marks_of}
+use Rattle.grid_headline.specs.Headline.{BeginsOn}
+use Rattle.run_laws.specs.Handled.{Handled, replies_of, first_of, reached, state_at, IsBehindSome, OneOfRun, in_run}
+use Rattle.run_laws.specs.Steps.{IsLike, Gave, IsQuiet}
+use Rattle.run_laws.specs.Sofar.{Ran, Sofar, KeepsWhole}
+use Rattle.run_laws.specs.Went.{Went, AreInOrder}
+use Rattle.run_laws.proofs.Texts.{whole-all}
+use Rattle.run_laws.proofs.Goings.{went-then}
+use Rattle.run_laws.proofs.Causes.{caused-on}
+use Rattle.run_laws.proofs.Draws.{gave-then}
+use Rattle.run_laws.proofs.Images.{like-of, shows-all}
+use Rattle.run_laws.proofs.More.{begun-many, replies-many, state-now, whole-so}
+
+module _ {B : Type 0} (old mid new : World B) (found c : Cat) (at : State) (asked : List Asked) (begin : BeginsOn old found) (order : AreInOrder mid)
+    (so : Sofar old mid found c at asked) (then : Went mid new)
+    (stay : KeepsWhole mid new c) (quiet : IsQuiet mid new c) where
+  abbrev h : Handled
+  h = so.ran.handled
+
+  abbrev bytes : ℕ
+  bytes = length (joined (replies_of h))
+
+  pub sink-mid : IsTrue old.sink.tells → IsTrue mid.sink.tells
+  sink-mid tells = subst IsTrue (sym so.ran.went.sink.tells) tells
+
+  -- a catalogue in which nothing is seen to be changed, with all replies shown
+  like_all : (e : Cat) → IsLike c e → IsBehindSome found h e bytes
+  like_all e like =
+      let w : whole_in (replies_of h) bytes ≡ length (replies_of h) = whole-all (replies_of h) in
+      let many = replies-many old mid found at asked so.ran in
+      let many_begun = begun-many old mid found at asked so.ran in
+      let r : reached found h e bytes ≡ length (replies_of h) = ap (λ k. max k e.numbers.last) w ∙ omega (arith, like.last, so.last, many) in
+      let s : state_at found h (reached found h e bytes) ≡ at = ap (state_at found h) r ∙ state-now old mid found at asked so.ran in
+      record {
+        of_run = like-of found c e so.of_run like;
+        within = omega (arith, r, many, many_begun);
+        near = omega (arith, w, like.last, so.last, many);
+        no_rules = ap (λ (x : State). x.rules) s ∙ so.no_rules;
+        grid = like.grid ∙ so.grid ∙ ap (λ (x : State). x.grid) (sym s);
+        untold = λ less.
+            let past : slice_get h.begun (whole_in (replies_of h) bytes) ≡ None = slice_get_past h.begun (whole_in (replies_of h) bytes) (omega (arith, w, many, many_begun)) in
+            ap (λ (o : Option Marked). first_of o (slice_get h.pieces (whole_in (replies_of h) bytes)) (bytes - length (joined (take (whole_in (replies_of h) bytes) (replies_of h))))) past;
+      }
+
+  pub images-quiet : IsTrue old.sink.tells → AreSettled old → (t : ℕ) (main sink : Text) → old.moments < t → new.main.left t main → new.sink.left t sink
+      → OneOfRun found h old.sink.holds main sink
+  images-quiet tells settled t main sink late main_left sink_left = by (cases_lt mid.moments t)
+    where
+      by : (mid.moments < t) ⊎ (t ≤ mid.moments) → OneOfRun found h old.sink.holds main sink
+      by (inl later) =
+          let q = quiet.images (subst IsTrue (sym so.ran.went.main.tells) begin.main_tells) (sink-mid tells) (so.main_settled settled.disks.of_main)
+          (so.sink_settled tells settled.of_sink) t main sink later main_left sink_left in
+          in_run q.0 (joined (replies_of h)) [] q.2 (q.3 ∙ so.text tells) (sym (append-nil (joined (replies_of h)))) (like_all q.0 q.1)
+      by (inr early) = so.ran.images tells settled t main sink late (then.main.earlier t main early main_left) (then.sink.earlier t sink early sink_left)
+
+  -- nothing is seen of what came behind
+  abbrev pub ran-quiet : Ran old new found at asked
+  ran-quiet = record {
+    handled = h;
+    asked_are = so.ran.asked_are;
+    after = so.ran.after;
+    pieces_are = so.ran.pieces_are;
+    told_of = so.ran.told_of;
+    by_rows = so.ran.by_rows;
+    went = went-then old mid new so.ran.went then;
+    shown = λ tells. shows-all h old.sink.holds new.sink.holds (begun-many old mid found at asked so.ran ∙ sym (replies-many old mid found at asked so.ran))
+        (quiet.sink (sink-mid tells) ∙ so.text tells);
+    caused = caused-on old mid new (marks_of h.begun) then so.ran.caused;
+    gave = λ tells. (let P : List Mark → Type 0 = λ ms. Gave ms old.ambient new.ambient in
+        subst P (append-nil (marks_of h.begun)) (gave-then (marks_of h.begun) [] old.ambient mid.ambient new.ambient so.ran.gave quiet.gave tells));
+    whole = whole-so old mid found c at asked so begin order new then stay;
+    images = images-quiet;
+  }
+
+-- ---- the source alone was read
+
+module _ {B : Type 0} (old now : World B) (source : SourceState) where
+  abbrev pub read_on : World B
+  read_on = record now { source = source }
+
+  went_on : Went old now → Went old read_on
+  went_on went = record { drawn = went.drawn; main = went.main; sink = went.sink; spare = went.spare; count = went.count; stores = λ slot before after was is. record { goes = (went.stores slot before after was is).goes } }
+
+  pub ran-read : (found : Cat) (at : State) (asked : List Asked) → Ran old now found at asked → Ran old read_on found at asked
+  ran-read found at asked ran = record {
+    handled = ran.handled;
+    asked_are = ran.asked_are;
+    after = ran.after;
+    pieces_are = ran.pieces_are;
+    told_of = ran.told_of;
+    by_rows = ran.by_rows;
+    went = went_on ran.went;
+    shown = ran.shown;
+    caused = record { counted = ran.caused.counted; there = ran.caused.there };
+    gave = ran.gave;
+    whole = λ settled whole t main spare c late left stands.
+        let was = ran.whole settled whole t main spare c late (record { of_main = left.of_main; of_spare = left.of_spare }) stands in
+        record { rows = was.rows; call = was.call; files = λ slot files its. was.files slot files (record { store = its.store; is = its.is; tells = its.tells; of_store = its.of_store }) };
+    images = ran.images;
+  }
+
+  pub sofar-read : (found c : Cat) (at : State) (asked : List Asked) → Sofar old now found c at asked → Sofar old read_on found c at asked
+  unfolding ran-read
+  sofar-read found c at asked so = record {
+    ran = ran-read found at asked so.ran;
+    no_quit = so.no_quit;
+    text = so.text;
+    of_run = so.of_run;
+    last = so.last;
+    grid = so.grid;
+    no_rules = so.no_rules;
+    stands = so.stands;
+    main_settled = so.main_settled;
+    sink_settled = so.sink_settled;
+  }

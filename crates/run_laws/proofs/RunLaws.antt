@@ -1,0 +1,116 @@
+-- The laws of a run: how it is begun, one more request, and its ends.
+use Rattle.std.proofs.Common.{inl, inr, ◌+◌, List, [], ◌∷◌, ◌++◌, length, sym, ap, ◌∙◌}
+use Rattle.std.specs.List.{AllByRecursion}
+use Rattle.grid_outside.specs.Source.{SourceState}
+use Rattle.grid_model.specs.Rows.{Cat}
+use Rattle.grid_model.specs.RowGrids.{grid_of}
+use Rattle.grid_model.specs.Beginning.{begins}
+use Rattle.grid_model.specs.Inputs.{Asked, none_taken}
+use Rattle.grid_model.specs.Sessions.{State}
+use Rattle.grid_model.specs.Runs.{Request}
+use Rattle.grid_headline.specs.Worlds.{World}
+use Rattle.grid_headline.specs.Reads.{Means, IsQuit, QuitLast}
+use Rattle.grid_headline.specs.Served.{BeginsWith}
+use Rattle.grid_headline.specs.Ends.{RunEnd}
+use Rattle.grid_headline.specs.Headline.{Serves}
+use Rattle.run_laws.specs.Ends.{ReadsSo, StopsSo, IsGoodIfNoneFailed}
+use Rattle.run_laws.specs.Opening.{Opens, Opened}
+use Rattle.run_laws.specs.Sofar.{begun, BeginsPlainly, GoesOn, Sofar}
+use Rattle.run_laws.specs.Steps.{Step, IsWhole, IsQuiet}
+use Rattle.run_laws.specs.Went.{AreInOrder}
+use Rattle.run_laws.proofs.More.{ran-more, no-rules, text-more, of-run-more, stands-more, sofar-more}
+use Rattle.run_laws.proofs.Opening.{ran-none, sofar-none}
+use Rattle.run_laws.proofs.Quiet.{ran-quiet, sofar-read}
+use Rattle.run_laws.proofs.Runs.{serves}
+
+-- ---- how it goes on
+
+-- the run is begun
+pub none_yet : {B : Type 0} {old now : World B} {found : Cat} → BeginsPlainly old found → AreInOrder old → Opened old now found
+    → Sofar old now found (begun found) (begins (grid_of found) []) []
+none_yet {old = old} {now = now} {found = found} plain order opened = sofar-none old now found plain.begin order plain.pending plain.rules opened
+
+-- the source alone was read
+pub read_on : {B : Type 0} {old now : World B} {found c : Cat} {at : State} {asked : List Asked} (source : SourceState) → Sofar old now found c at asked
+    → Sofar old (record now { source = source }) found c at asked
+read_on {old = old} {now = now} {found = found} {c = c} {at = at} {asked = asked} source so = sofar-read old now source found c at asked so
+
+-- one more request was handled whole, which does not end the input
+pub one_more : {B : Type 0} {old mid new : World B} {found c after : Cat} {at end : State} {asked : List Asked} {a : Asked} {request : Request}
+    → BeginsPlainly old found
+    → Sofar old mid found c at asked → GoesOn mid new c → Means at a request → ¬ IsQuit a → (step : Step mid new at c (length asked + 1) request)
+    → IsWhole mid new at c (length asked + 1) request step after end → Sofar old new found after end (asked ++ a ∷ [])
+one_more {old = old} {mid = mid} {new = new} {found = found} {c = c} {after = after} {at = at} {end = end} {asked = asked} {a = a} {request = request} plain so goes means more step whole =
+    sofar-more old mid new found c at asked plain.begin goes.order so goes.went goes.whole a request means step after end whole more
+
+-- ---- how it ends
+
+-- none of them ended the input
+quit-last : (asked : List Asked) → AllByRecursion (λ a. ¬ IsQuit a) asked → QuitLast asked
+quit-last [] none = tt
+quit-last (a ∷ []) none = tt
+quit-last (a ∷ b ∷ more) none = (none.0, quit-last (b ∷ more) none.1)
+
+-- and the one behind them may
+quit-behind : (asked : List Asked) (a : Asked) → AllByRecursion (λ x. ¬ IsQuit x) asked → QuitLast (asked ++ a ∷ [])
+quit-behind [] a none = tt
+quit-behind (x ∷ []) a none = (none.0, tt)
+quit-behind (x ∷ y ∷ more) a none = (none.0, quit-behind (y ∷ more) a none.1)
+
+-- nothing was asked of it, and maybe it is not begun
+pub ends_before : {B : Type 0} {old now : World B} {found : Cat} {end : RunEnd} → BeginsPlainly old found → AreInOrder old → Opens old now found
+    → StopsSo old now found (begins (grid_of found) []) [] end → IsGoodIfNoneFailed old now end → Serves old now found end
+ends_before {old = old} {now = now} {found = found} {end = end} plain order opens stops good =
+    serves old now found (begins (grid_of found) []) [] plain.pending plain.rules (ran-none old now found plain.begin order plain.pending plain.rules opens)
+    (inl (old.source.left, none_taken)) tt end (inr stops) good
+
+-- the input was read, and all is answered
+pub ends_well : {B : Type 0} {old now : World B} {found c : Cat} {at : State} {asked : List Asked} {end : RunEnd} → BeginsPlainly old found
+    → Sofar old now found c at asked
+    → BeginsWith old.source.left asked → ReadsSo asked old.source now.source end → IsGoodIfNoneFailed old now end → Serves old now found end
+ends_well {old = old} {now = now} {found = found} {c = c} {at = at} {asked = asked} {end = end} plain so first reads good =
+    serves old now found at asked plain.pending plain.rules so.ran first (quit-last asked so.no_quit) end
+    (inl (record { text = so.text; cat = c; stands = so.stands; of_run = so.of_run; grid = so.grid; no_rules = so.no_rules }, reads)) good
+
+-- something ran out before anything was done for another request
+pub ends_idle : {B : Type 0} {old now : World B} {found c : Cat} {at : State} {asked : List Asked} {end : RunEnd} → BeginsPlainly old found
+    → Sofar old now found c at asked → BeginsWith old.source.left asked → StopsSo old now found at asked end → IsGoodIfNoneFailed old now end → Serves old now found end
+ends_idle {old = old} {now = now} {found = found} {at = at} {asked = asked} {end = end} plain so first stops good =
+    serves old now found at asked plain.pending plain.rules so.ran first (quit-last asked so.no_quit) end (inr stops) good
+
+-- something ran out or failed, and nothing is seen of what was done for it
+pub ends_quiet : {B : Type 0} {old mid new : World B} {found c : Cat} {at : State} {asked : List Asked} {end : RunEnd} → BeginsPlainly old found
+    → Sofar old mid found c at asked → GoesOn mid new c → IsQuiet mid new c → BeginsWith old.source.left asked → StopsSo old new found at asked end
+    → IsGoodIfNoneFailed old new end → Serves old new found end
+ends_quiet {old = old} {mid = mid} {new = new} {found = found} {c = c} {at = at} {asked = asked} {end = end} plain so goes quiet first stops good =
+    serves old new found at asked plain.pending plain.rules (ran-quiet old mid new found c at asked plain.begin goes.order so goes.went goes.whole quiet) first
+    (quit-last asked so.no_quit) end (inr stops) good
+
+module _ {B : Type 0} {old mid new : World B} {found c : Cat} {at : State} {asked : List Asked} {a : Asked} {request : Request} {end : RunEnd}
+    (plain : BeginsPlainly old found)
+    (so : Sofar old mid found c at asked) (goes : GoesOn mid new c) (means : Means at a request) (step : Step mid new at c (length asked + 1) request)
+    (first : BeginsWith old.source.left (asked ++ a ∷ [])) where
+  -- something ran out or failed in a request, which was begun and may not be shown whole
+  pub ends_within : StopsSo old new found step.d.state (asked ++ a ∷ []) end → IsGoodIfNoneFailed old new end → Serves old new found end
+  ends_within stops good =
+      serves old new found step.d.state (asked ++ a ∷ []) plain.pending plain.rules
+      (ran-more old mid new found c at asked plain.begin goes.order so goes.went goes.whole a request means step) first (quit-behind asked a so.no_quit) end (inr stops) good
+
+  -- the input ended with a request, which was handled whole
+  pub ends_with : {after : Cat} {left : State} → IsWhole mid new at c (length asked + 1) request step after left
+      → ReadsSo (asked ++ a ∷ []) old.source new.source end
+      → IsGoodIfNoneFailed old new end → Serves old new found end
+  ends_with {after = after} {left = left} whole reads good =
+      serves old new found step.d.state (asked ++ a ∷ []) plain.pending plain.rules
+      (ran-more old mid new found c at asked plain.begin goes.order so goes.went goes.whole a request means step) first (quit-behind asked a so.no_quit) end
+      (inl (
+        record {
+          text = text-more old mid new found c at asked plain.begin goes.order so goes.went goes.whole a request means step after left whole;
+          cat = after;
+          stands = stands-more old mid new found c at asked plain.begin goes.order so goes.went goes.whole a request means step after left whole;
+          of_run = of-run-more old mid new found c at asked plain.begin goes.order so goes.went goes.whole a request means step after left whole;
+          grid = whole.grid ∙ ap (λ (s : State). s.grid) (sym whole.state);
+          no_rules = no-rules old mid new found c at asked plain.begin goes.order so goes.went goes.whole a request means step;
+        },
+        reads,
+      )) good

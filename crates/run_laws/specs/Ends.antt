@@ -1,0 +1,76 @@
+-- How a run ends, by the requests that were handled.
+use Rattle.std.specs.Prelude.{◌≡◌, ◌⊎◌, ℕ, ◌+◌, ◌^◌, ◌≤◌, List, [], ◌∷◌, ◌++◌, Ok, length, IsTrue}
+use Rattle.grid_outside.specs.Source.{SourceState}
+use Rattle.grid_outside.specs.declared.outside.Wear.{Wear}
+use Rattle.grid_outside.specs.declared.outside.Wear.TheVariants as wear
+use Rattle.grid_model.specs.Names.{Text}
+use Rattle.grid_model.specs.Rows.{Cat}
+use Rattle.grid_model.specs.RowGrids.{grid_of}
+use Rattle.grid_model.specs.Inputs.{Asked}
+use Rattle.grid_model.specs.Orders.{Order, works, closes}
+use Rattle.grid_model.specs.Operations.Table.{put, repl}
+use Rattle.grid_model.specs.Sessions.{State}
+use Rattle.grid_journal.specs.Stands.{StandsFor}
+use Rattle.grid_headline.specs.Worlds.{World}
+use Rattle.grid_headline.specs.Reads.{Means}
+use Rattle.grid_headline.specs.Causes.{NoneFailed}
+use Rattle.grid_headline.specs.Served.{BeginsWith, joined}
+use Rattle.grid_headline.specs.Ends.{RunEnd, read_all, source_failed, too_long, worn, no_memory, disk_failed, sink_failed}
+use Rattle.grid_headline.specs.Ends.{EndsInQuit, EndsAtEnd, ReadsPart, ReadsMost, HasRunOut}
+use Rattle.grid_headline.specs.Headline.{IsGoodEnd}
+use Rattle.run_laws.specs.Handled.{Handled, replies_of, IsOfRun}
+
+-- ---- the input was read
+
+-- how far it was read where all that was asked is answered
+abbrev pub ReadsSo : List Asked → SourceState → SourceState → RunEnd → Type 0
+ReadsSo asked from to read_all = EndsAtEnd asked from to ⊎ EndsInQuit asked from to
+ReadsSo asked from to source_failed = ReadsPart asked from to
+ReadsSo asked from to (too_long taken) = ReadsMost asked from to × (taken ≡ 2 ^ 48 + 1)
+ReadsSo asked from to other = ⊥
+
+-- All replies are shown, and main stands for what the requests left.
+pub record IsAnswered {B : Type 0} (old new : World B) (found : Cat) (at : State) (h : Handled) : Type 0 where
+  pub text : IsTrue old.sink.tells → new.sink.holds ≡ old.sink.holds ++ joined (replies_of h)
+  pub cat : Cat
+  pub stands : StandsFor new.main.holds cat
+  pub of_run : IsOfRun found cat
+  pub grid : grid_of cat ≡ at.grid
+  pub no_rules : at.rules ≡ []
+
+-- ---- something ran out or failed
+
+-- what makes a file
+abbrev pub MakesFile : Order → Type 0
+MakesFile (works (put p r mode body) count) = Unit {0}
+MakesFile (works (repl p r) count) = Unit {0}
+MakesFile closes = Unit {0}
+MakesFile other = ⊥
+
+-- the request behind those that were handled makes a file
+pub record NextMakesFile (input : Text) (at : State) (asked : List Asked) : Type 0 where
+  pub next : Asked
+  pub first : BeginsWith input (asked ++ next ∷ [])
+  pub session : ℕ
+  pub order : Order
+  pub asks : Means at next (Ok (session, order))
+  pub makes : MakesFile order
+
+-- why the run needed what had run out
+abbrev pub NeedsSo : Text → State → List Asked → Wear → Type 0
+NeedsSo input at asked wear.Runs = asked ≡ []
+NeedsSo input at asked wear.Vaults = NextMakesFile input at asked
+NeedsSo input at asked wear.Log = Unit {0}
+
+module _ {B : Type 0} (old new : World B) where
+  -- an end at which not all is answered
+  abbrev pub StopsSo : Cat → State → List Asked → RunEnd → Type 0
+  StopsSo found at asked (worn what place) = HasRunOut found new.main.holds new.spare.holds place what × NeedsSo old.source.left at asked what
+  StopsSo found at asked no_memory = Unit {0}
+  StopsSo found at asked disk_failed = Unit {0}
+  StopsSo found at asked sink_failed = Unit {0}
+  StopsSo found at asked other = ⊥
+
+  -- the end is a good one where no device failed
+  abbrev pub IsGoodIfNoneFailed : RunEnd → Type 0
+  IsGoodIfNoneFailed end = NoneFailed old new → length old.source.left ≤ 2 ^ 48 → IsGoodEnd end

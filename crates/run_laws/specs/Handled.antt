@@ -1,0 +1,82 @@
+-- Requests of a run that were handled, and what a stop leaves of main and the sink while they are.
+use Rattle.std.specs.Prelude.{◌≡◌, ℕ, ◌+◌, ◌-◌, ◌<◌, ◌≤◌, max, List, [], ◌∷◌, ◌++◌, Option, Some, None, length, take, slice_get}
+use Rattle.grid_model.specs.Names.{Text}
+use Rattle.grid_model.specs.Rows.{Cat}
+use Rattle.grid_model.specs.RowGrids.{grid_of}
+use Rattle.grid_model.specs.Beginning.{begins}
+use Rattle.grid_model.specs.Sessions.{State}
+use Rattle.grid_model.specs.Working.{Done}
+use Rattle.grid_model.specs.Runs.{Marked, state_after}
+use Rattle.grid_model.specs.declared.marks.Mark.{Mark}
+use Rattle.grid_journal.specs.Stands.{StandsFor}
+use Rattle.grid_headline.specs.Served.{joined, reply_texts, whole_in}
+use Rattle.grid_headline.specs.Numbers.{KeepsNumbers}
+
+-- requests with their marks, what each did, and the texts of its marks
+pub record Handled : Type 0 where
+  pub begun : List Marked
+  pub done : List Done
+  pub pieces : List (List Text)
+
+-- none
+abbrev pub none_handled : Handled
+none_handled = record { begun = []; done = []; pieces = [] }
+
+-- one more
+abbrev pub with_one : Handled → Marked → Done → List Text → Handled
+with_one h m d ts = record { begun = h.begun ++ m ∷ []; done = h.done ++ d ∷ []; pieces = h.pieces ++ ts ∷ [] }
+
+-- their replies
+abbrev pub replies_of : Handled → List Text
+replies_of h = reply_texts 1 h.done h.pieces
+
+-- of the marks of a request those whose texts stand whole in so many bytes
+abbrev pub first_of : Option Marked → Option (List Text) → ℕ → List Mark
+first_of (Some m) (Some ts) count = take (whole_in ts count) m.marks
+first_of m ts count = []
+
+-- those of the request behind the first n ones, where so many bytes were written
+abbrev pub told_of : Handled → ℕ → ℕ → List Mark
+told_of h n count = first_of (slice_get h.begun n) (slice_get h.pieces n) (count - length (joined (take n (replies_of h))))
+
+-- what the catalogues of a run that was begun have in common
+pub record IsOfRun (found c : Cat) : Type 0 where
+  pub number : c.numbers.run ≡ found.numbers.run + 1
+  pub rules : c.rules ≡ []
+  pub none : c.pending ≡ None
+  pub keeps : KeepsNumbers found c
+  pub stores : c.stores ≡ found.stores
+
+module _ (found : Cat) (h : Handled) where
+  -- how many requests are done where the catalogue is so and so many bytes were written
+  abbrev pub reached : Cat → ℕ → ℕ
+  reached c count = max (whole_in (replies_of h) count) c.numbers.last
+
+  -- the state that the first n requests leave
+  abbrev pub state_at : ℕ → State
+  state_at n = state_after (begins (grid_of found) []) h.done n
+
+  -- The catalogue is that of the run behind as many requests as are shown or, if these are more, as it says itself.
+  pub record IsBehindSome (c : Cat) (count : ℕ) : Type 0 where
+    pub of_run : IsOfRun found c
+    pub within : reached c count ≤ length h.begun
+    pub near : c.numbers.last ≤ whole_in (replies_of h) count + 1
+    pub no_rules : (state_at (reached c count)).rules ≡ []
+    pub grid : grid_of c ≡ (state_at (reached c count)).grid
+    -- no mark of a request that is not done is told
+    pub untold : c.numbers.last < whole_in (replies_of h) count + 1 → told_of h (whole_in (replies_of h) count) count ≡ []
+
+  -- What a stop leaves of main, and of the sink that had these bytes before: main stands for what was found and nothing is shown, or it
+  -- stands for a catalogue of the run and a front of the replies is shown.
+  pub data OneOfRun (old_sink main sink : Text) : Type 0 where
+    not_begun : StandsFor main found → sink ≡ old_sink → OneOfRun old_sink main sink
+    in_run : (c : Cat) (part more : Text) → StandsFor main c → sink ≡ old_sink ++ part → joined (replies_of h) ≡ part ++ more → IsBehindSome c (length part)
+        → OneOfRun old_sink main sink
+
+-- A front of the replies is shown, with at least all but the last one.
+pub record ShowsMost (h : Handled) (old_sink sink : Text) : Type 0 where
+  pub part : Text
+  pub more : Text
+  pub is : sink ≡ old_sink ++ part
+  pub split : joined (replies_of h) ≡ part ++ more
+  pub all_but_one : length h.begun ≤ whole_in (replies_of h) (length part) + 1

@@ -1,0 +1,7 @@
+pub mod Ends
+pub mod Handled
+pub mod Opening
+pub mod Sofar
+pub mod Steps
+pub mod Surrounding
+pub mod Went

@@ -1,0 +1,80 @@
+-- The requests of a run that were handled so far.
+use Rattle.std.specs.Prelude.{◌≡◌, ℕ, ◌+◌, ◌<◌, ◌≤◌, List, [], ◌∷◌, ◌++◌, None, length, IsTrue}
+use Rattle.std.specs.List.{AllByRecursion}
+use Rattle.grid_outside.specs.Device.{IsSettled}
+use Rattle.grid_model.specs.Names.{Text}
+use Rattle.grid_model.specs.Rows.{Cat}
+use Rattle.grid_model.specs.RowGrids.{grid_of}
+use Rattle.grid_model.specs.Sessions.{State}
+use Rattle.grid_model.specs.Working.{Done}
+use Rattle.grid_model.specs.Beginning.{begins}
+use Rattle.grid_model.specs.Inputs.{Asked}
+use Rattle.grid_model.specs.Runs.{Marked, After}
+use Rattle.grid_model.specs.Completing.{AreClean, EndsByRows}
+use Rattle.grid_journal.specs.Stands.{StandsFor}
+use Rattle.grid_headline.specs.Worlds.{World}
+use Rattle.grid_headline.specs.Reads.{Means, IsQuit}
+use Rattle.grid_headline.specs.Served.{AllPieces, joined, marks_of, asked_of}
+use Rattle.grid_headline.specs.Files.{IsKnown, AreSettled, DisksAreSettled, WereWhole, StayWhole}
+use Rattle.grid_headline.specs.Causes.{AreCaused}
+use Rattle.grid_headline.specs.Headline.{BeginsOn}
+use Rattle.run_laws.specs.Handled.{Handled, replies_of, IsOfRun, OneOfRun, ShowsMost}
+use Rattle.run_laws.specs.Steps.{Gave, IsToldOf}
+use Rattle.run_laws.specs.Went.{Went, AreInOrder}
+
+-- the catalogue of the next run, of which no command has changed anything
+abbrev pub begun : Cat → Cat
+begun c = record c { numbers = record { next_vault = c.numbers.next_vault; run = c.numbers.run + 1; last = 0 } }
+
+-- each of them ends by rows where its marks are clean
+abbrev pub AllByRows : List Marked → List Done → Type 0
+AllByRows (m ∷ ms) (d ∷ ds) = (AreClean m.marks → EndsByRows d.reply.end) × AllByRows ms ds
+AllByRows ms ds = Unit {0}
+
+-- Where nothing was pending on the disks and all was whole by this catalogue, it stays so from there on.
+abbrev pub KeepsWhole : {B : Type 0} → World B → World B → Cat → Type 0
+KeepsWhole mid new c = DisksAreSettled mid → WereWhole mid mid.moments c → StayWhole new mid.moments
+
+-- Calls go on from a world in order, and the files that were whole by this catalogue stay so.
+pub record GoesOn {B : Type 0} (mid new : World B) (c : Cat) : Type 0 where
+  pub order : AreInOrder mid
+  pub went : Went mid new
+  pub whole : KeepsWhole mid new c
+
+-- The run begins on a catalogue without a pending command or rules.
+pub record BeginsPlainly {B : Type 0} (old : World B) (found : Cat) : Type 0 where
+  pub begin : BeginsOn old found
+  pub pending : found.pending ≡ None
+  pub rules : found.rules ≡ []
+
+-- Requests that were begun from the first world over a catalogue without a pending command or rules to the second: what they did, what
+-- is shown of them, what a stop leaves, and that what their marks tell has its cause.
+pub record Ran {B : Type 0} (old now : World B) (found : Cat) (at : State) (asked : List Asked) : Type 0 where
+  pub handled : Handled
+  pub asked_are : asked_of handled.begun ≡ asked
+  pub after : After Means (begins (grid_of found) []) handled.begun handled.done at
+  pub pieces_are : AllPieces (IsKnown old found) 1 handled.done handled.pieces
+  pub told_of : AllByRecursion (IsToldOf (IsKnown old found) (length old.stores)) (marks_of handled.begun)
+  pub by_rows : AllByRows handled.begun handled.done
+  pub went : Went old now
+  pub shown : IsTrue old.sink.tells → ShowsMost handled old.sink.holds now.sink.holds
+  pub caused : AreCaused old now (marks_of handled.begun)
+  pub gave : IsTrue now.ambient.tells → Gave (marks_of handled.begun) old.ambient now.ambient
+  pub whole : DisksAreSettled old → WereWhole old old.moments found → StayWhole now old.moments
+  pub images : IsTrue old.sink.tells → AreSettled old → (t : ℕ) (main sink : Text) → old.moments < t → now.main.left t main → now.sink.left t sink
+      → OneOfRun found handled old.sink.holds main sink
+
+-- The same where each was handled whole, and none of them ended the input: the catalogue now, and the state.
+pub record Sofar {B : Type 0} (old now : World B) (found c : Cat) (at : State) (asked : List Asked) : Type 0 where
+  pub ran : Ran old now found at asked
+  pub no_quit : AllByRecursion (λ a. ¬ IsQuit a) asked
+  pub text : IsTrue old.sink.tells → now.sink.holds ≡ old.sink.holds ++ joined (replies_of ran.handled)
+  -- the catalogue
+  pub of_run : IsOfRun found c
+  pub last : c.numbers.last ≤ length asked
+  pub grid : grid_of c ≡ at.grid
+  pub no_rules : at.rules ≡ []
+  -- the disks and the sink
+  pub stands : StandsFor now.main.holds c
+  pub main_settled : IsSettled old.main → IsSettled now.main
+  pub sink_settled : IsTrue old.sink.tells → IsSettled old.sink → IsSettled now.sink

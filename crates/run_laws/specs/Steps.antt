@@ -1,0 +1,123 @@
+-- One request of a run: what it did, what it wrote, and what a stop at any moment of it leaves.
+use Rattle.std.specs.Prelude.{◌≡◌, ℕ, ◌<◌, List, [], ◌∷◌, ◌++◌, length, IsTrue}
+use Rattle.std.specs.List.{AllByRecursion}
+use Rattle.grid_outside.specs.Device.{IsSettled}
+use Rattle.grid_outside.specs.Ambient.{AmbientState}
+use Rattle.grid_outside.specs.Sink.{AddsPart}
+use Rattle.grid_model.specs.Names.{Text}
+use Rattle.grid_model.specs.Rows.{Cat}
+use Rattle.grid_model.specs.RowGrids.{grid_of}
+use Rattle.grid_model.specs.Meanings.{gives}
+use Rattle.grid_model.specs.Sessions.{State}
+use Rattle.grid_model.specs.Working.{Done}
+use Rattle.grid_model.specs.ReplyTexts.{ArePieces, reply_text}
+use Rattle.grid_model.specs.Runs.{Request, does}
+use Rattle.grid_model.specs.Completing.{AreClean, EndsByRows}
+use Rattle.grid_model.specs.declared.marks.Mark.{Mark}
+use Rattle.grid_model.specs.declared.marks.Mark.TheVariants.{Ran, Fault, Bad, Stop}
+use Rattle.grid_journal.specs.Stands.{StandsFor}
+use Rattle.grid_headline.specs.Worlds.{World}
+use Rattle.grid_headline.specs.Files.{IsKnown}
+use Rattle.grid_headline.specs.Numbers.{KeepsNumbers}
+use Rattle.grid_headline.specs.Causes.{AreCaused}
+use Rattle.grid_headline.specs.Draws.{AreSomeOf, words_of, times_of}
+
+-- ---- the catalogue
+
+-- nothing of it is seen to be other than before: orphans may be others, and more numbers may be given
+pub record IsLike (before c : Cat) : Type 0 where
+  pub grid : grid_of c ≡ grid_of before
+  pub run : c.numbers.run ≡ before.numbers.run
+  pub last : c.numbers.last ≡ before.numbers.last
+  pub rules : c.rules ≡ before.rules
+  pub stores : c.stores ≡ before.stores
+  pub pending : c.pending ≡ before.pending
+  pub keeps : KeepsNumbers before c
+
+-- it is that behind the request of this number, which did this
+pub record IsBehind (before : Cat) (n : ℕ) (d : Done) (c : Cat) : Type 0 where
+  pub grid : grid_of c ≡ d.state.grid
+  pub run : c.numbers.run ≡ before.numbers.run
+  pub last : c.numbers.last ≡ n
+  pub rules : c.rules ≡ before.rules
+  pub stores : c.stores ≡ before.stores
+  pub pending : c.pending ≡ before.pending
+  pub keeps : KeepsNumbers before c
+
+-- the request was kept, or there was nothing to keep: it told no mark and changed nothing
+pub data Follows (before : Cat) (n : ℕ) (d : Done) : Cat → Type 0 where
+  kept : {c : Cat} → IsBehind before n d c → Follows before n d c
+  nothing : {c : Cat} → c ≡ before → d.reply.marks ≡ [] → d.state.grid ≡ grid_of before → Follows before n d c
+
+-- ---- images
+
+-- so many bytes of a reply with these pieces tell no mark and are not all of it
+abbrev pub IsUntold : List Text → ℕ → Type 0
+IsUntold [] count = count ≡ 0
+IsUntold (piece ∷ pieces) count = count < length piece
+
+-- What a stop leaves of main and of the sink: nothing is seen to be changed and no mark is told, or main stands for the catalogue
+-- behind the request.
+pub data OneOf (before : Cat) (n : ℕ) (d : Done) (pieces : List Text) (shown main sink : Text) : Type 0 where
+  not_kept : (c : Cat) → IsLike before c → StandsFor main c → (part : AddsPart (reply_text n d.reply pieces) shown sink)
+      → IsUntold pieces part.count → OneOf before n d pieces shown main sink
+  kept_so : (c : Cat) → Follows before n d c → StandsFor main c → AddsPart (reply_text n d.reply pieces) shown sink
+      → OneOf before n d pieces shown main sink
+
+-- ---- marks
+
+-- the mark is clean, or tells of a fault, or of a file of one of so many stores, which is not known
+abbrev pub IsToldOf : (ℕ → Type 0) → ℕ → Mark → Type 0
+IsToldOf known stores (Ran word now []) = Unit {0}
+IsToldOf known stores (Ran word now (b ∷ bad)) = ⊥
+IsToldOf known stores (Fault slot sent) = Unit {0}
+IsToldOf known stores (Bad slot len found sent) = (slot < stores) × ¬ known slot
+IsToldOf known stores Stop = ⊥
+
+-- the ambient gave these words and times between the two states, and what the marks tell is some of them, in order
+pub record Gave (marks : List Mark) (old new : AmbientState) : Type 0 where
+  pub told : IsTrue old.tells
+  pub words : List ℕ
+  pub words_are : new.words ≡ old.words ++ words
+  pub words_told : AreSomeOf (words_of marks) words
+  pub times : List ℕ
+  pub times_are : new.times ≡ old.times ++ times
+  pub times_told : AreSomeOf (times_of marks) times
+
+-- ---- one request
+
+-- The request of this number was handled or how far that came, from the state and the catalogue before it.
+pub record Step {B : Type 0} (old new : World B) (at : State) (before : Cat) (n : ℕ) (request : Request) : Type 0 where
+  pub marks : List Mark
+  pub d : Done
+  pub does_so : does at request marks ≡ gives d
+  pub all : d.left ≡ []
+  pub marks_are : d.reply.marks ≡ marks
+  pub told_of : AllByRecursion (IsToldOf (IsKnown old before) (length old.stores)) marks
+  pub by_rows : AreClean marks → EndsByRows d.reply.end
+  pub pieces : List Text
+  pub pieces_are : ArePieces (IsKnown old before) n d.sent 0 d.reply.marks pieces
+  pub shown : IsTrue old.sink.tells → AddsPart (reply_text n d.reply pieces) old.sink.holds new.sink.holds
+  pub caused : AreCaused old new marks
+  pub gave : IsTrue new.ambient.tells → Gave marks old.ambient new.ambient
+  pub images : IsTrue old.main.tells → IsTrue old.sink.tells → IsSettled old.main → IsSettled old.sink → (t : ℕ) (main sink : Text)
+      → old.moments < t → new.main.left t main → new.sink.left t sink → OneOf before n d pieces old.sink.holds main sink
+
+-- It was handled whole: this is the catalogue behind it, and this the state.
+pub record IsWhole {B : Type 0} (old new : World B) (at : State) (before : Cat) (n : ℕ) (request : Request) (step : Step old new at before n request)
+    (after : Cat) (end : State) : Type 0 where
+  pub state : step.d.state ≡ end
+  pub grid : grid_of after ≡ end.grid
+  pub follows : Follows before n step.d after
+  pub stands : IsTrue old.main.tells → StandsFor new.main.holds after
+  pub text : IsTrue old.sink.tells → new.sink.holds ≡ old.sink.holds ++ reply_text n step.d.reply step.pieces
+  pub main_settled : IsTrue old.main.tells → IsSettled old.main → IsSettled new.main
+  pub sink_settled : IsTrue old.sink.tells → IsSettled old.sink → IsSettled new.sink
+
+-- Nothing is seen of a request, though numbers may have been drawn for it.
+pub record IsQuiet {B : Type 0} (old new : World B) (before : Cat) : Type 0 where
+  pub sink : IsTrue old.sink.tells → new.sink.holds ≡ old.sink.holds
+  pub gave : IsTrue new.ambient.tells → Gave [] old.ambient new.ambient
+  pub images : IsTrue old.main.tells → IsTrue old.sink.tells → IsSettled old.main → IsSettled old.sink → (t : ℕ) (main sink : Text)
+      → old.moments < t → new.main.left t main → new.sink.left t sink
+      → (c : Cat) × IsLike before c × StandsFor main c × (sink ≡ old.sink.holds)

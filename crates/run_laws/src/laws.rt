@@ -1,0 +1,66 @@
+ghost use Rattle.std.specs.Prelude.{List, [], ◌∷◌, ◌++◌, ℕ, ◌+◌, length};
+ghost use Rattle.grid_model.specs.Rows.{Cat};
+ghost use Rattle.grid_model.specs.RowGrids.{grid_of};
+ghost use Rattle.grid_model.specs.Beginning.{begins};
+ghost use Rattle.grid_model.specs.Inputs.{Asked};
+ghost use Rattle.grid_model.specs.Runs.{Request};
+ghost use Rattle.grid_model.specs.Sessions.{State};
+ghost use Rattle.grid_headline.specs.Ends.{RunEnd};
+ghost use Rattle.grid_headline.specs.Headline.{Serves};
+ghost use Rattle.grid_headline.specs.Reads.{IsQuit, Means};
+ghost use Rattle.grid_headline.specs.Served.{BeginsWith};
+ghost use Rattle.run_laws.specs.Ends.{IsGoodIfNoneFailed, ReadsSo, StopsSo};
+ghost use Rattle.run_laws.specs.Opening.{Opened};
+ghost use Rattle.run_laws.specs.Sofar.{BeginsPlainly, GoesOn, Sofar, begun};
+ghost use Rattle.run_laws.specs.Steps.{IsQuiet, IsWhole, Step};
+ghost use Rattle.run_laws.specs.Surrounding.{world};
+ghost use Rattle.run_laws.specs.Went.{AreInOrder};
+
+use crate::around::Around;
+use grid_outside::{Ambient, Disk, Plugin, Sink, Source};
+
+/// A run that is begun over a catalogue without a pending command or rules has handled no request yet.
+pub fn a_run_is_begun<D: Disk, S: Source, K: Sink, A: Ambient, P: Plugin>(
+    old: &Around<D, S, K, A, P>,
+    now: &Around<D, S, K, A, P>,
+)
+    ensures { let from = world D.disk S.source K.sink A.ambient P.plugin old.now in let to = world D.disk S.source K.sink A.ambient P.plugin now.now in
+        (found : Cat) → BeginsPlainly from found → AreInOrder from → Opened from to found →
+        Sofar from to found (begun found) (begins (grid_of found) []) [] }
+{}
+
+/// Behind the requests that were handled comes one more, which is handled whole and does not end the input.
+pub fn a_run_goes_on<D: Disk, S: Source, K: Sink, A: Ambient, P: Plugin>(
+    old: &Around<D, S, K, A, P>,
+    mid: &Around<D, S, K, A, P>,
+    new: &Around<D, S, K, A, P>,
+)
+    ensures { let from = world D.disk S.source K.sink A.ambient P.plugin old.now in let by = world D.disk S.source K.sink A.ambient P.plugin mid.now in
+        let to = world D.disk S.source K.sink A.ambient P.plugin new.now in
+        (found c after : Cat) (at end : State) (asked : List Asked) (a : Asked) (request : Request) → BeginsPlainly from found →
+        Sofar from by found c at asked → GoesOn by to c → Means at a request → ¬ IsQuit a → (step : Step by to at c (length asked + 1) request) →
+        IsWhole by to at c (length asked + 1) request step after end → Sofar from to found after end (asked ++ a ∷ []) }
+{}
+
+/// Where the input was read so far and all that was handled is answered, all holds that is promised of a run.
+pub fn a_run_ends_answered<D: Disk, S: Source, K: Sink, A: Ambient, P: Plugin>(
+    old: &Around<D, S, K, A, P>,
+    now: &Around<D, S, K, A, P>,
+)
+    ensures { let from = world D.disk S.source K.sink A.ambient P.plugin old.now in let to = world D.disk S.source K.sink A.ambient P.plugin now.now in
+        (found c : Cat) (at : State) (asked : List Asked) (end : RunEnd) → BeginsPlainly from found → Sofar from to found c at asked →
+        BeginsWith from.source.left asked → ReadsSo asked from.source to.source end → IsGoodIfNoneFailed from to end → Serves from to found end }
+{}
+
+/// Where something ran out or failed, and nothing is seen of what was done for it, all holds that is promised of a run.
+pub fn a_run_ends_early<D: Disk, S: Source, K: Sink, A: Ambient, P: Plugin>(
+    old: &Around<D, S, K, A, P>,
+    mid: &Around<D, S, K, A, P>,
+    new: &Around<D, S, K, A, P>,
+)
+    ensures { let from = world D.disk S.source K.sink A.ambient P.plugin old.now in let by = world D.disk S.source K.sink A.ambient P.plugin mid.now in
+        let to = world D.disk S.source K.sink A.ambient P.plugin new.now in
+        (found c : Cat) (at : State) (asked : List Asked) (end : RunEnd) → BeginsPlainly from found → Sofar from by found c at asked → GoesOn by to c →
+        IsQuiet by to c → BeginsWith from.source.left asked → StopsSo from to found at asked end → IsGoodIfNoneFailed from to end →
+        Serves from to found end }
+{}
