@@ -1,0 +1,11 @@
+pub mod AskingLemmas
+mod AtOnceLemmas
+mod FindingLemmas
+mod HeadLemmas
+pub mod InputLemmas
+mod HoldingLemmas
+mod LineLemmas
+pub mod ProgressLemmas
+pub mod PromiseLemmas
+pub mod ReadingOnce
+mod SkippingLemmas

@@ -1,0 +1,4 @@
+pub mod Reading
+pub mod Hearing
+pub mod Heads
+pub mod Progress
