@@ -1,0 +1,14 @@
+pub mod AtPaths
+pub mod FixedPaths
+pub mod Forgetting
+pub mod FreeIds
+pub mod MapRows
+pub mod MapSizes
+pub mod Mere
+pub mod NameTexts
+pub mod NamedUsers
+pub mod NewAccess
+pub mod PutAccess
+pub mod PutEntries
+pub mod RaisedAccess
+pub mod Sizes

@@ -1,0 +1,11 @@
+pub mod ChangedAccess
+pub mod ChangedMembers
+pub mod DroppedCollections
+pub mod FlaggedCollections
+pub mod HeldItems
+pub mod MadeCollections
+pub mod MadeUsers
+pub mod MovedFiles
+pub mod MovedItems
+pub mod PlacedCollections
+pub mod RekeyedMaps

@@ -1,0 +1,7 @@
+pub mod AccessChanges
+pub mod Children
+pub mod Flags
+pub mod Joining
+pub mod Moving
+pub mod NewCollections
+pub mod NewUsers
