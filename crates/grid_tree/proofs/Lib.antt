@@ -1,0 +1,11 @@
+pub mod Sizes
+pub mod Named
+pub mod OwnPlaces
+pub mod Alike
+pub mod Levels
+pub mod ChildLemmas
+pub mod WaysUp
+pub mod StepLemmas
+pub mod Candidates
+pub mod SpotLemmas
+pub mod Reachable

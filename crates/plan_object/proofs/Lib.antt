@@ -1,0 +1,13 @@
+pub mod GotFiles
+pub mod NewObjects
+pub mod RoomLemmas
+pub mod PutRows
+pub mod GoodOn
+pub mod Targets
+pub mod Filing
+pub mod Orphans
+pub mod NewPlans
+pub mod Digests
+pub mod NewRows
+pub mod PutLemmas
+pub mod PutDeeds

@@ -1,0 +1,4 @@
+pub mod PutPlans
+pub mod Room
+pub mod Sending
+pub mod Writing

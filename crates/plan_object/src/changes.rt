@@ -1,0 +1,157 @@
+ghost use Rattle.std.specs.Prelude.{◌≡◌, ◌+◌, ◌<◌, ◌++◌, ◌^◌, length, map, IsTrue, IfOk, OnOk};
+ghost use Rattle.std.specs.List.{list_all};
+ghost use Rattle.grid_journal.specs.Journal.{can_be_kept};
+ghost use Rattle.grid_model.specs.Deltas.{digest as digest_part, text};
+ghost use Rattle.file_laws.specs.Puts.{files_from, orphans_from, put_before, replicas_from};
+ghost use Rattle.plan_object.specs.PutPlans.{law_target};
+
+use crate::placing::Target;
+use grid_model::{Delta, Digest, NewFile, Numbers, ObjectRow, OrphanRow, ReplicaRow};
+use grid_tables::Tables;
+use std::alloc::{AllocError, Global};
+
+/// The changes before new files are made for the targets: their numbers are drawn, and they are orphans. Fails for want of
+/// memory alone.
+pub(crate) fn put_before(
+    alloc: Global,
+    tables: &Tables,
+    targets: &[Target],
+) -> Result<Vec<Delta>, AllocError>
+    requires vault { tables.now.numbers.next_vault + length targets.now < 2 ^ 64 }
+    ensures deltas { IfOk result (λ deltas. deltas.items ≡ put_before tables.now (map law_target targets.now)) }
+    ensures spelled { IfOk result (λ deltas. IsTrue (list_all can_be_kept deltas.items)) }
+{
+    let numbers = tables.numbers();
+    let drawn = Numbers {
+        next_vault: numbers.next_vault + targets.len() as u64,
+        run: numbers.run,
+        last: numbers.last,
+    };
+    let mut deltas = vec![in alloc; numbers_change(drawn)]?;
+    push_orphans(&mut deltas, numbers.next_vault, targets)?;
+    Ok(deltas)
+}
+
+// Adds the changes that make the files of the targets, numbered from the first one on, orphans.
+fn push_orphans(deltas: &mut Vec<Delta>, first: u64, targets: &[Target]) -> Result<(), AllocError>
+    requires { first + length targets.now < 2 ^ 64 }
+    ensures orphans { OnOk result (deltas.new.items ≡ deltas.old.items ++ orphans_from first (map law_target targets.now)) }
+    ensures spelled { OnOk result (IsTrue (list_all can_be_kept deltas.old.items) → IsTrue (list_all can_be_kept deltas.new.items)) }
+{
+    let mut vault = first;
+    for target in targets {
+        deltas.push(orphan(vault, target.slot))?;
+        vault += 1;
+    }
+    Ok(())
+}
+
+/// The new files of the targets, numbered from the first one on. Fails for want of memory alone.
+pub(crate) fn files_of(
+    alloc: Global,
+    first: u64,
+    targets: &[Target],
+) -> Result<Vec<NewFile>, AllocError>
+    requires { first + length targets.now < 2 ^ 64 }
+    ensures { IfOk result (λ files. files.items ≡ files_from first (map law_target targets.now)) }
+{
+    let mut files = Vec::new(alloc);
+    let mut name = first;
+    for target in targets {
+        files.push(NewFile {
+            slot: target.slot,
+            name,
+        })?;
+        name += 1;
+    }
+    Ok(files)
+}
+
+/// Adds the changes that make the files of the targets, numbered from the first one on, replicas of the object, numbered
+/// from this number on. Fails for want of memory alone.
+pub(crate) fn push_replicas(
+    deltas: &mut Vec<Delta>,
+    object: &ObjectRow,
+    number: u32,
+    first: u64,
+    targets: &[Target],
+) -> Result<(), AllocError>
+    requires numbers { number + length targets.now < 2 ^ 32 }
+    requires vault { first + length targets.now < 2 ^ 64 }
+    ensures replicas { OnOk result (deltas.new.items ≡ deltas.old.items ++ replicas_from object.now number first (map law_target targets.now)) }
+    ensures spelled { OnOk result (IsTrue (list_all can_be_kept deltas.old.items) → IsTrue (list_all can_be_kept deltas.new.items)) }
+{
+    digest_is_kept(object.digest);
+    let mut number = number;
+    let mut vault = first;
+    for target in targets {
+        deltas.push(no_orphan(vault))?;
+        deltas.push(replica(ReplicaRow {
+            object: object.id,
+            number,
+            leaf: target.leaf,
+            good: true,
+            size: object.size,
+            digest: object.digest,
+            vault,
+        }))?;
+        number += 1;
+        vault += 1;
+    }
+    Ok(())
+}
+
+// The change that sets the numbers.
+fn numbers_change(numbers: Numbers) -> Delta
+    ensures change { result ≡ Delta.Numbers numbers }
+    ensures spelled { IsTrue (can_be_kept result) }
+{
+    Delta::Numbers(numbers)
+}
+
+// The change that makes a file an orphan.
+fn orphan(vault: u64, slot: u8) -> Delta
+    ensures change { result ≡ Delta.Orphan (record { vault = vault; slot = slot }) }
+    ensures spelled { IsTrue (can_be_kept result) }
+{
+    Delta::Orphan(OrphanRow { vault, slot })
+}
+
+// The change after which a file is no orphan.
+fn no_orphan(vault: u64) -> Delta
+    ensures change { result ≡ Delta.NoOrphan vault }
+    ensures spelled { IsTrue (can_be_kept result) }
+{
+    Delta::NoOrphan { vault }
+}
+
+// The change that puts a replica.
+fn replica(row: ReplicaRow) -> Delta
+    requires { IsTrue (digest_part row.digest).fits }
+    ensures change { result ≡ Delta.Replica row }
+    ensures spelled { IsTrue (can_be_kept result) }
+{
+    Delta::Replica(row)
+}
+
+// The change that puts an object.
+pub(crate) fn object(row: ObjectRow) -> Delta
+    requires name { IsTrue (text row.name).fits }
+    ensures change { result ≡ Delta.Object row }
+    ensures spelled { IsTrue (can_be_kept result) }
+{
+    digest_is_kept(row.digest);
+    Delta::Object(row)
+}
+
+// A digest may stand in the catalogue. It does nothing.
+fn digest_is_kept(digest: Digest)
+    ensures { IsTrue (digest_part digest).fits }
+{
+    bytes_are_kept(&digest.to_bytes());
+}
+
+fn bytes_are_kept(bytes: &[u8])
+    requires { length bytes.now ≡ 32 }
+    ensures { IsTrue (digest_part bytes.now).fits }
+{}

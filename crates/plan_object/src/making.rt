@@ -1,0 +1,81 @@
+ghost use Rattle.std.specs.Prelude.{◌≡◌, ◌≢◌, ◌+◌, ◌<◌, ◌^◌, [], false, length, Some, IsTrue, IfOk};
+ghost use Rattle.grid_model.specs.Applying.{IsMade};
+ghost use Rattle.grid_model.specs.Deltas.{text};
+ghost use Rattle.plan_base.specs.Found.{LiesIn};
+ghost use Rattle.plan_object.specs.PutPlans.{IsNewPlan, IsObjectFor};
+ghost use Rattle.plan_object.specs.Writing.{Recorded};
+
+use crate::changes::{files_of, object, push_replicas, put_before};
+use crate::placing::Target;
+use grid_model::{Deltas, Digest, ItemKind, NewFiles, ObjectRow, OldFiles, Path, Plan, Text};
+use grid_tables::Tables;
+use plan_base::{name_is_text, next_object_id, push_new_entries};
+use std::alloc::{AllocError, Global};
+
+/// The row of a new object at the path in this collection. Fails for want of memory alone.
+pub(crate) fn new_row(
+    alloc: Global,
+    tables: &Tables,
+    parent: u64,
+    path: &Path,
+    size: u64,
+    digest: Digest,
+    now: u64,
+) -> Result<ObjectRow, AllocError>
+    requires inside { LiesIn tables.now path.now parent }
+    ensures { let r : Recorded = record { size = size; digest = digest; now = now } in
+        IfOk result (IsObjectFor tables.now path.now r) }
+{
+    let id = next_object_id(alloc, tables)?;
+    match path.names().split_last() {
+        None => unreachable!(),
+        Some((name, _)) => {
+            name_is_text(name.as_slice());
+            let name = Text::copy_of(alloc, name.as_slice())?;
+            Ok(ObjectRow {
+                id,
+                collection: parent,
+                name,
+                size,
+                digest,
+                time: now,
+            })
+        }
+    }
+}
+
+/// The plan that puts this object of the user on the targets. Fails for want of memory alone.
+pub(crate) fn new_plan(
+    alloc: Global,
+    tables: &Tables,
+    user: u32,
+    row: ObjectRow,
+    targets: &[Target],
+) -> Result<Plan, AllocError>
+    requires made { IsMade tables.now }
+    requires few { length targets.now < 2 ^ 32 }
+    requires vault { tables.now.numbers.next_vault + length targets.now < 2 ^ 64 }
+    requires name { IsTrue (text row.name).fits }
+    ensures { IfOk result (IsNewPlan tables.now user row targets.now) }
+{
+    let first = tables.numbers().next_vault;
+    let before = put_before(alloc, tables, targets)?;
+    let files = files_of(alloc, first, targets)?;
+    let mut after = Vec::new(alloc);
+    push_new_entries(
+        tables,
+        &mut after,
+        user,
+        row.collection,
+        ItemKind::Object,
+        row.id,
+    )?;
+    push_replicas(&mut after, &row, 0, first, targets)?;
+    after.insert(0, object(row))?;
+    Ok(Plan {
+        before: Deltas::from_vec(before),
+        files: NewFiles::from_vec(files),
+        read: OldFiles::from_vec(Vec::new(alloc)),
+        after: Deltas::from_vec(after),
+    })
+}
