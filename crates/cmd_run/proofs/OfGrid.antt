@@ -1,0 +1,121 @@
+-- What a row refuses is of the grid, and not of a mark.
+use Rattle.std.proofs.Common.{◌≡◌, refl, ℕ, ◌+◌, Bool, true, false, List, Option, Some, None, Ok, Err, length}
+use Rattle.std.specs.Prelude.{⊤, nat_le}
+use Rattle.grid_model.specs.Maps.{get, has}
+use Rattle.grid_model.specs.MapLists.{size}
+use Rattle.grid_model.specs.Names.{Text, Path, parent}
+use Rattle.grid_model.specs.Grid.{Grid}
+use Rattle.grid_model.specs.Levels.{may}
+use Rattle.grid_model.specs.Limits.{object_size}
+use Rattle.grid_model.specs.Trees.{possible, is_any}
+use Rattle.grid_model.specs.Bounds.{most, within}
+use Rattle.grid_model.specs.Refusing.{Or, ◌>>=◌, unless, refuse, there}
+use Rattle.grid_model.specs.Deeds.{Act, changes}
+use Rattle.grid_model.specs.Completing.{IsOfGrid}
+use Rattle.grid_model.specs.Operations.Common.{collection_above, resource_there, needs, is_taken, with_new_item}
+use Rattle.grid_model.specs.Operations.Collections.{mkdir_row, with_collection}
+use Rattle.grid_model.specs.Operations.Objects.{put_row, room_for, room_for_new, may_put, may_stand, writes}
+use Rattle.grid_model.specs.declared.grid.Mode.{Mode}
+use Rattle.grid_model.specs.declared.grid.Level.TheVariants.{Write}
+use Rattle.grid_model.specs.declared.refusal.What.{What}
+use Rattle.grid_model.specs.declared.refusal.What.TheVariants.{Collections, Objects, Access}
+use Rattle.grid_model.specs.declared.refusal.Refusal.{Refusal}
+use Rattle.grid_model.specs.declared.refusal.Refusal.TheVariants as refusal
+
+-- it is there, or refused by the grid
+abbrev pub OfGrid : {A : Type 0} → Or A → Type 0
+OfGrid (Ok a) = Unit {0}
+OfGrid (Err r) = IsOfGrid r
+
+then_of : {A B : Type 0} (x : Or A) (f : A → Or B) → OfGrid x → ((a : A) → OfGrid (f a)) → OfGrid (x >>= f)
+then_of (Ok a) f first next = next a
+then_of (Err r) f first next = first
+
+bind_ok : {A B : Type 0} (x : Or A) (f : A → Or B) (b : B) → (x >>= f) ≡ Ok b → (a : A) × (x ≡ Ok a) × (f a ≡ Ok b)
+bind_ok (Ok a) f b is = (a, refl, is)
+bind_ok (Err r) f b is = absurd cc
+
+unless_ok : (b : Bool) (r : Refusal) (a : ⊤) → unless b r ≡ Ok a → b ≡ true
+unless_ok true r a is = refl
+unless_ok false r a is = absurd cc
+
+unless_of : (b : Bool) (r : Refusal) → IsOfGrid r → OfGrid (unless b r)
+unless_of true r is = tt
+unless_of false r is = is
+
+refuse_of : (b : Bool) (r : Refusal) → IsOfGrid r → OfGrid (refuse b r)
+refuse_of true r is = is
+refuse_of false r is = tt
+
+there_of : {A : Type 0} (o : Option A) (r : Refusal) → IsOfGrid r → OfGrid (there o r)
+there_of None r is = is
+there_of (Some a) r is = tt
+
+within_of : (what : What) (n : ℕ) → OfGrid (within what n)
+within_of what n = unless_of (nat_le n (most what)) (refusal.TooMany what (most what)) tt
+
+above_of : (g : Grid) (p : Path) → OfGrid (collection_above g p)
+above_of g p =
+    then_of (there (parent p) refusal.Exists) (λ c. unless (has g.collections c) refusal.NoCollection >>= (λ _. Ok c)) (there_of (parent p) refusal.Exists tt)
+    (λ c. then_of (unless (has g.collections c) refusal.NoCollection) (λ _. Ok c) (unless_of (has g.collections c) refusal.NoCollection tt) (λ _. tt))
+
+module _ (g : Grid) (user : Text) (p : Path) where
+  abbrev made : Path → Grid
+  made c = with_collection g user c p
+
+  abbrev room_collections : Path → Or ⊤
+  room_collections c = within Collections (size (made c).collections)
+
+  abbrev room_access : Path → Or ⊤
+  room_access c = within Access (size (made c).access)
+
+  abbrev changed : Path → Or Act
+  changed c = Ok (changes (made c))
+
+  pub mkdir_of : OfGrid (mkdir_row g user p)
+  mkdir_of =
+      then_of (collection_above g p) (λ c. needs g user c Write >>= (λ _. refuse (is_taken g p) refusal.Exists >>= (λ _. room_collections c >>= (λ _. room_access c >>= (λ _. changed c))))) (above_of g p) (λ c.
+      then_of (needs g user c Write) (λ _. refuse (is_taken g p) refusal.Exists >>= (λ _. room_collections c >>= (λ _. room_access c >>= (λ _. changed c)))) (unless_of (may g user c Write) refusal.NoAccess tt) (λ _.
+      then_of (refuse (is_taken g p) refusal.Exists) (λ _. room_collections c >>= (λ _. room_access c >>= (λ _. changed c))) (refuse_of (is_taken g p) refusal.Exists tt) (λ _.
+      then_of (room_collections c) (λ _. room_access c >>= (λ _. changed c)) (within_of Collections (size (made c).collections)) (λ _.
+      then_of (room_access c) (λ _. changed c) (within_of Access (size (made c).access)) (λ _. tt)))))
+
+new_of : (b : Bool) (objects entries : ℕ) → OfGrid (room_for_new b objects entries)
+new_of true objects entries = tt
+new_of false objects entries = then_of (within Objects objects) (λ _. within Access entries) (within_of Objects objects) (λ _. within_of Access entries)
+
+room_of : (g : Grid) (user : Text) (c p : Path) (len : ℕ) → OfGrid (room_for g user c p len)
+room_of g user c p len =
+    then_of (room_for_new (has g.objects p) (size g.objects + 1) (size (with_new_item g user c p))) (λ _. unless (nat_le len object_size) (refusal.TooLarge object_size))
+    (new_of (has g.objects p) (size g.objects + 1) (size (with_new_item g user c p))) (λ _. unless_of (nat_le len object_size) (refusal.TooLarge object_size) tt)
+
+module _ (g : Grid) (user : Text) (p : Path) (r : Text) (mode : Mode) (body : List ℕ) where
+  abbrev done : Path → Or Act
+  done c = room_for g user c p (length body) >>= (λ _. Ok (writes g.resources g user c p r body))
+
+  abbrev targeted : Path → Or Act
+  targeted c = unless (is_any (possible g.resources r)) refusal.NoTarget >>= (λ _. done c)
+
+  abbrev standing : Path → Or Act
+  standing c = unless (may_stand g p mode) refusal.Exists >>= (λ _. targeted c)
+
+  abbrev allowed : Path → Or Act
+  allowed c = unless (may_put g user c p) refusal.NoAccess >>= (λ _. standing c)
+
+  -- what is put may stand at the path
+  pub put_stands : (a : Act) → put_row g user p r mode body ≡ Ok a → may_stand g p mode ≡ true
+  put_stands a is =
+      let one = bind_ok (collection_above g p) (λ c. resource_there g r >>= (λ _. allowed c)) a is in
+      let two = bind_ok (resource_there g r) (λ _. allowed one.0) a one.2 in
+      let three = bind_ok (unless (may_put g user one.0 p) refusal.NoAccess) (λ _. standing one.0) a two.2 in
+      let four = bind_ok (unless (may_stand g p mode) refusal.Exists) (λ _. targeted one.0) a three.2 in
+      unless_ok (may_stand g p mode) refusal.Exists four.0 four.1
+
+  pub put_of : OfGrid (put_row g user p r mode body)
+  put_of =
+      then_of (collection_above g p) (λ c. resource_there g r >>= (λ _. allowed c)) (above_of g p) (λ c.
+      then_of (resource_there g r) (λ _. allowed c) (unless_of (has g.resources r) refusal.NoResource tt) (λ _.
+      then_of (unless (may_put g user c p) refusal.NoAccess) (λ _. standing c) (unless_of (may_put g user c p) refusal.NoAccess tt) (λ _.
+      then_of (unless (may_stand g p mode) refusal.Exists) (λ _. targeted c) (unless_of (may_stand g p mode) refusal.Exists tt) (λ _.
+      then_of (unless (is_any (possible g.resources r)) refusal.NoTarget) (λ _. done c) (unless_of (is_any (possible g.resources r)) refusal.NoTarget tt) (λ _.
+      then_of (room_for g user c p (length body)) (λ _. Ok (writes g.resources g user c p r body)) (room_of g user c p (length body)) (λ _. tt))))))

@@ -1,0 +1,48 @@
+use Rattle.std.proofs.Common.{◌≡◌, ◌+◌, ℕ, None, Ok, Err, length, refl, sym, ap, ◌∙◌, subst, arith}
+use Rattle.sha2.specs.Sha256.{sha256}
+use Rattle.grid_model.specs.Digests.{HasDigest}
+use Rattle.grid_model.specs.RowPaths.{object_at}
+use Rattle.grid_model.specs.Rows.{Cat}
+use Rattle.grid_model.specs.RowGrids.{user_name}
+use Rattle.grid_model.specs.declared.deltas.Numbers.{Numbers}
+use Rattle.plan_object.specs.Writing.{FindsTargets, GoesOnlyTo, PlansWriting}
+use Rattle.plan_object.proofs.PutDeeds.{writes_put}
+use Rattle.cmd_run.specs.Puts.{wanted}
+use Rattle.cmd_run.proofs.PutLemmas.{new_is_free, plans_of}
+use Rattle.cmd_run.proofs.server.Server.plan.Goals as goal
+
+pub unreachable-requires : goal.unreachable-requires
+unreachable-requires c =
+    let cat = c.args.self.now.store.cat in
+    let p = c.args.putting.now in
+    let F : _ → Type 0 = λ r. FindsTargets cat (user_name cat p.user) (wanted p) c.args.word r in
+    let refused = subst F (c.in-Err-Refused.is ∙ ap Err c.in-Err-Refused.field-0-is) c.targets.ensures in
+    let both = sym (refused p.body refl) ∙ c.requires.goes.1.row_is p.body refl in
+    cc
+
+pub plan_put-requires-clause-new : goal.plan_put-requires-clause-new
+plan_put-requires-clause-new c =
+    let cat = c.args.self.now.store.cat in
+    let p = c.args.putting.now in
+    let F : Cat → Type 0 = λ x. object_at x p.path ≡ None in
+    let goes = c.requires.goes.1 in
+    subst F (sym c.tables.ensures) (new_is_free cat c.requires.made (user_name cat p.user) p.path p.resource p.body _ (goes.row_is p.body refl))
+
+pub returns : goal.returns
+returns c =
+    let cat = c.args.self.now.store.cat in
+    let p = c.args.putting.now in
+    let plan = c.in_ok-plan.plan in
+    let leaves = c.in-Ok.leaves in
+    let digest = c.of-digest.result in
+    let F : _ → Type 0 = λ r. FindsTargets cat (user_name cat p.user) (wanted p) c.args.word r in
+    let goes = subst F c.in-Ok.is c.targets.ensures in
+    let P : Cat → Type 0 = λ x. PlansWriting x (user_name x p.user) p.path leaves (record { size = length c.as_slice-2.result.now; digest = digest; now = c.args.now }) plan in
+    let S : ℕ → Type 0 = λ k. PlansWriting cat (user_name cat p.user) p.path leaves (record { size = k; digest = digest; now = c.args.now }) plan in
+    let O : Cat → Type 0 = λ x. GoesOnlyTo x leaves plan in
+    let plans = subst S (ap length c.as_slice-2.ensures) (subst P c.tables.ensures c.in_ok-plan.ensures.plan) in
+    let has : HasDigest (length p.body) digest p.body = record { size = refl; digest = ap sha256 (sym c.as_slice-3.ensures) ∙ sym c.of-digest.ensures } in
+    let w = writes_put cat c.requires.made (user_name cat p.user) (wanted p) c.args.word leaves goes digest c.args.now plan p.body has plans (subst O c.tables.ensures c.in_ok-plan.ensures.slots) in
+    plans_of cat c.requires.made p c.args.word c.args.now c.args.number plan w (record c.numbers.result { next_vault = c.numbers.result.next_vault + length plan.files; last = c.args.number })
+    (ap (λ (x : Numbers). record x { next_vault = x.next_vault + length plan.files; last = c.args.number }) (c.numbers.ensures ∙ ap (λ (x : Cat). x.numbers) c.tables-2.ensures))
+    (omega (arith, c.if-as_slice-gt-FEW-2.false, ap length c.as_slice-4.ensures)) c.with_number.result c.with_number.ensures

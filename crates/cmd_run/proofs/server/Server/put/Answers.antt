@@ -1,0 +1,39 @@
+use Rattle.std.proofs.Common.{◌≡◌, Ok, Err, refl, sym, ap, ◌∙◌, subst, arith}
+use Rattle.grid_model.specs.Rows.{Cat}
+use Rattle.grid_model.specs.RowGrids.{user_name}
+use Rattle.grid_model.specs.declared.deltas.Numbers.{Numbers}
+use Rattle.grid_deed.proofs.Keeping.{held_stands}
+use Rattle.plan_object.specs.Writing.{FindsTargets}
+use Rattle.cmd_run.specs.Puts.{wanted}
+use Rattle.grid_outside.specs.declared.outside.Wear.TheVariants as wear
+use Rattle.cmd_run.specs.Around.{around}
+use Rattle.cmd_run.specs.declared.server.Ending.TheVariants as ending
+use Rattle.cmd_run.proofs.KeepLemmas.{keep_still}
+use Rattle.cmd_run.proofs.PutEnds.{says_refused_put, worn_vaults}
+use Rattle.cmd_run.proofs.SayLemmas.{unsaid, unsaid_by}
+use Rattle.cmd_run.proofs.server.Server.put.Goals as goal
+
+pub returns-then-next-gt-LAST_VAULT-clause-obeys : goal.returns-then-next-gt-LAST_VAULT-clause-obeys
+returns-then-next-gt-LAST_VAULT-clause-obeys g c = λ source request asks.
+    unsaid_by g.D.Disk.disk g.A.Ambient.ambient g.P.Plugin.plugin source c.args.outside.now (g.K.Sink.sink c.args.sink.now) c.args.self.now c.args.number request c.args.self.now _ c.requires.fits.held c.requires.ready.outside.main_last c.requires.ready.sink_last
+
+pub returns-then-next-gt-LAST_VAULT-clause-worn : goal.returns-then-next-gt-LAST_VAULT-clause-worn
+returns-then-next-gt-LAST_VAULT-clause-worn g c = λ source request asks.
+    worn_vaults (around g.D.Disk.disk g.A.Ambient.ambient g.P.Plugin.plugin c.args.outside.now (g.K.Sink.sink c.args.sink.now) source) c.args.self.now c.args.putting request asks c.numbers-next.result.next_vault (ap (λ (x : Numbers). x.next_vault) (c.numbers-next.ensures ∙ ap (λ (x : Cat). x.numbers) c.tables.ensures)) (omega (arith, c.if-next-gt-LAST_VAULT.true)) (λ told. held_stands c.args.self.now.store.cat (g.D.Disk.disk c.args.outside.now.main) c.args.self.now.store c.requires.fits.held told)
+
+pub returns-then-next-gt-LAST_VAULT-clause-whole : goal.returns-then-next-gt-LAST_VAULT-clause-whole
+returns-then-next-gt-LAST_VAULT-clause-whole g c = keep_still g.P.Plugin.plugin c.args.self.now.store.cat c.args.outside.now.moments (g.D.Disk.disk c.args.outside.now.main) c.args.self.now.store c.args.outside.now.stores.items c.requires.fits.held c.requires.ready.outside.main_last
+
+pub returns-in-Err-Refused-clause-obeys : goal.returns-in-Err-Refused-clause-obeys
+returns-in-Err-Refused-clause-obeys g c = λ source request asks.
+    let cat = c.args.self.now.store.cat in
+    let p = c.args.putting in
+    let F : _ → Type 0 = λ r. FindsTargets cat (user_name cat p.user) (wanted p) 0 r in
+    c.say.ensures.obeys source request c.args.self.now refl (says_refused_put c.args.self.now p request asks 0 c.in-Err-Refused.refusal (subst F (c.in-Err-Refused.is ∙ ap Err c.in-Err-Refused.field-0-is) c.targets.ensures))
+
+pub returns-clause-obeys : goal.returns-clause-obeys
+returns-clause-obeys g c = λ source request asks.
+    unsaid g.D.Disk.disk g.A.Ambient.ambient g.P.Plugin.plugin source c.args.outside.now (g.K.Sink.sink c.args.sink.now) c.args.self.now c.args.number request c.args.self.now c.requires.fits.held c.requires.ready.outside.main_last c.requires.ready.sink_last
+
+pub returns-clause-whole : goal.returns-clause-whole
+returns-clause-whole g c = keep_still g.P.Plugin.plugin c.args.self.now.store.cat c.args.outside.now.moments (g.D.Disk.disk c.args.outside.now.main) c.args.self.now.store c.args.outside.now.stores.items c.requires.fits.held c.requires.ready.outside.main_last

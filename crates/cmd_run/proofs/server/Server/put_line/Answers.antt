@@ -1,0 +1,41 @@
+use Rattle.std.proofs.Common.{◌≡◌, ◌<◌, Bool, true, false, ℕ, Ok, refl, sym, ap, subst, ◌∙◌, None, Some, arith}
+use Rattle.std.specs.Prelude.{nat_le}
+use Rattle.std.proofs.lemmas.Bool.{le-leb}
+use Rattle.grid_model.specs.Limits.{object_size}
+use Rattle.grid_model.specs.Names.{Text}
+use Rattle.grid_model.specs.Operations.Table.{put}
+use Rattle.grid_model.specs.Orders.{works}
+use Rattle.grid_model.specs.Runs.{Request}
+use Rattle.grid_model.specs.declared.grid.Mode.TheVariants.{New}
+use Rattle.grid_model.specs.declared.replies.End.TheVariants as end
+use Rattle.grid_model.specs.declared.refusal.Refusal.TheVariants as refusal
+use Rattle.cmd_run.specs.Fits.{state_of}
+use Rattle.cmd_run.specs.Obeys.{SaysOnly}
+use Rattle.cmd_run.proofs.LoginLemmas.{says_no_login}
+use Rattle.cmd_run.proofs.WorkingLemmas.{says_too_large, asks_to_put, not_le}
+use Rattle.cmd_run.proofs.server.Server.put_line.Goals as goal
+
+pub returns-in_default-clause-obeys : goal.returns-in_default-clause-obeys
+returns-in_default-clause-obeys g c = λ source request asks.
+    let s = c.args.self.now in
+    let l = c.args.line in
+    let Q : Request → Type 0 = λ r. SaysOnly (state_of s) r (end.Refused refusal.NoLogin) (state_of s) in
+    c.say.ensures.obeys source request s refl (subst Q (sym asks.1) (says_no_login s c.args.session (works (put l.path l.resource New asks.0) l.count) (sym c.in_default.ensures) refl))
+
+pub returns-then-line-gt-OBJECT_SIZE-clause-obeys : goal.returns-then-line-gt-OBJECT_SIZE-clause-obeys
+returns-then-line-gt-OBJECT_SIZE-clause-obeys g c = λ source request asks.
+    let s = c.args.self.now in
+    let l = c.args.line in
+    let Q : Request → Type 0 = λ r. SaysOnly (state_of s) r (end.Refused (refusal.TooLarge object_size)) (state_of s) in
+    c.say-then-line-gt-OBJECT_SIZE.ensures.obeys source request s refl
+    (subst Q (sym asks.1) (says_too_large s c.args.session c.in-Some.user (sym c.in-Some.ensures) (put l.path l.resource New asks.0) l.count (not_le l.count object_size (omega (arith, c.if-line-gt-OBJECT_SIZE.true)))))
+
+pub returns-clause-obeys : goal.returns-clause-obeys
+returns-clause-obeys g c = λ source request asks.
+    let s = c.args.self.now in
+    c.put.ensures.obeys source request (asks_to_put s c.args.session c.in-Some.user (sym c.in-Some.ensures) c.args.line request asks (le-leb c.args.line.count object_size (omega (arith, c.if-line-gt-OBJECT_SIZE.false))))
+
+pub returns-clause-worn : goal.returns-clause-worn
+returns-clause-worn g c = λ source request asks.
+    let s = c.args.self.now in
+    c.put.ensures.worn source request (asks_to_put s c.args.session c.in-Some.user (sym c.in-Some.ensures) c.args.line request asks (le-leb c.args.line.count object_size (omega (arith, c.if-line-gt-OBJECT_SIZE.false))))

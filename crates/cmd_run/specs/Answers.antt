@@ -1,0 +1,20 @@
+-- What is put on the sink.
+use Rattle.std.specs.Prelude.{◌≡◌, ℕ, ◌+◌, ◌≤◌, List, [], ◌++◌, Result, Ok, Err, IsTrue, ⊤}
+use Rattle.grid_outside.specs.Device.{Acts, IsSettled}
+use Rattle.grid_outside.specs.Fault.{Rose}
+use Rattle.grid_outside.specs.Sink.{SinkState, AddsPart}
+use Rattle.grid_model.specs.Names.{Text}
+use Rattle.cmd_run.specs.declared.server.Ending.{Ending}
+use Rattle.cmd_run.specs.declared.server.Ending.TheVariants.{Disk, Sink, Memory, Worn}
+
+-- The text was put on the sink as the next moment after so many, in whole or in part.
+pub record IsPut (text : Text) (from : ℕ) (old new : SinkState) : Type 0 where
+  pub acts : Acts (from + 1) (AddsPart text) old new
+  pub settled : IsTrue old.tells → IsSettled new
+  pub later : old.faults ≤ new.faults
+
+-- how that ended
+abbrev pub PutEnds : Text → SinkState → SinkState → Result ⊤ Ending → Type 0
+PutEnds text old new (Ok done) = IsTrue old.tells → new.holds ≡ old.holds ++ text
+PutEnds text old new (Err Sink) = Rose old.faults new.faults
+PutEnds text old new (Err other) = ⊥

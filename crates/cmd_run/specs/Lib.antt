@@ -1,0 +1,12 @@
+pub mod Around
+pub mod Answers
+pub mod Asking
+pub mod Errors
+pub mod Fits
+pub mod Gets
+pub mod Keeps
+pub mod Logins
+pub mod Obeys
+pub mod Passes
+pub mod Puts
+pub mod Writes

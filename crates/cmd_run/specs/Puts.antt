@@ -1,0 +1,66 @@
+-- What a put asks for, and the plan of it.
+use Rattle.std.specs.Prelude.{◌≡◌, ℕ, ◌^◌, ◌≤◌, [], ◌∷◌, ◌++◌, true, nat_le, length, Some, Ok, IsTrue}
+use Rattle.std.specs.List.{list_all}
+use Rattle.grid_journal.specs.Journal.{can_be_kept}
+use Rattle.grid_model.specs.declared.deltas.Numbers.{Numbers}
+use Rattle.grid_model.specs.declared.deltas.Delta.TheVariants as delta
+use Rattle.grid_model.specs.Maps.{get}
+use Rattle.grid_model.specs.Grid.{Grid}
+use Rattle.grid_model.specs.Limits.{object_size}
+use Rattle.grid_model.specs.Rows.{Cat}
+use Rattle.grid_model.specs.RowGrids.{grid_of, user_name}
+use Rattle.grid_model.specs.Sessions.{Session}
+use Rattle.grid_model.specs.Orders.{works}
+use Rattle.grid_model.specs.Deeds.{Deed, deed, fits}
+use Rattle.grid_model.specs.Operations.Table.{Operation, put, row}
+use Rattle.grid_model.specs.Runs.{Request}
+use Rattle.grid_model.specs.declared.grid.Mode.TheVariants.{New}
+use Rattle.grid_model.specs.declared.marks.Mark.TheVariants.{Ran, Fault}
+use Rattle.grid_model.specs.declared.plans.Plan.{Plan}
+use Rattle.grid_vault.specs.Vault.{HasSlot}
+use Rattle.file_laws.specs.Plans.{IsPlan}
+use Rattle.run_laws.specs.Steps.{IsLike}
+use Rattle.plan_object.specs.Writing.{Wanted}
+use Rattle.cmd_run.specs.declared.server.Server.{Server}
+use Rattle.cmd_run.specs.declared.putting.Putting.{Putting}
+use Rattle.cmd_run.specs.Fits.{state_of}
+use Rattle.cmd_run.specs.Obeys.{Stays}
+
+-- the operation
+abbrev pub operation_of : Putting → Operation
+operation_of p = put p.path p.resource New p.body
+
+-- what it asks for, but for its bytes
+abbrev pub wanted : Putting → Wanted
+wanted p = record { path = p.path; resource = p.resource; mode = New; size = length p.body }
+
+-- The request is this put of a new object by a session that is logged in, for which the line promised no more bytes than there may be.
+pub record AsksToPut (s : Server) (p : Putting) (request : Request) : Type 0 where
+  pub session : ℕ
+  pub count : ℕ
+  pub is : request ≡ Ok (session, works (operation_of p) count)
+  pub of : Session
+  pub logged_in : get (state_of s).sessions session ≡ Some of
+  pub user : of.user ≡ user_name s.store.cat p.user
+  pub small : nat_le count object_size ≡ true
+
+-- The plan is that of the put for this word at this time: nothing is seen of its first changes, and behind its last ones the rows
+-- stand for the grid once the deed ran, as the command of this number left them.
+pub record PlansPut (c : Cat) (p : Putting) (word now n : ℕ) (plan : Plan) : Type 0 where
+  pub of : Deed
+  pub row_is : row (grid_of c) (user_name c p.user) (operation_of p) ≡ Ok (deed of)
+  pub ran_fits : fits of (Ran word now []) ≡ true
+  pub fault_fits : (slot : ℕ) → HasSlot plan.files slot → fits of (Fault slot 0) ≡ true
+  pub is_plan : IsPlan c c c.stores plan p.body
+  pub before : IsLike c is_plan.mid
+  pub grid : grid_of is_plan.end ≡ of.ran word now []
+  pub last : is_plan.end.numbers.last ≡ n
+  pub stays : Stays c is_plan.end
+  pub few : length plan.files ≤ 2 ^ 32
+
+-- The plan has these numbers behind its last changes.
+pub record IsNamedPlan (plan : Plan) (numbers : Numbers) (named : Plan) : Type 0 where
+  pub before : named.before ≡ plan.before
+  pub files : named.files ≡ plan.files
+  pub after : named.after ≡ plan.after ++ delta.Numbers numbers ∷ []
+  pub spelled : IsTrue (list_all can_be_kept plan.after) → IsTrue (list_all can_be_kept named.after)

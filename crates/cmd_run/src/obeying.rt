@@ -1,0 +1,103 @@
+ghost use Rattle.std.specs.Prelude.{◌≡◌, ◌+◌, ◌≤◌, ◌^◌, IsErrOf, length, vec_len};
+ghost use Rattle.grid_outside.specs.Source.{SourceState};
+ghost use Rattle.grid_model.specs.Limits.{object_size};
+ghost use Rattle.grid_model.specs.Runs.{Request as RequestOf};
+ghost use Rattle.grid_deed.specs.Safe.{KeepWhole};
+ghost use Rattle.cmd_run.specs.Around.{around};
+ghost use Rattle.cmd_run.specs.Asking.{AsksFor, IsForm};
+ghost use Rattle.cmd_run.specs.Passes.{AreReady, Passes};
+
+use crate::answers::well;
+use crate::working::PutLine;
+use crate::{Ending, Server};
+use grid_model::{Bytes, End, Mode, Refusal, Request, Verb};
+use grid_outside::{Ambient, Disk, Outside, Plugin, Sink};
+use std::alloc::Global;
+
+impl Server {
+    ghost use Rattle.cmd_run.specs.declared.server.Server.{Server};
+    ghost use Rattle.cmd_run.specs.Fits.{Fits};
+    ghost use Rattle.cmd_run.specs.Obeys.{Obeys, IsWorn};
+
+    /// Handles the request of this number: it is decided over the rows, done, kept and answered. Where its words were
+    /// refused, that is answered. `body` is the request's body, and empty where its verb has none or promised more bytes
+    /// than an object may have. `Disk` and `Sink` come only where that device failed, and `Worn` only where numbers of vault
+    /// files or the room of the log have run out; a run ends after any error. Draws at most 2^72 moments.
+    pub fn command<D: Disk, K: Sink, A: Ambient, P: Plugin>(
+        &mut self,
+        alloc: Global,
+        outside: &mut Outside<D, A, P>,
+        sink: &mut K,
+        number: u64,
+        asked: Result<Request, Refusal>,
+        body: Bytes,
+    ) -> Result<(), Ending>
+        requires fits { Fits (D.disk outside.old.main) self.old }
+        requires form { IsForm asked }
+        requires small { length body ≤ object_size }
+        requires slots { self.old.store.cat.stores ≡ vec_len outside.old.stores }
+        requires ready { AreReady D.disk P.plugin K.sink (2 ^ 72) (record { outside = outside.old; sink = sink.old }) }
+        ensures obeys { (source : SourceState) (request : RequestOf) → AsksFor asked body request →
+            Obeys (around D.disk A.ambient P.plugin outside.old (K.sink sink.old) source) (around D.disk A.ambient P.plugin outside.new (K.sink sink.new) source)
+            self.old number request result self.new }
+        ensures worn { (source : SourceState) (request : RequestOf) → AsksFor asked body request →
+            IsWorn (around D.disk A.ambient P.plugin outside.new (K.sink sink.new) source) self.old request result }
+        ensures whole { KeepWhole P.plugin outside.old.moments self.old.store.cat
+            (D.disk outside.old.main) (D.disk outside.new.main) outside.old.stores.items outside.new.stores.items }
+        ensures passes { Passes D.disk P.plugin K.sink (IsErrOf result Ending.Disk) (IsErrOf result Ending.Sink)
+            (record { outside = outside.old; sink = sink.old }) (record { outside = outside.new; sink = sink.new }) }
+        ensures drawn { outside.new.moments ≤ outside.old.moments + 2 ^ 72 }
+    {
+        let request = match asked {
+            Ok(request) => request,
+            Err(refusal) => {
+                return self.say(alloc, outside, sink, number, End::Refused(refusal));
+            }
+        };
+        let session = request.session;
+        match request.verb {
+            Verb::Login { user } => self.login(alloc, outside, sink, number, session, &user),
+            Verb::Logout => self.logout(alloc, outside, sink, number, session),
+            Verb::Quit => self.say(alloc, outside, sink, number, well(alloc)),
+            Verb::MkDir { path } => self.mkdir(alloc, outside, sink, number, session, &path),
+            Verb::Put {
+                path,
+                resource,
+                mode,
+                count,
+            } => match mode {
+                Mode::New => {
+                    let line = PutLine {
+                        path,
+                        resource,
+                        count,
+                        body,
+                    };
+                    self.put_line(alloc, outside, sink, number, session, line)
+                }
+                Mode::Over => {
+                    let end = End::Refused(Refusal::UnknownCommand);
+                    self.say(alloc, outside, sink, number, end)
+                }
+            },
+            Verb::Get { path, resource } => {
+                self.get_for(
+                    alloc,
+                    outside,
+                    sink,
+                    number,
+                    session,
+                    &path,
+                    resource.as_ref(),
+                )
+            }
+            _ => self.say(
+                alloc,
+                outside,
+                sink,
+                number,
+                End::Refused(Refusal::UnknownCommand),
+            ),
+        }
+    }
+}

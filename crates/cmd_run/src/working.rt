@@ -1,0 +1,121 @@
+ghost use Rattle.std.specs.Prelude.{◌≡◌, ◌+◌, ◌≤◌, ◌<◌, ◌^◌, IsErrOf, Ok, length, vec_len};
+ghost use Rattle.grid_outside.specs.Source.{SourceState};
+ghost use Rattle.grid_model.specs.Limits.{object_size};
+ghost use Rattle.grid_model.specs.Orders.{works};
+ghost use Rattle.grid_model.specs.Operations.Table.{mkdir};
+ghost use Rattle.grid_model.specs.Runs.{Request as RequestOf};
+ghost use Rattle.grid_deed.specs.Safe.{KeepWhole};
+ghost use Rattle.cmd_run.specs.Around.{around};
+ghost use Rattle.cmd_run.specs.Passes.{AreReady, Passes};
+
+use crate::putting::Putting;
+use crate::{Ending, Server};
+use grid_model::{Bytes, End, Path, PlanError, Refusal, Text};
+use grid_outside::{Ambient, Disk, Outside, Plugin, Sink};
+use plan_coll::plan_mkdir;
+use std::alloc::Global;
+
+/// How many bytes an object may have.
+const OBJECT_SIZE: u64 = 16_777_216;
+
+/// What the line of a put of a new object asks for, and its body.
+#[derive(Debug, Drop)]
+pub(crate) struct PutLine {
+    pub(crate) path: Path,
+    pub(crate) resource: Text,
+    /// How many bytes the line promised.
+    pub(crate) count: u64,
+    /// The body where these are no more than an object may have.
+    pub(crate) body: Bytes,
+}
+
+impl Server {
+    ghost use Rattle.cmd_run.specs.declared.server.Server.{Server};
+    ghost use Rattle.cmd_run.specs.Asking.{PutOf};
+    ghost use Rattle.cmd_run.specs.Fits.{Fits};
+    ghost use Rattle.cmd_run.specs.Obeys.{Obeys, IsWorn};
+
+    /// Makes a collection.
+    pub(crate) fn mkdir<D: Disk, K: Sink, A: Ambient, P: Plugin>(
+        &mut self,
+        alloc: Global,
+        outside: &mut Outside<D, A, P>,
+        sink: &mut K,
+        number: u64,
+        session: u8,
+        path: &Path,
+    ) -> Result<(), Ending>
+        requires fits { Fits (D.disk outside.old.main) self.old }
+        requires session { session < 64 }
+        requires ready { AreReady D.disk P.plugin K.sink (5) (record { outside = outside.old; sink = sink.old }) }
+        ensures obeys { (source : SourceState) (request : RequestOf) → request ≡ Ok (session, works (mkdir path.now) 0) →
+            Obeys (around D.disk A.ambient P.plugin outside.old (K.sink sink.old) source) (around D.disk A.ambient P.plugin outside.new (K.sink sink.new) source)
+            self.old number request result self.new }
+        ensures worn { (source : SourceState) (request : RequestOf) → request ≡ Ok (session, works (mkdir path.now) 0) →
+            IsWorn (around D.disk A.ambient P.plugin outside.new (K.sink sink.new) source) self.old request result }
+        ensures whole { KeepWhole P.plugin outside.old.moments self.old.store.cat
+            (D.disk outside.old.main) (D.disk outside.new.main) outside.old.stores.items outside.new.stores.items }
+        ensures passes { Passes D.disk P.plugin K.sink (IsErrOf result Ending.Disk) (IsErrOf result Ending.Sink)
+            (record { outside = outside.old; sink = sink.old }) (record { outside = outside.new; sink = sink.new }) }
+        ensures drawn { outside.new.moments ≤ outside.old.moments + 5 }
+    {
+        let Some(user) = self.sessions.user(session) else {
+            return self.say(alloc, outside, sink, number, End::Refused(Refusal::NoLogin));
+        };
+        match plan_mkdir(alloc, self.store.tables(), user, path) {
+            Ok(deltas) => self.change(alloc, outside, sink, number, deltas),
+            Err(PlanError::Refused(refusal)) => {
+                self.say(alloc, outside, sink, number, End::Refused(refusal))
+            }
+            Err(PlanError::Memory) => Err(Ending::Memory),
+        }
+    }
+
+    /// Puts a body as a new object.
+    pub(crate) fn put_line<D: Disk, K: Sink, A: Ambient, P: Plugin>(
+        &mut self,
+        alloc: Global,
+        outside: &mut Outside<D, A, P>,
+        sink: &mut K,
+        number: u64,
+        session: u8,
+        line: PutLine,
+    ) -> Result<(), Ending>
+        requires fits { Fits (D.disk outside.old.main) self.old }
+        requires session { session < 64 }
+        requires small { length line.body ≤ object_size }
+        requires slots { self.old.store.cat.stores ≡ vec_len outside.old.stores }
+        requires ready { AreReady D.disk P.plugin K.sink (2 ^ 50) (record { outside = outside.old; sink = sink.old }) }
+        ensures obeys { (source : SourceState) (request : RequestOf) → PutOf session line request →
+            Obeys (around D.disk A.ambient P.plugin outside.old (K.sink sink.old) source) (around D.disk A.ambient P.plugin outside.new (K.sink sink.new) source)
+            self.old number request result self.new }
+        ensures worn { (source : SourceState) (request : RequestOf) → PutOf session line request →
+            IsWorn (around D.disk A.ambient P.plugin outside.new (K.sink sink.new) source) self.old request result }
+        ensures whole { KeepWhole P.plugin outside.old.moments self.old.store.cat
+            (D.disk outside.old.main) (D.disk outside.new.main) outside.old.stores.items outside.new.stores.items }
+        ensures passes { Passes D.disk P.plugin K.sink (IsErrOf result Ending.Disk) (IsErrOf result Ending.Sink)
+            (record { outside = outside.old; sink = sink.old }) (record { outside = outside.new; sink = sink.new }) }
+        ensures drawn { outside.new.moments ≤ outside.old.moments + 2 ^ 50 }
+    {
+        let Some(user) = self.sessions.user(session) else {
+            return self.say(alloc, outside, sink, number, End::Refused(Refusal::NoLogin));
+        };
+        if line.count > OBJECT_SIZE {
+            let limit = OBJECT_SIZE;
+            return self.say(
+                alloc,
+                outside,
+                sink,
+                number,
+                End::Refused(Refusal::TooLarge { limit }),
+            );
+        }
+        let putting = Putting {
+            user,
+            path: line.path,
+            resource: line.resource,
+            body: line.body,
+        };
+        self.put(alloc, outside, sink, number, putting)
+    }
+}
