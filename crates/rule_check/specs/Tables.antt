@@ -1,0 +1,55 @@
+-- What the tables of names say.
+use Rattle.std.specs.Prelude.{◌≡◌, ℕ, Bool, true, false, ◌||◌, List, Option, Some, None, map}
+use Rattle.std.specs.Borrow.{Bor}
+use Rattle.std.specs.Str.{bytes_eq}
+use Rattle.std.specs.declared.hash.FoldHasher.{FoldHasher}
+use Rattle.std.specs.declared.hash.BuildHasherDefault.{BuildHasherDefault}
+use Rattle.indexmap.specs.IndexMap.{IndexMap, get_by}
+use Rattle.indexmap.specs.IndexSet.{IndexSet, contains_by}
+use Rattle.grid_model.specs.Checks.{is_one_of, params_of}
+use Rattle.grid_model.specs.Names.{Text, same_text}
+use Rattle.grid_model.specs.Parsed.{plain_rule, rule_of}
+use Rattle.grid_model.specs.RuleText as meaning
+use Rattle.grid_model.specs.declared.rules.Rule.{Rule}
+
+-- numbers by names
+abbrev pub Counts : Type 0
+Counts = IndexMap (Bor Text) ℕ (BuildHasherDefault FoldHasher)
+
+-- a set of names
+abbrev pub Set : Type 0
+Set = IndexSet (Bor Text) (BuildHasherDefault FoldHasher)
+
+-- the number of this name
+abbrev pub count_at : Counts → Text → Option ℕ
+count_at m n = get_by (λ k. bytes_eq n k.now) m
+
+-- the name is in the set
+abbrev pub is_in : Set → Text → Bool
+is_in s n = contains_by (λ k. bytes_eq n k.now) s
+
+-- rules without their places
+abbrev pub plain_rules : List Rule → List meaning.Rule
+plain_rules rs = map plain_rule (map rule_of rs)
+
+-- the numbers are those of the parameters of the first rule of each name
+pub record CountsRules (m : Counts) (rs : List Rule) : Type 0 where
+  pub same : (n : Text) → count_at m n ≡ params_of (plain_rules rs) n
+
+-- the set has just these
+pub record HasTexts (s : Set) (ts : List Text) : Type 0 where
+  pub same : (n : Text) → is_in s n ≡ is_one_of ts n
+
+-- what is there, and else this, where the test holds
+abbrev pub or_else : Option ℕ → Bool → ℕ → Option ℕ
+or_else (Some k) b count = Some k
+or_else None true count = Some count
+or_else None false count = None
+
+-- after a name was added, where it was not there yet
+pub record AddsName (old : Counts) (name : Text) (count : ℕ) (new : Counts) : Type 0 where
+  pub same : (n : Text) → count_at new n ≡ or_else (count_at old n) (same_text name n) count
+
+-- after a text was added
+pub record AddsText (old : Set) (text : Text) (new : Set) : Type 0 where
+  pub same : (n : Text) → is_in new n ≡ (is_in old n || same_text n text)

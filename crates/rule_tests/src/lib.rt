@@ -1,0 +1,7 @@
+//! Tests of `rule_check` and `rule_cond` on rules that are read from their texts.
+#![tactic(auto)]
+
+#[cfg(test)]
+mod conditions;
+#[cfg(test)]
+mod faults;
