@@ -1,0 +1,15 @@
+pub mod Moving
+pub mod Stepping
+pub mod Stops
+pub mod Undoing
+pub mod Answering
+pub mod Keeping
+pub mod Finding
+pub mod Settling
+pub mod Taking
+pub mod Telling
+pub mod Usable
+pub mod Asking
+pub mod Serving
+pub mod Coding
+pub mod Fewer

@@ -1,0 +1,9 @@
+pub mod Answers
+pub mod Ending
+pub mod Moves
+pub mod Coding
+pub mod Readings
+pub mod Rest
+pub mod Running
+pub mod Seen
+pub mod Settling
