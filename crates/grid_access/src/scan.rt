@@ -20,8 +20,8 @@ pub(crate) fn is_admin(tables: &Tables, user: u32) -> bool
     }
 }
 
-/// The greatest level that the entries of an item give a user. This is the plain first body: it looks at each entry of
-/// the item, and for each at the users and at the members of all groups.
+/// The greatest level that the entries of an item give a user. It looks at each entry of the item, and for each by a
+/// search at the users and at the members of groups.
 pub(crate) fn greatest_given(tables: &Tables, user: u32, item: Item) -> Level
     ensures { result ≡ greatest (levels_by_rows tables.now user (access_of tables.now (kind_of item) (id_of item))) }
 {

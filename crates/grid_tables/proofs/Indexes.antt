@@ -72,7 +72,7 @@ module _ {X : Type 0} (number : X → ℕ) (row_cmp : X → X → Ordering) (tot
             )
 
 -- a row at an index
-at_index : {X : Type 0} (rows : List X) (i : ℕ) → i < length rows → (x : X) × IsIn rows x × ((d : X) → slice_index_or rows i d ≡ x)
+pub at_index : {X : Type 0} (rows : List X) (i : ℕ) → i < length rows → (x : X) × IsIn rows x × ((d : X) → slice_index_or rows i d ≡ x)
 at_index [] i h = absurd (omega arith)
 at_index (r ∷ rows) zero h = (r, inl refl, λ d. refl)
 at_index (r ∷ rows) (suc i) h = let rest = at_index rows i (omega arith) in (rest.0, inr rest.1, rest.2)

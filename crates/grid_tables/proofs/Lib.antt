@@ -1,9 +1,13 @@
 mod Descending
 mod Finding
+mod IndexKeys
 mod Indexes
 mod Locating
 mod Runs
 mod Searching
+mod SharedAttributes
 mod Trees
 mod VaultNumbers
 mod WaysUp
+mod KeyLookUps
+mod LastIds

@@ -76,7 +76,7 @@ module _ {X : Type 0} (side : X → Ordering) where
   none_greater rows start parts k d inside = rw (get_or-drop start rows k d) (parts.1 (start + k) d (omega arith) (omega (arith, inside, length-drop start rows)))
 
   module _ (is : X → Bool) (belongs : (r : X) → is r ≡ is_eq (side r)) where
-    alike : (rows : List X) → filter is rows ≡ filter (λ r. is_eq (side r)) rows
+    pub alike : (rows : List X) → filter is rows ≡ filter (λ r. is_eq (side r)) rows
     alike [] = refl
     alike (r ∷ rows) = ap (λ b. cond b (r ∷ filter is rows) (filter is rows)) (belongs r) ∙ ap (λ (l : List X). cond (is_eq (side r)) (r ∷ l) l) (alike rows)
 

@@ -1,16 +1,20 @@
 -- A binary search for a key among rows in the order of their keys.
-use Rattle.std.proofs.Common.{◌≡◌, ℕ, zero, suc, ◌<◌, ◌≤◌, Bool, true, false, cond, List, [], ◌∷◌, length, slice_index_or, Some, None, Option, refl, ap, ◌∙◌, arith, Bor, ◌==◌, eqb-true}
+use Rattle.std.proofs.Common.{◌≡◌, ℕ, zero, suc, ◌<◌, ◌≤◌, Bool, true, false, cond, List, [], ◌∷◌, length, slice_index_or, Some, None, Option, refl, sym, ap, ◌∙◌, arith, Bor, ◌==◌, eqb-true}
 use Rattle.std.proofs.lemmas.Bool.{eqb-false}
 use Rattle.std.specs.Prelude.{find, filter, not, ◌&&◌, ◌||◌, IsTrue, Result, Ok, Err, is_some}
 use Rattle.std.specs.List.{AllByRecursion, list_any, remove}
 use Rattle.std.specs.List.Sorted.{IsStrictlySortedBy, IsBinarySearchResult, IsSearchInRange, IsNonDecreasingBy}
 use Rattle.std.specs.declared.cmp.Ordering.{Ordering}
 use Rattle.std.specs.declared.cmp.Ordering.TheVariants.{Less, Equal, Greater}
-use Rattle.std.specs.Ordering.{is_eq, is_le, ordering_index, ordering_reverse}
+use Rattle.std.specs.Ordering.{is_eq, is_le, eq_by_cmp, ordering_index, ordering_reverse}
+use Rattle.std.specs.Cmp.{IsTotalOrder}
+use Rattle.std.specs.BTreeMap.Comparable.{le_lt_trans}
 use Rattle.std.proofs.lemmas.List.Kept.{IsStrictlySortedBy-filter}
 use Rattle.std.specs.Option.{option_copied}
 use Rattle.grid_model.specs.Rows.{IsTable}
+use Rattle.grid_model.proofs.FoundRows.{is_some-find}
 use Rattle.grid_tables.specs.Places.{IsPlace, passes}
+use Rattle.grid_tables.specs.Probes.{tied}
 
 -- what is so of all rows is so at each place
 all_at : {X : Type 0} (P : X → Type 0) (rows : List X) → AllByRecursion P rows → (k : ℕ) (d : X) → k < length rows → P (slice_index_or rows k d)
@@ -140,6 +144,13 @@ module _ {X : Type 0} (cmp : X → X → Ordering) where
             alone = λ test. rw no (rest.alone test);
             others = rw no (ap (λ (l : List X). r ∷ l) rest.others);
           }
+
+-- where a row belongs between others, none has its key
+pub none_tied : {X : Type 0} (cmp : X → X → Ordering) → IsTotalOrder cmp → (row : X) (rows : List X) (i : ℕ) → IsStrictlySortedBy cmp rows → IsPlace (cmp row) rows (Err i)
+    → list_any (λ r. eq_by_cmp cmp r row) rows ≡ false
+none_tied cmp total row rows i sorted place =
+    sym (is_some-find (λ r. eq_by_cmp cmp r row) rows)
+    ∙ ap is_some (at-Err cmp (cmp row) (λ a b less le. le_lt_trans total row a b le less) (λ r. eq_by_cmp cmp r row) (tied total row) rows i sorted place).found
 
 -- rows that a test keeps are a table
 pub all_kept : {X : Type 0} (P : X → Type 0) (q : X → Bool) (rows : List X) → AllByRecursion P rows → AllByRecursion P (filter q rows)

@@ -1,5 +1,7 @@
 pub mod Counts
 pub mod Descending
+pub mod KeyOrders
+pub mod IndexKeys
 pub mod Indexes
 pub mod Items
 pub mod Places

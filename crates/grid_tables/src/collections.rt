@@ -96,8 +96,9 @@ impl Tables {
         !self.objects.children(id).is_empty()
     }
 
-    // Whether nothing lies in the collection.
-    fn is_empty_collection(&self, id: u64) -> bool
+    /// Whether no collection and no object lies in the collection with this id; of `/` it counts what is in it, and not
+    /// itself. It takes no memory, and looks at no other row than at the first two in it.
+    pub fn is_empty_collection(&self, id: u64) -> bool
         ensures { result ≡ is_empty_collection self.now id }
     {
         !self.has_child(id) && !self.has_object_in(id)

@@ -5,6 +5,8 @@ mod access;
 mod collections;
 mod counts;
 mod error;
+mod index_key;
+mod indexed;
 mod keyed;
 mod kinds;
 mod lookups;
@@ -25,4 +27,5 @@ mod vaults;
 
 pub use counts::{Ids, Kind};
 pub use error::TableError;
+pub use index_key::{AccessOfUser, GroupOfUser, ItemWithAttribute, ReplicaOnLeaf};
 pub use tables::Tables;

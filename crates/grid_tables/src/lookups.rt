@@ -1,10 +1,12 @@
-ghost use Rattle.std.specs.Prelude.{◌≡◌, ◌==◌, ◌<◌, true, false, filter, find, option_map, IfSome, IfNone};
+ghost use Rattle.std.specs.Prelude.{◌≡◌, ◌==◌, ◌<◌, ◌+◌, true, false, filter, find, option_map, IfSome, IfNone};
 ghost use Rattle.std.specs.Option.{option_copied};
 ghost use Rattle.grid_model.specs.Names.{same_text};
-ghost use Rattle.grid_model.specs.Rows.{IsCat, has_collection, has_object, user, replicas_of, triples_of, access_of, kind_of, id_of};
+ghost use Rattle.grid_model.specs.Rows.{IsCat, has_collection, has_object, has_resource, has_user, user, replicas_of, triples_of, access_of, kind_of, id_of};
+ghost use Rattle.grid_tables.specs.IndexKeys.{AreKeysOf};
 ghost use Rattle.grid_tables.specs.Indexes.{IsIndex, place_cmp};
+ghost use Rattle.grid_tables.specs.KeyOrders.{access_cmp, access_of_row, attribute_cmp, attribute_of, group_cmp, group_of, leaf_cmp, leaf_of};
 
-use crate::Tables;
+use crate::{AccessOfUser, GroupOfUser, ItemWithAttribute, ReplicaOnLeaf, Tables};
 use grid_model::{
     EntryRow, Item, ItemKind, MemberRow, Numbers, OrphanRow, Pending, ReplicaRow, ResourceRow,
     Text, TripleRow, UserRow,
@@ -37,22 +39,22 @@ impl Tables {
     pub fn user_named(&self, name: &Text) -> Option<u32>
         ensures { result ≡ option_map (λ r. r.id) (find (λ r. same_text r.name name.now) self.now.users) }
     {
-        self.users
-            .as_slice()
-            .iter()
-            .find(|row| row.name == *name)
-            .map(|row| row.id)
+        let _rows = self.users.as_slice();
+        match self.users.at(name).first() {
+            Some(key) => Some(key.id),
+            None => None,
+        }
     }
 
     /// The id of the resource with this name.
     pub fn resource_named(&self, name: &Text) -> Option<u32>
         ensures { result ≡ option_map (λ r. r.id) (find (λ r. same_text r.name name.now) self.now.resources) }
     {
-        self.resources
-            .as_slice()
-            .iter()
-            .find(|row| row.name == *name)
-            .map(|row| row.id)
+        let _rows = self.resources.as_slice();
+        match self.resources.at(name).first() {
+            Some(key) => Some(key.id),
+            None => None,
+        }
     }
 
     /// The users and groups, by id.
@@ -87,6 +89,30 @@ impl Tables {
         self.objects.next_id()
     }
 
+    /// An id from 1 on that no user and no group has, above all of theirs; none where 2^32 - 1 is taken.
+    pub fn next_user_id(&self) -> Option<u32>
+        ensures fresh { IfSome result (λ id. has_user self.now id ≡ false) }
+        ensures some { IfSome result (λ id. 0 < id) }
+        ensures none { IfNone result (has_user self.now u32.MAX ≡ true) }
+    {
+        match self.users.last() {
+            Some(row) => next_after(row.id),
+            None => Some(1),
+        }
+    }
+
+    /// An id from 1 on that no resource has, above all of theirs; none where 2^32 - 1 is taken.
+    pub fn next_resource_id(&self) -> Option<u32>
+        ensures fresh { IfSome result (λ id. has_resource self.now id ≡ false) }
+        ensures some { IfSome result (λ id. 0 < id) }
+        ensures none { IfNone result (has_resource self.now u32.MAX ≡ true) }
+    {
+        match self.resources.last() {
+            Some(row) => next_after(row.id),
+            None => Some(1),
+        }
+    }
+
     /// The ids of the collections in this one, in the order of their names. `/` is in itself, and the first there.
     pub fn collections_in(&self, collection: u64) -> &[u64]
         ensures { IsIndex (λ r. r.id) (place_cmp (λ r. r.parent) (λ r. r.name)) (filter (λ r. r.parent == collection) self.now.collections) result.now }
@@ -106,6 +132,27 @@ impl Tables {
         ensures { result.now ≡ self.now.members }
     {
         self.members.as_slice()
+    }
+
+    /// The groups that a user is in, in rising order.
+    pub fn groups_of(&self, user: u32) -> &[GroupOfUser]
+        ensures { AreKeysOf group_of group_cmp (filter (λ m. m.user == user) self.now.members) result.now }
+    {
+        self.members.at(user)
+    }
+
+    /// The items that give a user or a group access, objects first, by id.
+    pub fn items_open_to(&self, user: u32) -> &[AccessOfUser]
+        ensures { AreKeysOf access_of_row access_cmp (filter (λ e. e.user == user) self.now.entries) result.now }
+    {
+        self.entries.at(user)
+    }
+
+    /// The replicas on a leaf, by object and number.
+    pub fn replicas_on(&self, leaf: u32) -> &[ReplicaOnLeaf]
+        ensures { AreKeysOf leaf_of leaf_cmp (filter (λ r. r.leaf == leaf) self.now.replicas) result.now }
+    {
+        self.replicas.on_leaf(leaf)
     }
 
     /// The vault files that no replica has, by vault number.
@@ -151,6 +198,13 @@ impl Tables {
         self.triples.of_item(kind, id)
     }
 
+    /// The items that have an attribute of this name, each once: objects first, then collections, resources and users, by id.
+    pub fn items_with(&self, attribute: &Text) -> &[ItemWithAttribute]
+        ensures { AreKeysOf attribute_of attribute_cmp (filter (λ t. same_text t.attribute attribute.now) self.now.triples) result.now }
+    {
+        self.triples.at(attribute)
+    }
+
     /// The access that an item gives, by user.
     pub fn access_of(&self, item: Item) -> &[EntryRow]
         ensures { result.now ≡ access_of self.now (kind_of item) (id_of item) }
@@ -173,6 +227,17 @@ impl Tables {
         let _resources = self.resources.as_slice();
         let _orphans = self.orphans.as_slice();
     }
+}
+
+// The id behind this one; none behind 2^32 - 1.
+fn next_after(last: u32) -> Option<u32>
+    ensures some { IfSome result (λ id. id ≡ last + 1) }
+    ensures none { IfNone result (last ≡ u32.MAX) }
+{
+    if last == u32::MAX {
+        return None;
+    }
+    Some(last + 1)
 }
 
 /// The kind and the id of an item.

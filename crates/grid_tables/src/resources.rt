@@ -6,6 +6,7 @@ ghost use Rattle.grid_model.specs.Names.{same_text};
 ghost use Rattle.grid_model.specs.Rows.{has_resource, resource};
 ghost use Rattle.grid_tables.specs.declared.error.TableError.TheVariants.{BadDelta, Memory};
 
+use crate::index_key::NamedId;
 use crate::kinds::{is_name, is_same_kind, is_storage};
 use crate::{TableError, Tables};
 use grid_model::{Delta, ResourceKind, ResourceRow, Text};
@@ -46,10 +47,7 @@ impl Tables {
     fn is_other_resource_named(&self, id: u32, name: &Text) -> bool
         ensures { result ≡ list_any (λ o. not (o.id == id) && same_text o.name name.now) self.now.resources }
     {
-        self.resources
-            .as_slice()
-            .iter()
-            .any(|row| row.id != id && row.name == *name)
+        has_other_id(self.resources.at(name), id)
     }
 
     // Whether the resource of this id has another kind.
@@ -129,4 +127,11 @@ impl Tables {
         self.resources.put(row)?;
         Ok(())
     }
+}
+
+/// Whether one of the keys has another id.
+fn has_other_id(keys: &[NamedId], id: u32) -> bool
+    ensures { result ≡ list_any (λ k. not (k.id == id)) keys.now }
+{
+    keys.iter().any(|key| key.id != id)
 }

@@ -1,7 +1,7 @@
-ghost use Rattle.std.specs.Prelude.{◌≡◌, ◌≤◌, ◌&&◌, Bool, [], length, find, filter, map, not, IsTrue, IfOk, IfSome, OnOk, OnErr};
+ghost use Rattle.std.specs.Prelude.{◌≡◌, ◌<◌, ◌≤◌, ◌==◌, ◌&&◌, ℕ, Bool, true, false, [], length, find, filter, map, not, IsTrue, IfOk, IfSome, IfNone, OnOk, OnErr};
 ghost use Rattle.std.specs.List.{list_any};
 ghost use Rattle.std.specs.List.Sorted.{IsPartitionedBy, IsSearchInRange, IsStrictlyIncreasing, IsStrictlySortedBy};
-ghost use Rattle.std.specs.Ordering.{is_eq};
+ghost use Rattle.std.specs.Ordering.{eq_by_cmp, is_eq};
 ghost use Rattle.std.specs.Option.{option_copied};
 ghost use Rattle.grid_model.specs.Rows.{IsTable, with_row};
 ghost use Rattle.grid_tables.specs.Places.{IsPlace, Falls, StartsAt, StopsAt, passes};
@@ -81,11 +81,12 @@ impl<T: Row> Table<T> {
 
 impl<T: Row + Drop> Table<T> {
     /// Puts a row in the place of the one with its key, or where it belongs. Fails for want of memory alone, and then
-    /// nothing is put.
+    /// nothing is put, and no row has the key.
     pub(crate) fn put(&mut self, row: T) -> Result<(), AllocError>
         requires { IsTrue (T.fits row) }
         ensures put { OnOk result (self.new ≡ with_row T.row_cmp self.old row) }
         ensures failed { OnErr result (self.new ≡ self.old) }
+        ensures absent { OnErr result (list_any (λ r. eq_by_cmp T.row_cmp r row) self.old ≡ false) }
     {
         match place_of(&self.rows, &row) {
             Ok(index) => {
@@ -117,6 +118,16 @@ fn numbers_of<T: Numbered>(alloc: Global, rows: &[T]) -> Result<Vec<u64>, AllocE
 }
 
 impl<T: Numbered> Table<T> {
+    /// The row with the greatest id.
+    pub(crate) fn last(&self) -> Option<&T>
+        ensures greatest { IfSome result (λ row. (id : ℕ) → T.number row.now < id → list_any (λ r. T.number r == id) self.now ≡ false) }
+        ensures there { IfSome result (λ row. list_any (λ r. T.number r == T.number row.now) self.now ≡ true) }
+        ensures none { IfNone result (self.now ≡ []) }
+    {
+        let rows = self.as_slice();
+        rows.last()
+    }
+
     /// The ids of the rows, in rising order. Fails for want of memory alone.
     pub(crate) fn ids(&self, alloc: Global) -> Result<Vec<u64>, AllocError>
         ensures ids { IfOk result (λ ids. ids.items ≡ map T.number self.now) }

@@ -4,6 +4,8 @@ ghost use Rattle.grid_model.specs.Rows.{empty_cat};
 ghost use Rattle.grid_tables.specs.declared.error.TableError.TheVariants.{BadDelta, Memory};
 
 use crate::TableError;
+use crate::index_key::{AccessOfUser, GroupOfUser, ItemWithAttribute, NamedId};
+use crate::indexed::Indexed;
 use crate::named::Named;
 use crate::table::Table;
 use crate::vaults::Replicas;
@@ -19,14 +21,14 @@ use std::marker::Model;
 pub struct Tables {
     pub(crate) zone: Option<Text>,
     pub(crate) stores: u8,
-    pub(crate) users: Table<UserRow>,
-    pub(crate) members: Table<MemberRow>,
+    pub(crate) users: Indexed<UserRow, NamedId>,
+    pub(crate) members: Indexed<MemberRow, GroupOfUser>,
     pub(crate) collections: Named<CollectionRow>,
     pub(crate) objects: Named<ObjectRow>,
     pub(crate) replicas: Replicas,
-    pub(crate) triples: Table<TripleRow>,
-    pub(crate) entries: Table<EntryRow>,
-    pub(crate) resources: Table<ResourceRow>,
+    pub(crate) triples: Indexed<TripleRow, ItemWithAttribute>,
+    pub(crate) entries: Indexed<EntryRow, AccessOfUser>,
+    pub(crate) resources: Indexed<ResourceRow, NamedId>,
     pub(crate) rules: Text,
     pub(crate) orphans: Table<OrphanRow>,
     pub(crate) numbers: Numbers,
@@ -64,14 +66,14 @@ impl Tables {
         Tables {
             zone: None,
             stores: 0,
-            users: Table::empty(alloc),
-            members: Table::empty(alloc),
+            users: Indexed::empty(alloc),
+            members: Indexed::empty(alloc),
             collections: Named::empty(alloc),
             objects: Named::empty(alloc),
             replicas: Replicas::empty(alloc),
-            triples: Table::empty(alloc),
-            entries: Table::empty(alloc),
-            resources: Table::empty(alloc),
+            triples: Indexed::empty(alloc),
+            entries: Indexed::empty(alloc),
+            resources: Indexed::empty(alloc),
             rules: Text::from_vec(Vec::new(alloc)),
             orphans: Table::empty(alloc),
             numbers: Numbers {

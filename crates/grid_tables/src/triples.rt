@@ -51,7 +51,7 @@ impl Tables {
         if !self.may_add_triple(&row) {
             return Err(TableError::BadDelta { cause: 11 });
         }
-        self.triples.put(row)?;
+        self.triples.put_new(row)?;
         Ok(())
     }
 
@@ -65,7 +65,7 @@ impl Tables {
         if !self.may_drop_triple(&row) {
             return Err(TableError::BadDelta { cause: 12 });
         }
-        self.triples.remove(&row);
+        self.triples.remove_triple(&row);
         Ok(())
     }
 }

@@ -48,10 +48,7 @@ impl Tables {
     fn is_user_taken(&self, id: u32, name: &Text) -> bool
         ensures { result ≡ list_any (λ u. (u.id == id) || same_text u.name name.now) self.now.users }
     {
-        self.users
-            .as_slice()
-            .iter()
-            .any(|row| row.id == id || row.name == *name)
+        self.users.has(u64::from(id)) || self.users.has_at(name)
     }
 
     // Whether the one is a group, and the other a user.

@@ -4,9 +4,13 @@ ghost use Rattle.std.specs.List.{list_any};
 ghost use Rattle.std.specs.Ordering.{nat_cmp};
 ghost use Rattle.std.specs.Cmp.{nat_cmp_total, on_total};
 ghost use Rattle.grid_model.specs.Applying.{is_replica};
+ghost use Rattle.grid_tables.specs.IndexKeys.{AreKeysOf};
+ghost use Rattle.grid_tables.specs.KeyOrders.{leaf_cmp, leaf_of};
 ghost use Rattle.grid_tables.specs.Vaults.{is_left};
 ghost use Rattle.grid_model.specs.Rows.{IsTable, replica_cmp, replicas_of, with_row};
 
+use crate::index_key::ReplicaOnLeaf;
+use crate::indexed::Indexed;
 use crate::probe::ReplicaKey;
 use crate::row::{Numbered, Row};
 use crate::table::Table;
@@ -48,7 +52,7 @@ impl Numbered for Vault {
 /// The replicas, and the numbers of their files in rising order. No two replicas have one number.
 #[derive(Debug, Drop)]
 pub(crate) struct Replicas {
-    rows: Table<ReplicaRow>,
+    rows: Indexed<ReplicaRow, ReplicaOnLeaf>,
     vaults: Table<Vault>,
 }
 
@@ -71,7 +75,7 @@ impl Replicas {
         ensures { result ≡ [] }
     {
         Replicas {
-            rows: Table::empty(alloc),
+            rows: Indexed::empty(alloc),
             vaults: Table::empty(alloc),
         }
     }
@@ -89,6 +93,14 @@ impl Replicas {
         ensures { result.now ≡ filter (λ r. r.object == object) self.now }
     {
         self.rows.of_item(ItemKind::Object, object)
+    }
+
+    /// The replicas on a leaf, by object and number.
+    pub(crate) fn on_leaf(&self, leaf: u32) -> &[ReplicaOnLeaf]
+        ensures { AreKeysOf leaf_of leaf_cmp (filter (λ r. r.leaf == leaf) self.now) result.now }
+    {
+        let _vaults = &self.vaults;
+        self.rows.at(leaf)
     }
 
     /// Whether an object has a replica with this number.
@@ -161,7 +173,7 @@ impl Replicas {
 }
 
 // The vault number of a replica.
-fn vault_of(rows: &Table<ReplicaRow>, object: u64, number: u32) -> Option<u64>
+fn vault_of(rows: &Indexed<ReplicaRow, ReplicaOnLeaf>, object: u64, number: u32) -> Option<u64>
     ensures { result ≡ option_map (λ r. r.vault) (find (λ r. is_replica object number r) rows.now) }
 {
     match rows.get(ReplicaKey { object, number }) {

@@ -1,5 +1,6 @@
 mod changes;
 mod draws;
+mod keys;
 mod lookups;
 mod plain;
 mod plain_marks;
@@ -8,3 +9,4 @@ mod random;
 mod refusals;
 mod rows;
 mod seen;
+mod without_memory;

@@ -1,8 +1,12 @@
-use Rattle.std.proofs.Common.{◌≡◌, List, subst, sym, ap, ◌∙◌, slice_set}
-use Rattle.std.specs.Prelude.{insert}
+use Rattle.std.proofs.Common.{◌≡◌, List, Result, Ok, Err, false, subst, sym, ap, ◌∙◌, slice_set}
+use Rattle.std.specs.Prelude.{insert, OnErr}
+use Rattle.std.specs.List.{list_any}
 use Rattle.std.specs.List.Sorted.{IsStrictlySortedBy}
+use Rattle.std.specs.Ordering.{eq_by_cmp}
 use Rattle.grid_model.specs.Rows.{IsTable, with_row}
 use Rattle.grid_model.proofs.TableLemmas.{with_row-at, with_row-before, IsTable-with_row}
+use Rattle.grid_tables.specs.Places.{IsPlace}
+use Rattle.grid_tables.proofs.Searching.{none_tied}
 use Rattle.grid_tables.proofs.table.Table.put.Goals as goal
 
 put-at : (g : _) (c : goal.After-drop-index_mut g) → with_row g.T.Row.row_cmp c.self.inside.rows.items c.args.row ≡ slice_set c.self.inside.rows.items c.in-Ok.index c.args.row
@@ -33,3 +37,14 @@ returns-in-Ok-clause-put g c = sym (put-at g c) ∙ ap (λ (l : List g.row.T.Den
 
 pub returns-in_ok-insert-in-Err-clause-put : goal.returns-in_ok-insert-in-Err-clause-put
 returns-in_ok-insert-in-Err-clause-put g c = sym (put-before g c) ∙ ap (λ (l : List g.row.T.Denot). with_row g.T.Row.row_cmp l c.args.row) c.self.view_is
+
+given : {A E P : Type 0} (r : Result A E) → P → OnErr r P
+given (Ok x) p = tt
+given (Err e) p = p
+
+pub returns-in_err-insert-in-Err-clause-absent : goal.returns-in_err-insert-in-Err-clause-absent
+returns-in_err-insert-in-Err-clause-absent g c =
+    let place = subst (λ (l : List g.row.T.Denot). IsStrictlySortedBy g.T.Row.row_cmp l → IsPlace (g.T.Row.row_cmp c.args.row) l (Err c.in-Err.index)) c.deref.ensures.value c.in-Err.ensures.place c.self.invariant.ordered in
+    given c.from_residual.result
+    (subst (λ (l : List g.row.T.Denot). list_any (λ r. eq_by_cmp g.T.Row.row_cmp r c.args.row) l ≡ false) c.self.view_is
+    (none_tied g.T.Row.row_cmp g.met.T.Row.total c.args.row c.self.inside.rows.items c.in-Err.index c.self.invariant.ordered place))

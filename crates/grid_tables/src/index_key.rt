@@ -1,0 +1,353 @@
+ghost use Rattle.std.specs.Prelude.{◌≡◌, ◌≤◌, ℕ, Bool, true, IfOk};
+ghost use Rattle.std.specs.Ordering.{nat_cmp, ordering_index, ordering_then};
+ghost use Rattle.std.specs.declared.cmp.Ordering.{Ordering};
+ghost use Rattle.std.specs.declared.cmp.Ordering.TheVariants.{Less, Equal};
+ghost use Rattle.std.specs.Cmp.{IsTotalOrder};
+ghost use Rattle.grid_model.specs.Names.{text_cmp};
+ghost use Rattle.grid_model.specs.Rows.{item_number};
+ghost use Rattle.std.proofs.Common.{ap};
+ghost use Rattle.grid_tables.specs.KeyOrders.{name_cmp, name_total, name_whole, name_falls, number_own};
+ghost use Rattle.grid_tables.specs.KeyOrders.{group_cmp, group_total, group_whole, group_of, group_own, group_falls};
+ghost use Rattle.grid_tables.specs.KeyOrders.{access_cmp, access_total, access_whole, access_of_row, access_own, access_falls};
+ghost use Rattle.grid_tables.specs.KeyOrders.{leaf_cmp, leaf_total, leaf_whole, leaf_of, leaf_own, leaf_falls};
+ghost use Rattle.grid_tables.specs.KeyOrders.{attribute_cmp, attribute_total, attribute_whole, attribute_of, attribute_falls};
+
+use crate::kinds::item_number;
+use crate::row::Row;
+use grid_model::{
+    EntryRow, ItemKind, MemberRow, ReplicaRow, ResourceRow, Text, TripleRow, UserRow,
+};
+use std::alloc::{AllocError, Global};
+use std::cmp::Ordering;
+
+/// A key by which rows of a table are looked for beside their own.
+pub(crate) trait IndexKey<T: Row>: Row {
+    ghost of: { T → Self };
+
+    /// The key of a row. Fails for want of memory alone.
+    fn key_of(alloc: Global, row: &T) -> Result<Self, AllocError>
+        ensures { IfOk result (λ key. key ≡ of row.now) };
+
+    /// How the key of a row stands to another key.
+    fn compare_key(row: &T, other: &Self) -> Ordering
+        ensures { result ≡ Self.row_cmp (of row.now) other.now };
+
+    ghost whole: { (a b : Self) → Self.row_cmp a b ≡ Equal → a ≡ b };
+}
+
+/// A key that no two rows of a table have.
+pub(crate) trait OwnKey<T: Row>: IndexKey<T> {
+    ghost own: { (a b : T) → Self.of a ≡ Self.of b → T.row_cmp a b ≡ Equal };
+}
+
+/// The front of a key. Keys with one front stand next to one another.
+pub(crate) trait Front<K: Row>: Copy {
+    ghost side: { Self → K → Ordering };
+
+    /// How it stands to the front of a key.
+    fn side(&self, key: &K) -> Ordering
+        ensures { result ≡ side self.now key.now };
+
+    ghost falls: { (q : Self) (a b : K) → K.row_cmp a b ≡ Less → ordering_index (side q b) ≤ ordering_index (side q a) };
+}
+
+/// The name of a user, a group or a resource, with its id.
+#[derive(Debug, Drop)]
+pub(crate) struct NamedId {
+    pub(crate) name: Text,
+    pub(crate) id: u32,
+}
+
+impl Row for NamedId {
+    ghost row_cmp = { name_cmp };
+
+    ghost fits = { λ _. true };
+
+    ghost total = { name_total };
+
+    fn cmp_key(&self, other: &NamedId) -> Ordering {
+        self.name.cmp(&other.name).then(self.id.cmp(&other.id))
+    }
+}
+
+impl IndexKey<UserRow> for NamedId {
+    ghost of = { λ r. record { name = r.name; id = r.id } };
+
+    ghost whole = { name_whole };
+
+    fn key_of(alloc: Global, row: &UserRow) -> Result<NamedId, AllocError> {
+        let name = Text::copy_of(alloc, row.name.as_slice())?;
+        Ok(NamedId { name, id: row.id })
+    }
+
+    fn compare_key(row: &UserRow, other: &NamedId) -> Ordering {
+        row.name.cmp(&other.name).then(row.id.cmp(&other.id))
+    }
+}
+
+impl OwnKey<UserRow> for NamedId {
+    ghost own = { λ a b same. number_own a.id b.id (ap (λ k. k.id) same) };
+}
+
+impl IndexKey<ResourceRow> for NamedId {
+    ghost of = { λ r. record { name = r.name; id = r.id } };
+
+    ghost whole = { name_whole };
+
+    fn key_of(alloc: Global, row: &ResourceRow) -> Result<NamedId, AllocError> {
+        let name = Text::copy_of(alloc, row.name.as_slice())?;
+        Ok(NamedId { name, id: row.id })
+    }
+
+    fn compare_key(row: &ResourceRow, other: &NamedId) -> Ordering {
+        row.name.cmp(&other.name).then(row.id.cmp(&other.id))
+    }
+}
+
+impl OwnKey<ResourceRow> for NamedId {
+    ghost own = { λ a b same. number_own a.id b.id (ap (λ k. k.id) same) };
+}
+
+impl Front<NamedId> for &Text {
+    ghost side = { λ q k. text_cmp q.now k.name };
+
+    ghost falls = { λ q a b less. name_falls q.now a b less };
+
+    fn side(&self, key: &NamedId) -> Ordering {
+        (*self).cmp(&key.name)
+    }
+}
+
+/// A group that a user is in.
+#[derive(Clone, Copy, Debug, PartialEq, Eq)]
+pub struct GroupOfUser {
+    /// The user.
+    pub user: u32,
+    /// The group.
+    pub group: u32,
+}
+
+impl Row for GroupOfUser {
+    ghost row_cmp = { group_cmp };
+
+    ghost fits = { λ _. true };
+
+    ghost total = { group_total };
+
+    fn cmp_key(&self, other: &GroupOfUser) -> Ordering {
+        self.user
+            .cmp(&other.user)
+            .then(self.group.cmp(&other.group))
+    }
+}
+
+impl IndexKey<MemberRow> for GroupOfUser {
+    ghost of = { group_of };
+
+    ghost whole = { group_whole };
+
+    fn key_of(_alloc: Global, row: &MemberRow) -> Result<GroupOfUser, AllocError> {
+        Ok(GroupOfUser {
+            user: row.user,
+            group: row.group,
+        })
+    }
+
+    fn compare_key(row: &MemberRow, other: &GroupOfUser) -> Ordering {
+        row.user.cmp(&other.user).then(row.group.cmp(&other.group))
+    }
+}
+
+impl OwnKey<MemberRow> for GroupOfUser {
+    ghost own = { group_own };
+}
+
+impl Front<GroupOfUser> for u32 {
+    ghost side = { λ q k. nat_cmp q k.user };
+
+    ghost falls = { group_falls };
+
+    fn side(&self, key: &GroupOfUser) -> Ordering {
+        self.cmp(&key.user)
+    }
+}
+
+/// An item that gives a user or a group access.
+#[derive(Clone, Copy, Debug, PartialEq, Eq)]
+pub struct AccessOfUser {
+    /// The user or the group.
+    pub user: u32,
+    /// What the item is: an object or a collection.
+    pub kind: ItemKind,
+    /// Its id.
+    pub id: u64,
+}
+
+impl Row for AccessOfUser {
+    ghost row_cmp = { access_cmp };
+
+    ghost fits = { λ _. true };
+
+    ghost total = { access_total };
+
+    fn cmp_key(&self, other: &AccessOfUser) -> Ordering {
+        self.user
+            .cmp(&other.user)
+            .then(item_number(self.kind).cmp(&item_number(other.kind)))
+            .then(self.id.cmp(&other.id))
+    }
+}
+
+impl IndexKey<EntryRow> for AccessOfUser {
+    ghost of = { access_of_row };
+
+    ghost whole = { access_whole };
+
+    fn key_of(_alloc: Global, row: &EntryRow) -> Result<AccessOfUser, AllocError> {
+        Ok(AccessOfUser {
+            user: row.user,
+            kind: row.kind,
+            id: row.id,
+        })
+    }
+
+    fn compare_key(row: &EntryRow, other: &AccessOfUser) -> Ordering {
+        row.user
+            .cmp(&other.user)
+            .then(item_number(row.kind).cmp(&item_number(other.kind)))
+            .then(row.id.cmp(&other.id))
+    }
+}
+
+impl OwnKey<EntryRow> for AccessOfUser {
+    ghost own = { access_own };
+}
+
+impl Front<AccessOfUser> for u32 {
+    ghost side = { λ q k. nat_cmp q k.user };
+
+    ghost falls = { access_falls };
+
+    fn side(&self, key: &AccessOfUser) -> Ordering {
+        self.cmp(&key.user)
+    }
+}
+
+/// A replica by the leaf that it is on.
+#[derive(Clone, Copy, Debug, PartialEq, Eq)]
+pub struct ReplicaOnLeaf {
+    /// The resource.
+    pub leaf: u32,
+    /// The object.
+    pub object: u64,
+    /// The number of the replica among those of the object.
+    pub number: u32,
+}
+
+impl Row for ReplicaOnLeaf {
+    ghost row_cmp = { leaf_cmp };
+
+    ghost fits = { λ _. true };
+
+    ghost total = { leaf_total };
+
+    fn cmp_key(&self, other: &ReplicaOnLeaf) -> Ordering {
+        self.leaf
+            .cmp(&other.leaf)
+            .then(self.object.cmp(&other.object))
+            .then(self.number.cmp(&other.number))
+    }
+}
+
+impl IndexKey<ReplicaRow> for ReplicaOnLeaf {
+    ghost of = { leaf_of };
+
+    ghost whole = { leaf_whole };
+
+    fn key_of(_alloc: Global, row: &ReplicaRow) -> Result<ReplicaOnLeaf, AllocError> {
+        Ok(ReplicaOnLeaf {
+            leaf: row.leaf,
+            object: row.object,
+            number: row.number,
+        })
+    }
+
+    fn compare_key(row: &ReplicaRow, other: &ReplicaOnLeaf) -> Ordering {
+        row.leaf
+            .cmp(&other.leaf)
+            .then(row.object.cmp(&other.object))
+            .then(row.number.cmp(&other.number))
+    }
+}
+
+impl OwnKey<ReplicaRow> for ReplicaOnLeaf {
+    ghost own = { leaf_own };
+}
+
+impl Front<ReplicaOnLeaf> for u32 {
+    ghost side = { λ q k. nat_cmp q k.leaf };
+
+    ghost falls = { leaf_falls };
+
+    fn side(&self, key: &ReplicaOnLeaf) -> Ordering {
+        self.cmp(&key.leaf)
+    }
+}
+
+/// An item that has an attribute.
+#[derive(Debug, Drop)]
+pub struct ItemWithAttribute {
+    /// The name of the attribute.
+    pub attribute: Text,
+    /// What the item is.
+    pub kind: ItemKind,
+    /// Its id.
+    pub id: u64,
+}
+
+impl Row for ItemWithAttribute {
+    ghost row_cmp = { attribute_cmp };
+
+    ghost fits = { λ _. true };
+
+    ghost total = { attribute_total };
+
+    fn cmp_key(&self, other: &ItemWithAttribute) -> Ordering {
+        self.attribute
+            .cmp(&other.attribute)
+            .then(item_number(self.kind).cmp(&item_number(other.kind)))
+            .then(self.id.cmp(&other.id))
+    }
+}
+
+impl IndexKey<TripleRow> for ItemWithAttribute {
+    ghost of = { attribute_of };
+
+    ghost whole = { attribute_whole };
+
+    fn key_of(alloc: Global, row: &TripleRow) -> Result<ItemWithAttribute, AllocError> {
+        let attribute = Text::copy_of(alloc, row.attribute.as_slice())?;
+        Ok(ItemWithAttribute {
+            attribute,
+            kind: row.kind,
+            id: row.id,
+        })
+    }
+
+    fn compare_key(row: &TripleRow, other: &ItemWithAttribute) -> Ordering {
+        row.attribute
+            .cmp(&other.attribute)
+            .then(item_number(row.kind).cmp(&item_number(other.kind)))
+            .then(row.id.cmp(&other.id))
+    }
+}
+
+impl Front<ItemWithAttribute> for &Text {
+    ghost side = { λ q k. text_cmp q.now k.attribute };
+
+    ghost falls = { λ q a b less. attribute_falls q.now a b less };
+
+    fn side(&self, key: &ItemWithAttribute) -> Ordering {
+        (*self).cmp(&key.attribute)
+    }
+}
