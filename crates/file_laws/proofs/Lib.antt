@@ -3,5 +3,11 @@ pub mod Turning
 pub mod Puts
 pub mod Plain
 pub mod Overwriting
+pub mod Fewer
+pub mod Dropping
+pub mod Staling
+pub mod Placing
+pub mod Removing
+pub mod Rewritten
 pub mod Forgetting
 pub mod Publics

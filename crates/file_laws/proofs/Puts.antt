@@ -30,11 +30,11 @@ use Rattle.file_laws.proofs.Members.{no_files, among_first, among_rest, among_wh
 use Rattle.file_laws.proofs.Turning.{turns_then, turns_self, turns_as, turns_apply, turns_new_object, turns_orphan, orphan_named, no_orphan, turns_filed, same_key}
 
 -- the rows that changes of orphans and numbers leave alone
-record Same (c d : Cat) : Type 0 where
-  objects : d.objects ≡ c.objects
-  replicas : d.replicas ≡ c.replicas
-  resources : d.resources ≡ c.resources
-  stores : d.stores ≡ c.stores
+pub record Same (c d : Cat) : Type 0 where
+  pub objects : d.objects ≡ c.objects
+  pub replicas : d.replicas ≡ c.replicas
+  pub resources : d.resources ≡ c.resources
+  pub stores : d.stores ≡ c.stores
 
 same_as : (c d e : Cat) → d ≡ e → Same c d → Same c e
 same_as c d e is s = let P : Cat → Type 0 = λ x. Same c x in subst P is s
@@ -112,7 +112,7 @@ made_more : (ts : List Target) (v : ℕ) (f : NewFile) (files : List NewFile) �
 made_more [] v f files m = tt
 made_more (t ∷ ts) v f files m = (among_rest f files t.slot v m.0, made_more ts (v + 1) f files m.1)
 
-made_all : (ts : List Target) (v : ℕ) → AreMade v ts (files_from v ts)
+pub made_all : (ts : List Target) (v : ℕ) → AreMade v ts (files_from v ts)
 made_all [] v = tt
 made_all (t ∷ ts) v = (among_first (record { slot = t.slot; name = v }) (files_from (v + 1) ts) t.slot v refl refl, made_more ts (v + 1) (record { slot = t.slot; name = v }) (files_from (v + 1) ts) (made_all ts (v + 1)))
 
@@ -126,7 +126,7 @@ slots_small (t ∷ ts) v d s there (suc i) f is = slots_small ts (v + 1) d s the
 
 -- ---- after
 
-past : (ts : List Target) (v w : ℕ) (rows : List OrphanRow) → w < v → AreThere v ts rows → AreThere v ts (filter (λ o. not (o.vault == w)) rows)
+pub past : (ts : List Target) (v w : ℕ) (rows : List OrphanRow) → w < v → AreThere v ts rows → AreThere v ts (filter (λ o. not (o.vault == w)) rows)
 past [] v w rows lt there = tt
 past (t ∷ ts) v w rows lt there = (filter_from_in (λ (o : OrphanRow). not (o.vault == w)) rows (record { vault = v; slot = t.slot }) there.0 (apart (eqb_tells v w)), past ts (v + 1) w rows (omega (arith, lt)) there.1)
   where
@@ -175,10 +175,10 @@ module _ (c : Cat) (ts : List Target) (mid : Cat) (first : apply_all c (put_befo
   numbered_same : Same c numbered.0
   numbered_same = same_as c (record c { numbers = record c.numbers { next_vault = v + length ts } }) numbered.0 (fits_so _ 19 (record c { numbers = record c.numbers { next_vault = v + length ts } }) numbered.0 numbered.1).1 (record { objects = refl; replicas = refl; resources = refl; stores = refl })
 
-  mid_same : Same c mid
+  pub mid_same : Same c mid
   mid_same = same_then c numbered.0 mid numbered_same (same_orphans ts v numbered.0 mid numbered.2)
 
-  mid_there : AreThere v ts mid.orphans
+  pub mid_there : AreThere v ts mid.orphans
   mid_there = there_after ts v numbered.0 mid numbered.2
 
   pub put_begins : Turns [] [] c mid

@@ -174,10 +174,10 @@ not_it a b e is = let same : (a == b) ≡ true = eq-eqb a b e in cc
 pub same_key : (r x : ReplicaRow) → replica_cmp r x ≡ Equal → (r.object ≡ x.object) × (r.number ≡ x.number)
 same_key r x e = let both = then_equal (nat_cmp r.object x.object) (nat_cmp r.number x.number) e in (same_number r.object x.object both.0, same_number r.number x.number both.1)
 
-equal_key : (a b : ReplicaRow) → a.object ≡ b.object → a.number ≡ b.number → replica_cmp a b ≡ Equal
+pub equal_key : (a b : ReplicaRow) → a.object ≡ b.object → a.number ≡ b.number → replica_cmp a b ≡ Equal
 equal_key a b object number = ap (λ (x : Ordering). ordering_then x (nat_cmp a.number b.number)) (equal_number a.object b.object object) ∙ equal_number a.number b.number number
 
-key_or_not : (a b : ReplicaRow) → ((a.object ≡ b.object) × (a.number ≡ b.number)) ⊎ (replica_cmp a b ≡ Equal → ⊥)
+pub key_or_not : (a b : ReplicaRow) → ((a.object ≡ b.object) × (a.number ≡ b.number)) ⊎ (replica_cmp a b ≡ Equal → ⊥)
 key_or_not a b = by (eqb_tells a.object b.object) (eqb_tells a.number b.number)
   where
     by : ((a.object == b.object) ≡ true) × (a.object ≡ b.object) ⊎ ((a.object == b.object) ≡ false) × (a.object ≢ b.object) → ((a.number == b.number) ≡ true) × (a.number ≡ b.number) ⊎ ((a.number == b.number) ≡ false) × (a.number ≢ b.number)
@@ -186,7 +186,7 @@ key_or_not a b = by (eqb_tells a.object b.object) (eqb_tells a.number b.number)
     by (inr o) n = inr (λ e. o.1 (same_key a b e).0)
     by (inl o) (inr n) = inr (λ e. n.1 (same_key a b e).1)
 
-true_or_not : (b : Bool) → (b ≡ true) ⊎ (b ≡ false)
+pub true_or_not : (b : Bool) → (b ≡ true) ⊎ (b ≡ false)
 true_or_not true = inl refl
 true_or_not false = inr refl
 

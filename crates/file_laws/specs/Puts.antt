@@ -44,7 +44,9 @@ put_before c ts = delta.Numbers (record c.numbers { next_vault = c.numbers.next_
 -- after they were made: the object is there, and they are its replicas, as put by the command of this number
 abbrev pub put_after : Cat → ObjectRow → List Target → ℕ → List Delta
 put_after c o ts n =
-    delta.Object o ∷ (replicas_from o 0 c.numbers.next_vault ts ++ delta.Numbers (record { next_vault = c.numbers.next_vault + length ts; run = c.numbers.run; last = n }) ∷ [])
+    delta.Object o
+    ∷ (replicas_from o 0 c.numbers.next_vault ts
+    ++ delta.Numbers (record { next_vault = c.numbers.next_vault + length ts; run = c.numbers.run; last = n }) ∷ [])
 
 -- the plan is the putting of this object on these leaves, by the command of this number
 pub record IsPut (c : Cat) (o : ObjectRow) (ts : List Target) (n : ℕ) (plan : Plan) : Type 0 where

@@ -1,6 +1,6 @@
 -- Which changes of the catalogue may go with the removal of files.
-use Rattle.std.specs.Prelude.{◌≡◌, ℕ, List, [], ◌∷◌, Some, IsTrue}
-use Rattle.std.specs.List.{AllByRecursion}
+use Rattle.std.specs.Prelude.{◌≡◌, ◌≢◌, ℕ, List, [], ◌∷◌, Some, IsTrue}
+use Rattle.std.specs.List.{AllByRecursion, Contains}
 use Rattle.grid_model.specs.Rows.{Cat}
 use Rattle.grid_model.specs.Whole.{leaf_slot, HasGoodRows, IsNamed}
 use Rattle.grid_model.specs.declared.deltas.Delta.{Delta}
@@ -20,3 +20,12 @@ pub record Forgets (gone : List NewFile) (c d : Cat) : Type 0 where
 abbrev pub no_orphans : List NewFile → List Delta
 no_orphans [] = []
 no_orphans (f ∷ files) = delta.NoOrphan f.name ∷ no_orphans files
+
+-- they are orphans
+abbrev pub AreOrphans : Cat → List NewFile → Type 0
+AreOrphans c files = AllByRecursion (λ (f : NewFile). Contains c.orphans (record { vault = f.name; slot = f.slot })) files
+
+-- no two of them have one name
+abbrev pub HaveOwnNames : List NewFile → Type 0
+HaveOwnNames [] = Unit {0}
+HaveOwnNames (f ∷ files) = AllByRecursion (λ (g : NewFile). g.name ≢ f.name) files × HaveOwnNames files

@@ -6,10 +6,10 @@ use Rattle.std.proofs.lemmas.Option.{slice_get_within}
 use Rattle.frame_log.specs.Log.{IsLog, frames, log_of}
 use Rattle.frame_log.proofs.Reading.{reads_as_log}
 use Rattle.frame_log.specs.Extent.{Extent, IsLogOf}
-use Rattle.grid_outside.specs.Device.{DeviceState, Between}
+use Rattle.grid_outside.specs.Device.{DeviceState, Between, Span}
 use Rattle.grid_outside.specs.Disk.{DiskState}
 use Rattle.grid_outside.specs.Fault.{Rose}
-use Rattle.grid_outside.specs.Files.{StoreState}
+use Rattle.grid_outside.specs.Files.{Files, StoreState}
 use Rattle.grid_outside.specs.declared.outside.Outside.{Outside}
 use Rattle.grid_outside.proofs.Spans.{at_place, same_place, last_moments}
 use Rattle.grid_model.specs.Names.{Text}
@@ -171,21 +171,29 @@ module _ {D A P : Type 0} (disk : D → DiskState) (plugin : P → StoreState) w
   }
 
   -- the stores were called, which now are these
-  pub frame_stores : (failed : Type 0) (files : List NewFile) (o n : Outside D A P) → (¬ failed) → o.moments ≤ n.moments → WritesOnly plugin o.moments n.moments files o.stores.items n.stores.items → n.main ≡ o.main → n.spare ≡ o.spare → n.ambient ≡ o.ambient → Frame disk plugin failed o n
-  frame_stores failed files o n not drawn writes main spare ambient =
+  pub frame_spanned : (failed : Type 0) (change : ℕ → Files → Files → Type 0) (touched : ℕ → Type 0) (o n : Outside D A P) → (¬ failed) → o.moments ≤ n.moments
+      → Span plugin o.moments n.moments change touched o.stores.items n.stores.items → n.main ≡ o.main → n.spare ≡ o.spare → n.ambient ≡ o.ambient → Frame disk plugin failed o n
+  frame_spanned failed change touched o n not drawn span main spare ambient =
       let last : D → Type 0 = λ m. (disk m).last ≤ n.moments in
       let goes : D → Type 0 = λ m. Goes o.moments (disk o.main) (disk m) in
       record {
         drawn = drawn;
         main_last = λ was. subst last (sym main) (omega (arith, was, drawn));
-        stores_last = λ was. last_moments plugin o.moments n.moments (WritesAmong files) (HasSlot files) o.stores.items n.stores.items writes;
+        stores_last = λ was. last_moments plugin o.moments n.moments change touched o.stores.items n.stores.items span;
         main = subst goes (sym main) (goes_nowhere o.moments (disk o.main));
-        stores = stores_went plugin o.moments n.moments files o.stores.items n.stores.items writes;
+        stores = record {
+          count = span.count;
+          later = λ k was_at is_at was is. goes_between o.moments n.moments (change k) (plugin was_at) (plugin is_at) (span.each k was_at is_at was is);
+        };
         spare = spare;
         ambient = ambient;
         cause = λ f. absurd (not f);
         in_room = λ ok. room_same disk o.main n.main main;
       }
+
+  -- and files were made
+  pub frame_stores : (failed : Type 0) (files : List NewFile) (o n : Outside D A P) → (¬ failed) → o.moments ≤ n.moments → WritesOnly plugin o.moments n.moments files o.stores.items n.stores.items → n.main ≡ o.main → n.spare ≡ o.spare → n.ambient ≡ o.ambient → Frame disk plugin failed o n
+  frame_stores failed files o n not drawn writes main spare ambient = frame_spanned failed (WritesAmong files) (HasSlot files) o n not drawn writes main spare ambient
 
   -- with another word for the failure
   pub frame_as : (failed other : Type 0) (a b : Outside D A P) → (failed → other) → (other → failed) → Frame disk plugin failed a b → Frame disk plugin other a b

@@ -5,3 +5,4 @@ pub mod Sweeping
 pub mod DeedLemmas
 pub mod DeedWholes
 pub mod Discards
+pub mod ManyDiscards

@@ -1,5 +1,5 @@
 -- What the carrying out of a plan leaves.
-use Rattle.std.specs.Prelude.{◌≡◌, ◌⊎◌, ℕ, ◌+◌, ◌*◌, ◌^◌, ◌<◌, List, length, Option, None, Some, Result, Ok, Err, IsTrue}
+use Rattle.std.specs.Prelude.{◌≡◌, ◌⊎◌, ℕ, ◌+◌, ◌*◌, ◌^◌, ◌<◌, List, [], length, Option, None, Some, Result, Ok, Err, IsTrue}
 use Rattle.grid_outside.specs.Device.{IsSettled, Leaves}
 use Rattle.grid_outside.specs.Disk.{DiskState}
 use Rattle.grid_outside.specs.Files.{StoreState}
@@ -7,6 +7,7 @@ use Rattle.grid_outside.specs.declared.outside.Wear.TheVariants.{Log}
 use Rattle.grid_model.specs.DataLines.{parts}
 use Rattle.grid_model.specs.Names.{Text}
 use Rattle.grid_model.specs.Rows.{Cat}
+use Rattle.grid_model.specs.Applying.{apply_all}
 use Rattle.grid_model.specs.declared.plans.NewFile.{NewFile}
 use Rattle.grid_journal.specs.Journal.{Journal}
 use Rattle.grid_journal.specs.Stands.{StandsEither, StandsFor}
@@ -14,7 +15,9 @@ use Rattle.grid_journal.specs.declared.error.JournalError.{JournalError}
 use Rattle.grid_journal.specs.declared.error.JournalError.TheVariants as journal
 use Rattle.grid_vault.specs.Vault.{HasSlot, RoseAt}
 use Rattle.grid_vault.specs.declared.fault.Fault.{Fault}
-use Rattle.grid_deed.specs.Held.{IsKept, ClosesAt, CommitEnds}
+use Rattle.grid_vault.specs.Removal.{SplitInto, FewerThanFaults}
+use Rattle.file_laws.specs.Sweeps.{no_orphans}
+use Rattle.grid_deed.specs.Held.{IsHeld, IsKept, ClosesAt, CommitEnds}
 
 -- how many moments are drawn at most where so many files are made of a body
 abbrev pub moments_for : List NewFile → Text → ℕ
@@ -57,4 +60,26 @@ DiscardEnds plugin stores_old stores_new kept after slot main_old main_new old (
 -- The file is gone and its row too, or how far that came, from so many moments on.
 pub record IsDiscarded {B : Type 0} (plugin : B → StoreState) (kept after : Cat) (slot from : ℕ) (main_old main_new : DiskState) (stores_old stores_new : List B) (old : Journal) (result : Result (Option Fault) JournalError) (new : Journal) : Type 0 where
   pub ends : DiscardEnds plugin stores_old stores_new kept after slot main_old main_new old result new
+  pub leaves : IsTrue main_old.tells → IsSettled main_old → Leaves from (StandsEither kept after) main_new
+
+-- ---- the removal of many orphans' files
+
+-- how it ended: the files that are left are answered, and where some are gone their rows were taken away
+abbrev pub SweepEnds : {B : Type 0} → (B → StoreState) → List B → List B → Cat → Cat → List NewFile → List NewFile
+    → DiskState → DiskState → Journal → Result (List NewFile) JournalError → Journal → Type 0
+SweepEnds plugin stores_old stores_new kept after gone left main_old main_new old (Ok answered) new =
+    (answered ≡ left) × FewerThanFaults plugin left stores_old stores_new
+    × (((gone ≡ []) × (new ≡ old) × IsHeld kept main_new new) ⊎ IsKept after main_old main_new new)
+SweepEnds plugin stores_old stores_new kept after gone left main_old main_new old (Err e) new =
+    CommitEnds kept after old main_old main_new (Err e) new
+
+-- Each file is gone or left, and the rows of those that are gone were taken away, or how far that came, from so many moments on.
+pub record IsSwept {B : Type 0} (plugin : B → StoreState) (kept : Cat) (files : List NewFile) (from : ℕ) (main_old main_new : DiskState)
+    (stores_old stores_new : List B) (old : Journal) (result : Result (List NewFile) JournalError) (new : Journal) : Type 0 where
+  pub gone : List NewFile
+  pub left : List NewFile
+  pub after : Cat
+  pub split : SplitInto files gone left
+  pub applied : apply_all kept (no_orphans gone) ≡ Ok after
+  pub ends : SweepEnds plugin stores_old stores_new kept after gone left main_old main_new old result new
   pub leaves : IsTrue main_old.tells → IsSettled main_old → Leaves from (StandsEither kept after) main_new

@@ -1,19 +1,20 @@
-ghost use Rattle.std.specs.Prelude.{◌≡◌, ◌+◌, ◌<◌, ◌≤◌, ◌∷◌, [], IsTrue, IsErrOf, IfOk, IsOk, Ok, vec_len};
+ghost use Rattle.std.specs.Prelude.{◌≡◌, ◌+◌, ◌<◌, ◌≤◌, ◌∷◌, [], All, length, IsTrue, IsErrOf, IfOk, IsOk, Ok, vec_len};
 ghost use Rattle.std.specs.List.{Contains, list_all};
 ghost use Rattle.grid_model.specs.Rows.{Cat};
 ghost use Rattle.grid_model.specs.Applying.{apply_all};
+ghost use Rattle.grid_model.specs.declared.deltas.Delta.{Delta};
 ghost use Rattle.grid_journal.specs.Journal.{can_be_kept};
 ghost use Rattle.grid_deed.specs.Frame.{IsReady, Frame};
 ghost use Rattle.grid_deed.specs.Held.{IsHeld};
 ghost use Rattle.grid_deed.specs.Safe.{KeepWhole};
-ghost use Rattle.file_laws.specs.Sweeps.{no_orphans};
-ghost use Rattle.grid_deed.specs.Deeds.{IsDiscarded};
+ghost use Rattle.file_laws.specs.Sweeps.{no_orphans, AreOrphans, HaveOwnNames};
+ghost use Rattle.grid_deed.specs.Deeds.{IsDiscarded, IsSwept};
 
 use crate::performing::commit;
 use grid_journal::{JournalError, Store};
-use grid_model::{Delta, Deltas, NewFile};
+use grid_model::{Delta, Deltas, NewFile, NewFiles};
 use grid_outside::{Ambient, Disk, Outside, Plugin};
-use grid_vault::{Fault, remove};
+use grid_vault::{Fault, Removed, remove, remove_all};
 use std::alloc::{AllocError, Global};
 
 /// Asks the removal of an orphan's file, and takes its row away once the file is gone. Where the store fails its slot is
@@ -54,4 +55,63 @@ fn row_taken(alloc: Global, file: NewFile) -> Result<Deltas, AllocError>
 {
     let deltas = vec![in alloc; Delta::NoOrphan { vault: file.name }]?;
     Ok(Deltas::from_vec(deltas))
+}
+
+/// Asks the removal of each of these orphans' files, whichever stores fail, and then takes the rows of those that are gone
+/// away, in one commit. The files that are left are answered, and their rows stay.
+///
+/// Where no file is gone nothing is committed. Draws one moment for each file and at most 4 more.
+pub fn discard_all<D: Disk, A: Ambient, P: Plugin>(
+    alloc: Global,
+    store: &mut Store,
+    outside: &mut Outside<D, A, P>,
+    files: &NewFiles,
+) -> Result<NewFiles, JournalError>
+    requires held { IsHeld store.old.cat (D.disk outside.old.main) store.old }
+    requires orphans { AreOrphans store.old.cat files.now }
+    requires names { HaveOwnNames files.now }
+    requires slots { All (λ file. file.slot < vec_len outside.old.stores) files.now }
+    requires ready { IsReady D.disk P.plugin (length files.now + 4) outside.old }
+    ensures done { IsSwept P.plugin store.old.cat files.now outside.old.moments (D.disk outside.old.main) (D.disk outside.new.main)
+        outside.old.stores.items outside.new.stores.items store.old result store.new }
+    ensures whole { KeepWhole P.plugin outside.old.moments store.old.cat (D.disk outside.old.main) (D.disk outside.new.main)
+        outside.old.stores.items outside.new.stores.items }
+    ensures frame { Frame D.disk P.plugin (IsErrOf result JournalError.DiskFault) outside.old outside.new }
+    ensures drawn { outside.new.moments ≤ outside.old.moments + length files.now + 4 }
+{
+    let removed = match remove_all(alloc, &mut outside.stores, &mut outside.moments, files) {
+        Ok(removed) => removed,
+        Err(_) => return Err(JournalError::Memory),
+    };
+    let Removed { gone, left } = removed;
+    if gone.as_slice().is_empty() {
+        return Ok(left);
+    }
+    let Ok(deltas) = rows_taken(alloc, gone.as_slice()) else {
+        return Err(JournalError::Memory);
+    };
+    match commit(alloc, store, outside, deltas) {
+        Ok(()) => Ok(left),
+        Err(error) => Err(error),
+    }
+}
+
+// The orphans' rows are taken away. Fails for want of memory alone.
+fn rows_taken(alloc: Global, files: &[NewFile]) -> Result<Deltas, AllocError>
+    ensures changes { IfOk result (λ deltas. deltas ≡ no_orphans files.now) }
+    ensures kept { IfOk result (λ deltas. IsTrue (list_all can_be_kept deltas)) }
+{
+    let mut deltas = Vec::new(alloc);
+    for file in files {
+        deltas.push(row_gone(file.name))?;
+    }
+    Ok(Deltas::from_vec(deltas))
+}
+
+// The orphan's row of this number is taken away.
+fn row_gone(vault: u64) -> Delta
+    ensures change { result ≡ Delta.NoOrphan vault }
+    ensures kept { IsTrue (can_be_kept result) }
+{
+    Delta::NoOrphan { vault }
 }

@@ -4,5 +4,5 @@
 mod discarding;
 mod performing;
 
-pub use discarding::discard;
+pub use discarding::{discard, discard_all};
 pub use performing::{commit, perform};

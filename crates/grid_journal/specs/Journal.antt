@@ -1,11 +1,14 @@
 -- A catalogue that is kept in a log and held in memory.
-use Rattle.std.specs.Prelude.{◌≡◌, Bool, ◌&&◌, List, IsSome, Ok}
+use Rattle.std.specs.Prelude.{◌≡◌, Bool, ◌&&◌, List, IsSome, IsTrue, Ok}
+use Rattle.std.specs.List.{AllByRecursion}
 use Rattle.frame_log.specs.Extent.{Extent, IsLogOf, placed}
 use Rattle.grid_model.specs.Names.{Text}
 use Rattle.grid_model.specs.Deltas.{delta_fits}
 use Rattle.grid_model.specs.Rows.{Cat, empty_cat}
 use Rattle.grid_model.specs.Applying.{apply_all}
 use Rattle.grid_model.specs.declared.deltas.Delta.{Delta}
+use Rattle.grid_model.specs.declared.deltas.Delta.TheVariants as delta
+use Rattle.grid_model.specs.declared.deltas.TripleRow.{TripleRow}
 use Rattle.grid_journal.specs.Stands.{HasHead, Replays, sets_no_rules}
 
 -- a store as contracts see it
@@ -33,3 +36,7 @@ pub record Keeps (kept : Cat) (journal : Journal) (main : Text) : Type 0 where
 -- the delta has a spelling and sets no rules
 abbrev pub can_be_kept : Delta → Bool
 can_be_kept d = delta_fits d && sets_no_rules d
+
+-- each of these may be taken away by a delta that may be kept
+abbrev pub AreSpelled : List TripleRow → Type 0
+AreSpelled rows = AllByRecursion (λ t. IsTrue (can_be_kept (delta.NoTriple t))) rows

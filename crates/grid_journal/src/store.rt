@@ -12,7 +12,7 @@ ghost use Rattle.grid_model.specs.Rows.{Cat, empty_cat};
 ghost use Rattle.grid_model.specs.Applying.{apply_all};
 ghost use Rattle.grid_model.specs.declared.deltas.Delta.{Delta};
 ghost use Rattle.grid_model.specs.declared.grid.Side.{Side as SideOf};
-ghost use Rattle.grid_journal.specs.Journal.{Keeps, can_be_kept};
+ghost use Rattle.grid_journal.specs.Journal.{Keeps, AreSpelled, can_be_kept};
 ghost use Rattle.grid_journal.specs.Stands.{Stands, StandsEither};
 ghost use Rattle.grid_journal.specs.Start.{start, start_main};
 ghost use Rattle.grid_journal.specs.Replaying.{HasCatalogue, IsUnread};
@@ -51,13 +51,13 @@ pub struct Store {
 impl Model for Store {
     ghost use Rattle.std.specs.Prelude.{IsTrue};
     ghost use Rattle.std.specs.List.{list_all};
-    ghost use Rattle.grid_journal.specs.Journal.{Journal, can_be_kept};
+    ghost use Rattle.grid_journal.specs.Journal.{Journal, AreSpelled, can_be_kept};
 
     ghost Value = { Journal };
 
     ghost view = { λ s. record { cat = s.tables; staged = s.staged; log = s.log; sound = s.sound } };
 
-    ghost invariant = { λ s. IsTrue (list_all can_be_kept s.staged) };
+    ghost invariant = { λ s. IsTrue (list_all can_be_kept s.staged) × (IsTrue s.sound → AreSpelled s.tables.triples) };
 }
 
 impl Store {
@@ -169,6 +169,15 @@ impl Store {
         ensures { result.now ≡ self.now.cat }
     {
         &self.tables
+    }
+
+    /// What the rows of a sound store have of metadata may be taken away by deltas that `stage` and `commit` take. It does
+    /// nothing.
+    pub fn is_spelled(&self)
+        requires sound { IsTrue self.now.sound }
+        ensures { AreSpelled self.now.cat.triples }
+    {
+        let _sound = self.sound;
     }
 
     /// Whether it is sound. It stays so until memory or a disk fails in a change.

@@ -13,7 +13,7 @@ mod write;
 
 pub use fault::Fault;
 pub use grid_model::{NewFile, OldFile};
-pub use removal::remove;
+pub use removal::{Removed, remove, remove_all};
 pub use sending::send;
 pub use sent::{SendError, Sent};
 pub use write::write_all;

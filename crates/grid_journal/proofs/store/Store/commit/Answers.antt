@@ -3,11 +3,13 @@ use Rattle.grid_outside.proofs.Spans.{stays, leaves_start}
 use Rattle.frame_log.proofs.Torn.{torn_none}
 use Rattle.grid_journal.specs.Stands.{StandsEither}
 use Rattle.grid_journal.proofs.KeepingLemmas.{untouched, journal_of, log_held, stands_either, keeps_after}
+use Rattle.std.specs.List.{list_all}
 use Rattle.std.proofs.lemmas.Result.{err_from_is_err_and}
 use Rattle.grid_model.specs.Applying.{apply_all}
 use Rattle.frame_log.specs.Extent.{Extent}
-use Rattle.grid_journal.specs.Journal.{Journal}
+use Rattle.grid_journal.specs.Journal.{Journal, can_be_kept}
 use Rattle.grid_journal.specs.declared.error.JournalError.TheVariants as error
+use Rattle.grid_journal.proofs.SpelledTriples.{spelled-apply_all}
 use Rattle.grid_journal.proofs.ErrorLemmas.{err_same, worn_from}
 use Rattle.grid_journal.proofs.store.Store.commit.Goals as goal
 
@@ -44,17 +46,17 @@ returns-in_err-apply_each-clause-span g c = stays _ _ _ _ c.requires.last (omega
 pub returns-in_err-append-clause-any_moment : goal.returns-in_err-append-clause-any_moment
 returns-in_err-append-clause-any_moment g c tells settled kept after k applied t image late left =
     let held = log_held kept after c.args.self.now c.self.inside.tables c.self.inside.staged c.self.inside.log c.self.inside.sound c.self.view_is
-    (g.D.Disk.disk c.args.main.now).holds c.in_ok-body.body c.as_slice.result.now c.args.deltas k c.in_ok-body.ensures.spells c.as_slice.ensures c.self.invariant c.requires.spelled applied in
+    (g.D.Disk.disk c.args.main.now).holds c.in_ok-body.body c.as_slice.result.now c.args.deltas k c.in_ok-body.ensures.spells c.as_slice.ensures c.self.invariant.0 c.requires.spelled applied in
     stands_either kept after c.args.self.now c.self.inside.tables c.self.inside.staged c.self.inside.log c.self.inside.sound c.self.view_is
-    (g.D.Disk.disk c.args.main.now).holds c.in_ok-body.body c.as_slice.result.now c.args.deltas k c.in_ok-body.ensures.spells c.as_slice.ensures c.self.invariant c.requires.spelled applied
+    (g.D.Disk.disk c.args.main.now).holds c.in_ok-body.body c.as_slice.result.now c.args.deltas k c.in_ok-body.ensures.spells c.as_slice.ensures c.self.invariant.0 c.requires.spelled applied
     image (c.append.ensures.any_moment tells settled held.0 held.1 t image late left)
 
 pub returns-in_err-append-clause-afterwards : goal.returns-in_err-append-clause-afterwards
 returns-in_err-append-clause-afterwards g c tells kept after k applied =
     let held = log_held kept after c.args.self.now c.self.inside.tables c.self.inside.staged c.self.inside.log c.self.inside.sound c.self.view_is
-    (g.D.Disk.disk c.args.main.now).holds c.in_ok-body.body c.as_slice.result.now c.args.deltas k c.in_ok-body.ensures.spells c.as_slice.ensures c.self.invariant c.requires.spelled applied in
+    (g.D.Disk.disk c.args.main.now).holds c.in_ok-body.body c.as_slice.result.now c.args.deltas k c.in_ok-body.ensures.spells c.as_slice.ensures c.self.invariant.0 c.requires.spelled applied in
     stands_either kept after c.args.self.now c.self.inside.tables c.self.inside.staged c.self.inside.log c.self.inside.sound c.self.view_is
-    (g.D.Disk.disk c.args.main.now).holds c.in_ok-body.body c.as_slice.result.now c.args.deltas k c.in_ok-body.ensures.spells c.as_slice.ensures c.self.invariant c.requires.spelled applied
+    (g.D.Disk.disk c.args.main.now).holds c.in_ok-body.body c.as_slice.result.now c.args.deltas k c.in_ok-body.ensures.spells c.as_slice.ensures c.self.invariant.0 c.requires.spelled applied
     _ (c.append.ensures.afterwards tells held.0 held.1)
 
 -- the log had room
@@ -79,17 +81,17 @@ returns-in_err-append-clause-worn_same g c what at is =
 pub returns-clause-any_moment : goal.returns-clause-any_moment
 returns-clause-any_moment g c tells settled kept after k applied t image late left =
     let held = log_held kept after c.args.self.now c.self.inside.tables c.self.inside.staged c.self.inside.log c.self.inside.sound c.self.view_is
-    (g.D.Disk.disk c.args.main.now).holds c.in_ok-body.body c.as_slice.result.now c.args.deltas k c.in_ok-body.ensures.spells c.as_slice.ensures c.self.invariant c.requires.spelled applied in
+    (g.D.Disk.disk c.args.main.now).holds c.in_ok-body.body c.as_slice.result.now c.args.deltas k c.in_ok-body.ensures.spells c.as_slice.ensures c.self.invariant.0 c.requires.spelled applied in
     stands_either kept after c.args.self.now c.self.inside.tables c.self.inside.staged c.self.inside.log c.self.inside.sound c.self.view_is
-    (g.D.Disk.disk c.args.main.now).holds c.in_ok-body.body c.as_slice.result.now c.args.deltas k c.in_ok-body.ensures.spells c.as_slice.ensures c.self.invariant c.requires.spelled applied
+    (g.D.Disk.disk c.args.main.now).holds c.in_ok-body.body c.as_slice.result.now c.args.deltas k c.in_ok-body.ensures.spells c.as_slice.ensures c.self.invariant.0 c.requires.spelled applied
     image (c.append.ensures.any_moment tells settled held.0 held.1 t image late left)
 
 pub returns-clause-afterwards : goal.returns-clause-afterwards
 returns-clause-afterwards g c tells kept after k applied =
     let held = log_held kept after c.args.self.now c.self.inside.tables c.self.inside.staged c.self.inside.log c.self.inside.sound c.self.view_is
-    (g.D.Disk.disk c.args.main.now).holds c.in_ok-body.body c.as_slice.result.now c.args.deltas k c.in_ok-body.ensures.spells c.as_slice.ensures c.self.invariant c.requires.spelled applied in
+    (g.D.Disk.disk c.args.main.now).holds c.in_ok-body.body c.as_slice.result.now c.args.deltas k c.in_ok-body.ensures.spells c.as_slice.ensures c.self.invariant.0 c.requires.spelled applied in
     stands_either kept after c.args.self.now c.self.inside.tables c.self.inside.staged c.self.inside.log c.self.inside.sound c.self.view_is
-    (g.D.Disk.disk c.args.main.now).holds c.in_ok-body.body c.as_slice.result.now c.args.deltas k c.in_ok-body.ensures.spells c.as_slice.ensures c.self.invariant c.requires.spelled applied
+    (g.D.Disk.disk c.args.main.now).holds c.in_ok-body.body c.as_slice.result.now c.args.deltas k c.in_ok-body.ensures.spells c.as_slice.ensures c.self.invariant.0 c.requires.spelled applied
     _ (c.append.ensures.afterwards tells held.0 held.1)
 
 pub returns-clause-keeps : goal.returns-clause-keeps
@@ -97,8 +99,14 @@ returns-clause-keeps g c tells kept k =
     let after = c.apply_each.new.tables in
     let applied = ap (λ (j : Journal). apply_all j.cat c.args.deltas) (sym c.self.view_is) ∙ c.in_ok-apply_each.ensures in
     let held = log_held kept after c.args.self.now c.self.inside.tables c.self.inside.staged c.self.inside.log c.self.inside.sound c.self.view_is
-    (g.D.Disk.disk c.args.main.now).holds c.in_ok-body.body c.as_slice.result.now c.args.deltas k c.in_ok-body.ensures.spells c.as_slice.ensures c.self.invariant c.requires.spelled applied in
+    (g.D.Disk.disk c.args.main.now).holds c.in_ok-body.body c.as_slice.result.now c.args.deltas k c.in_ok-body.ensures.spells c.as_slice.ensures c.self.invariant.0 c.requires.spelled applied in
     keeps_after kept after c.args.self.now c.self.inside.tables c.self.inside.staged c.self.inside.log c.self.inside.sound c.self.view_is
-    (g.D.Disk.disk c.args.main.now).holds c.in_ok-body.body c.as_slice.result.now c.args.deltas k c.in_ok-body.ensures.spells c.as_slice.ensures c.self.invariant c.requires.spelled applied
+    (g.D.Disk.disk c.args.main.now).holds c.in_ok-body.body c.as_slice.result.now c.args.deltas k c.in_ok-body.ensures.spells c.as_slice.ensures c.self.invariant.0 c.requires.spelled applied
     (journal_of after c.from_vec.result c.append.new.self true) _ (c.append.ensures.afterwards tells held.0 held.1) (c.in_ok-append.ensures.added tells held.0 held.1)
     (ap (λ (e : Extent). e.base) c.in_ok-append.ensures.extent) (c.from_vec.ensures ∙ c.new.ensures.items) refl
+
+pub invariant_of-self-2 : goal.invariant_of-self-2
+invariant_of-self-2 g c = (
+  ap (list_all can_be_kept) (c.from_vec.ensures ∙ c.new.ensures.items),
+  λ sound. spelled-apply_all c.args.deltas c.self.inside.tables c.apply_each.new.tables c.requires.spelled (c.self.invariant.1 (ap (λ (j : Journal). j.sound) c.self.view_is ∙ c.requires.sound)) c.in_ok-apply_each.ensures,
+)

@@ -1,6 +1,9 @@
 use Rattle.std.proofs.Common.{◌≡◌, ◌++◌, sym, ap, ◌∙◌}
 use Rattle.grid_model.specs.Applying.{apply_all}
-use Rattle.grid_journal.specs.Journal.{Journal}
+use Rattle.std.specs.List.{list_all}
+use Rattle.grid_model.proofs.Fronts.{list_all-both}
+use Rattle.grid_journal.specs.Journal.{Journal, can_be_kept}
+use Rattle.grid_journal.proofs.SpelledTriples.{spelled-apply_all}
 use Rattle.grid_journal.proofs.KeepingLemmas.{keeps_staged}
 use Rattle.grid_journal.proofs.store.Store.stage.Goals as goal
 
@@ -13,3 +16,13 @@ returns-clause-keeps c kept main k =
     c.from_vec-2.ensures ∙ c.in_ok-append.ensures.items ∙ ap (λ l. l ++ c.into_vec-copy.result.items) first ∙ ap (λ l. c.args.self.now.staged ++ l) behind in
     keeps_staged kept c.args.self.now _ main c.args.deltas k (ap (λ (j : Journal). apply_all j.cat c.args.deltas) (sym c.self.view_is) ∙ c.in_ok-apply_each.ensures)
     staged (ap (λ (j : Journal). j.log) c.self.view_is)
+
+pub invariant_of-self-2 : goal.invariant_of-self-2
+invariant_of-self-2 c =
+    let first : c.into_vec-staged.result.items ≡ c.self.inside.staged = c.into_vec-staged.ensures ∙ c.replace.ensures.value in
+    let behind : c.into_vec-copy.result.items ≡ c.args.deltas = c.into_vec-copy.ensures ∙ c.in_ok-copy_of.ensures in
+    let staged : c.from_vec-2.result ≡ c.self.inside.staged ++ c.args.deltas =
+    c.from_vec-2.ensures ∙ c.in_ok-append.ensures.items ∙ ap (λ l. l ++ c.into_vec-copy.result.items) first ∙ ap (λ l. c.self.inside.staged ++ l) behind in (
+      ap (list_all can_be_kept) staged ∙ list_all-both can_be_kept c.self.inside.staged c.args.deltas c.self.invariant.0 c.requires.spelled,
+      λ sound. spelled-apply_all c.args.deltas c.self.inside.tables c.apply_each.new.tables c.requires.spelled (c.self.invariant.1 (ap (λ (j : Journal). j.sound) c.self.view_is ∙ c.requires.sound)) c.in_ok-apply_each.ensures,
+    )
