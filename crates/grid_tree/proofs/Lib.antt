@@ -5,6 +5,8 @@ pub mod Alike
 pub mod Levels
 pub mod ChildLemmas
 pub mod WaysUp
+pub mod LinesUp
+pub mod NameWords
 pub mod StepLemmas
 pub mod Candidates
 pub mod SpotLemmas

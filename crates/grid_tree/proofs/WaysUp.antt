@@ -69,14 +69,14 @@ module _ (c : Cat) (m : IsMade c) (upper : ℕ) (upper_has : has_resource c uppe
   ]
 
   -- the parent in the grid is that of the row
-  parent_is : (r : ResourceRow) → (resource_of c r).parent ≡ option_map (resource_name c) (parent_by (Some r))
+  pub parent_is : (r : ResourceRow) → (resource_of c r).parent ≡ option_map (resource_name c) (parent_by (Some r))
   parent_is r = by (r.parent == 0)
     where
       by : (b : Bool) → elim b as (λ _. Option Text) [ true ↦ None | false ↦ Some (resource_name c r.parent) ] ≡ option_map (resource_name c) (elim b as (λ _. Option ℕ) [ true ↦ None | false ↦ Some r.parent ])
       by true = refl
       by false = refl
 
-  parent_has : (id parent : ℕ) (r : ResourceRow) → resource c id ≡ Some r → parent_by (Some r) ≡ Some parent → has_resource c parent ≡ true
+  pub parent_has : (id parent : ℕ) (r : ResourceRow) → resource c id ≡ Some r → parent_by (Some r) ≡ Some parent → has_resource c parent ≡ true
   parent_has id parent r found e = by (r.parent == 0) refl e
     where
       stands : ResourceStands c r

@@ -2,3 +2,4 @@ pub mod Names
 pub mod Steps
 pub mod Reading
 pub mod Spots
+pub mod Lines

@@ -2,12 +2,14 @@
 #![tactic(auto)]
 
 mod choosing;
+mod hierarchies;
 mod reach;
 mod reading;
 mod siblings;
 mod upward;
 
 pub use choosing::targets;
+pub use hierarchies::hierarchy;
 pub use reach::{Leaves, has_targets, possible};
 pub use reading::first_candidate;
 pub use upward::is_in;

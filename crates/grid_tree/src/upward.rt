@@ -34,8 +34,8 @@ pub(crate) fn stands_at(tables: &Tables, upper: u32, id: u32) -> bool
     current == upper
 }
 
-// The id of the parent, if there is one.
-fn parent_of(tables: &Tables, id: u32) -> Option<u32>
+/// The id of the parent, if there is one.
+pub(crate) fn parent_of(tables: &Tables, id: u32) -> Option<u32>
     ensures { result ≡ parent_by (resource tables.now id) }
 {
     match tables.resource(id) {

@@ -30,8 +30,8 @@ use Rattle.tables_laws.proofs.Grids.{grid-same}
 use Rattle.tables_laws.proofs.Places.{items_apart}
 use Rattle.tables_laws.proofs.Standing.{EntryStands, TripleStands}
 use Rattle.tables_laws.proofs.Sound.{IsSound}
-use Rattle.grid_journal.specs.Journal.{can_be_kept}
-use Rattle.plan_base.specs.Forgetting.{AreSpelled, forgotten, no_triples, no_entries}
+use Rattle.grid_journal.specs.Journal.{AreSpelled, can_be_kept}
+use Rattle.plan_base.specs.Forgetting.{forgotten, no_triples, no_entries}
 use Rattle.plan_base.proofs.AtPaths.{sound_of}
 use Rattle.plan_base.proofs.MapRows.{from_list-kept}
 use Rattle.plan_base.proofs.Mere.{is_mere}

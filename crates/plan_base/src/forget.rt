@@ -1,9 +1,9 @@
 ghost use Rattle.std.specs.Prelude.{◌≡◌, ◌++◌, IsTrue, IfOk, OnOk};
 ghost use Rattle.std.specs.List.{list_all, AllByRecursion};
-ghost use Rattle.grid_journal.specs.Journal.{can_be_kept};
+ghost use Rattle.grid_journal.specs.Journal.{AreSpelled, can_be_kept};
 ghost use Rattle.grid_model.specs.Applying.{IsMade, gives_access};
 ghost use Rattle.grid_model.specs.Rows.{id_of, kind_of};
-ghost use Rattle.plan_base.specs.Forgetting.{AreSpelled, forgotten, no_entries, no_triples};
+ghost use Rattle.plan_base.specs.Forgetting.{forgotten, no_entries, no_triples};
 
 use grid_model::{Delta, EntryRow, Item, ItemKind, Text, TripleRow};
 use grid_tables::Tables;

@@ -6,29 +6,41 @@ ghost use Rattle.grid_model.specs.Rows.{has_collection, has_object, has_user};
 use grid_tables::{Kind, Tables};
 use std::alloc::{AllocError, Global};
 
-/// An id that no collection has; `/` has 0, and no other. Fails for want of memory alone.
+/// An id that no collection has; `/` has 0, and no other. It looks at the other ids only where the greatest that there can
+/// be is taken, and takes memory only then. Fails for want of it alone.
 pub fn next_collection_id(alloc: Global, tables: &Tables) -> Result<u64, AllocError>
     ensures some { IfOk result (λ id. id ≢ 0) }
     ensures fresh { IfOk result (λ id. has_collection tables.now id ≡ false) }
 {
+    if let Some(id) = tables.next_collection_id() {
+        return Ok(id);
+    }
     let ids = tables.ids(alloc, Kind::Collections)?;
     Ok(free_id(ids.as_slice()))
 }
 
-/// An id that no object has. Fails for want of memory alone.
+/// An id that no object has. It looks at the other ids only where the greatest that there can be is taken, and takes memory
+/// only then. Fails for want of it alone.
 pub fn next_object_id(alloc: Global, tables: &Tables) -> Result<u64, AllocError>
     ensures some { IfOk result (λ id. id ≢ 0) }
     ensures fresh { IfOk result (λ id. has_object tables.now id ≡ false) }
 {
+    if let Some(id) = tables.next_object_id() {
+        return Ok(id);
+    }
     let ids = tables.ids(alloc, Kind::Objects)?;
     Ok(free_id(ids.as_slice()))
 }
 
-/// An id that no user and no group has. Fails for want of memory alone.
+/// An id that no user and no group has. It looks at the other ids only where the greatest that there can be is taken, and
+/// takes memory only then. Fails for want of it alone.
 pub fn next_user_id(alloc: Global, tables: &Tables) -> Result<u32, AllocError>
     requires few { length tables.now.users < 4294967295 }
     ensures fresh { IfOk result (λ id. has_user tables.now id ≡ false) }
 {
+    if let Some(id) = tables.next_user_id() {
+        return Ok(id);
+    }
     let ids = tables.ids(alloc, Kind::Users)?;
     Ok(free_id(ids.as_slice()) as u32)
 }

@@ -1,6 +1,6 @@
 -- Something is below the path of a collection where something lies in the collection.
-use Rattle.std.proofs.Common.{◌≡◌, ◌==◌, ℕ, zero, suc, ◌<◌, Bool, true, false, List, [], ◌∷◌, ◌++◌, length, Option, Some, None, inl, inr, refl, sym, ap, ◌∙◌, eq-eqb, eqb-true, arith, append_assoc}
-use Rattle.std.specs.Prelude.{map, not, nat_lt, ◌&&◌, ◌||◌}
+use Rattle.std.proofs.Common.{◌≡◌, ◌==◌, ℕ, zero, suc, ◌<◌, Bool, true, false, [], ◌∷◌, ◌++◌, length, Option, Some, None, inl, inr, refl, sym, ap, ◌∙◌, eq-eqb, eqb-true, arith, append_assoc}
+use Rattle.std.specs.Prelude.{not, nat_lt, ◌&&◌, ◌||◌}
 use Rattle.std.specs.List.{list_any}
 use Rattle.std.specs.Option.{option_map_or}
 use Rattle.std.proofs.lemmas.Bool.{and_parts, and_from, ne_eqb, lt-ltb}
@@ -18,10 +18,9 @@ use Rattle.grid_model.proofs.Below.{parent-push}
 use Rattle.grid_model.proofs.Comparing.{path_cmp_total, path_cmp-IsAntisymmetric, same_text-Decides}
 use Rattle.tables_laws.proofs.Rows.{IsIn, in_from_any, any_from_in}
 use Rattle.tables_laws.proofs.Numbered.{one_number, found_in}
-use Rattle.tables_laws.proofs.Places.{collection_there, collections_apart, objects_apart, object_found, child_place, row_there, parent_has, root_place}
+use Rattle.tables_laws.proofs.Places.{collection_there, collections_apart, objects_apart, child_place, row_there, parent_has, root_place}
 use Rattle.tables_laws.proofs.Sound.{IsSound}
-use Rattle.plan_base.proofs.MapRows.{any-map, any-keys}
-use Rattle.plan_coll.specs.Children.{child_by_id, lies_by_id}
+use Rattle.plan_base.proofs.MapRows.{any-keys}
 use Rattle.plan_coll.proofs.PlacedCollections.{place}
 
 -- ---- paths below another one
@@ -165,36 +164,3 @@ module _ (c : Cat) (s : IsSound c) (id : ℕ) (there : has_collection c id ≡ t
       joined false true false false f g h k = absurd (let wrong : false ≡ true = g refl in cc)
       joined false false false true f g h k = absurd (let wrong : false ≡ true = k refl in cc)
       joined false false false false f g h k = refl
-
--- ---- by ids
-
-module _ (c : Cat) (s : IsSound c) (id : ℕ) where
-  children_by_id : (ids : List ℕ) (b : Bool) → ids ≡ map (λ r. r.id) c.collections → b ≡ list_any (λ i. child_by_id c id i) ids → b ≡ list_any (λ r. is_child id r) c.collections
-  children_by_id ids b is b_is =
-      b_is ∙ ap (list_any (λ i. child_by_id c id i)) is ∙ any-map (λ (r : CollectionRow). r.id) (λ i. child_by_id c id i) c.collections
-      ∙ same c.collections (λ x here. ap (λ (o : Option CollectionRow). option_map_or (λ r. is_child id r) o false) (found_in (λ (r : CollectionRow). r.id) c.collections x s.cat.collections.ordered here))
-    where
-      same : (xs : List CollectionRow) → ((x : CollectionRow) → IsIn xs x → child_by_id c id x.id ≡ is_child id x) → list_any (λ x. child_by_id c id x.id) xs ≡ list_any (λ x. is_child id x) xs
-      same [] each = refl
-      same (x ∷ xs) each = λ i. each x (inl refl) i || same xs (λ y later. each y (inr later)) i
-
-  objects_by_id : (ids : List ℕ) (b : Bool) → ids ≡ map (λ r. r.id) c.objects → b ≡ list_any (λ i. lies_by_id c id i) ids → b ≡ list_any (λ r. r.collection == id) c.objects
-  objects_by_id ids b is b_is =
-      b_is ∙ ap (list_any (λ i. lies_by_id c id i)) is ∙ any-map (λ (r : ObjectRow). r.id) (λ i. lies_by_id c id i) c.objects
-      ∙ same c.objects (λ x here. ap (λ (o : Option ObjectRow). option_map_or (λ r. r.collection == id) o false) (object_found c s x here))
-    where
-      same : (xs : List ObjectRow) → ((x : ObjectRow) → IsIn xs x → lies_by_id c id x.id ≡ (x.collection == id)) → list_any (λ x. lies_by_id c id x.id) xs ≡ list_any (λ x. x.collection == id) xs
-      same [] each = refl
-      same (x ∷ xs) each = λ i. each x (inl refl) i || same xs (λ y later. each y (inr later)) i
-
-  pub child_holds : (ids : List ℕ) (b : Bool) → ids ≡ map (λ r. r.id) c.collections → b ≡ list_any (λ i. child_by_id c id i) ids → b ≡ true → true ≡ not (is_empty_collection c id)
-  child_holds ids b is b_is yes_it = ap (λ d. not (not d && not (list_any (λ r. r.collection == id) c.objects))) (sym yes_it ∙ children_by_id ids b is b_is)
-
-  pub object_holds : (ids other : List ℕ) (b d : Bool) → ids ≡ map (λ r. r.id) c.collections → b ≡ list_any (λ i. child_by_id c id i) ids → b ≡ false
-      → other ≡ map (λ r. r.id) c.objects → d ≡ list_any (λ i. lies_by_id c id i) other → d ≡ not (is_empty_collection c id)
-  object_holds ids other b d is b_is none other_is d_is =
-      twice d ∙ (λ i. not (not ((sym none ∙ children_by_id ids b is b_is) i) && not (objects_by_id other d other_is d_is i)))
-    where
-      twice : (t : Bool) → t ≡ not (not false && not t)
-      twice true = refl
-      twice false = refl

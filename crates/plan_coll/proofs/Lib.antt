@@ -4,8 +4,10 @@ pub mod DroppedCollections
 pub mod FlaggedCollections
 pub mod HeldItems
 pub mod MadeCollections
+pub mod MadeHomes
 pub mod MadeUsers
 pub mod MovedFiles
 pub mod MovedItems
+pub mod NamedPaths
 pub mod PlacedCollections
 pub mod RekeyedMaps

@@ -47,6 +47,22 @@ any-either p q (x ∷ xs) e f = by (p x) (q x) e f (any-either p q xs)
     by false true g h more = absurd cc
     by false false g h more = more g h
 
+-- a row with a free id and a free name fits
+module _ (c : Cat) (name : Text) (named : is_name name ≡ true) (free : has (grid_of c).users name ≡ false) (r : UserRow) (name_is : r.name ≡ name) (fresh : list_any (λ u. u.id == r.id) c.users ≡ false) where
+  unnamed : list_any (λ u. same_text u.name r.name) c.users ≡ false
+  unnamed =
+      ap (λ (n : Text). list_any (λ (u : UserRow). same_text u.name n) c.users) name_is ∙ sym (is_some-find (λ (x : UserRow). same_text x.name name) c.users)
+      ∙ sym (mapped (find (λ x. same_text x.name name) c.users)) ∙ sym (has-users c name) ∙ free
+    where
+      mapped : (o : Option UserRow) → is_some (option_map (λ (x : UserRow). x.id) o) ≡ is_some o
+      mapped None = refl
+      mapped (Some x) = refl
+
+  pub fits_new : user_fits c r ≡ true
+  fits_new =
+      and_from (is_name r.name) (not (list_any (λ u. (u.id == r.id) || same_text u.name r.name) c.users)) (ap is_name name_is ∙ named)
+      (ap not (any-either (λ (u : UserRow). u.id == r.id) (λ u. same_text u.name r.name) c.users fresh unnamed))
+
 -- so many more are few
 pub few_users : (n : ℕ) (x : ⊤) → Ok x ≡ within what.Users (n + 1) → n < 4294967295
 few_users n x room = by (nat_le (n + 1) 10000) refl room
@@ -86,19 +102,8 @@ module _ (c : Cat) (made : IsMade c) (u : ℕ) (name : Text) (named : is_name na
         abbrev after : Cat
         after = record c { users = with_row user_cmp c.users r }
 
-        unnamed : list_any (λ u. same_text u.name r.name) c.users ≡ false
-        unnamed =
-            ap (λ (n : Text). list_any (λ (u : UserRow). same_text u.name n) c.users) new.name_is ∙ sym (is_some-find (λ (x : UserRow). same_text x.name name) c.users)
-            ∙ sym (mapped (find (λ x. same_text x.name name) c.users)) ∙ sym (has-users c name) ∙ free
-          where
-            mapped : (o : Option UserRow) → is_some (option_map (λ (x : UserRow). x.id) o) ≡ is_some o
-            mapped None = refl
-            mapped (Some x) = refl
-
         fits : user_fits c r ≡ true
-        fits =
-            and_from (is_name r.name) (not (list_any (λ u. (u.id == r.id) || same_text u.name r.name) c.users)) (ap is_name new.name_is ∙ named)
-            (ap not (any-either (λ (u : UserRow). u.id == r.id) (λ u. same_text u.name r.name) c.users new.fresh unnamed))
+        fits = fits_new c name named free r new.name_is new.fresh
 
         pub planned : (x : ⊤) → Ok x ≡ within what.Users (length c.users + 1) → (deltas : List Delta) → deltas ≡ delta.User r ∷ [] → Changes c (user_name c u) (mkgroup name) deltas
         planned x room deltas are =

@@ -1,5 +1,4 @@
 pub mod AccessChanges
-pub mod Children
 pub mod Flags
 pub mod Joining
 pub mod Moving

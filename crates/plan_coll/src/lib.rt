@@ -16,4 +16,4 @@ pub use flags::plan_inherit;
 pub use making::plan_mkdir;
 pub use members::{plan_addmember, plan_rmmember};
 pub use moving::plan_move;
-pub use users::plan_mkgroup;
+pub use users::{plan_mkgroup, plan_mkuser};

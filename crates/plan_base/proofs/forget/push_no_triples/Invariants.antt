@@ -1,7 +1,8 @@
 use Rattle.std.proofs.Common.{◌≡◌, ◌++◌, IsTrue, drop}
 use Rattle.std.specs.List.{list_all}
 use Rattle.grid_journal.specs.Journal.{can_be_kept}
-use Rattle.plan_base.specs.Forgetting.{AreSpelled, no_triples}
+use Rattle.grid_journal.specs.Journal.{AreSpelled}
+use Rattle.plan_base.specs.Forgetting.{no_triples}
 use Rattle.plan_base.proofs.forget.push_no_triples.Given as goal
 
 -- what was added so far and what the other rows give come to what all give

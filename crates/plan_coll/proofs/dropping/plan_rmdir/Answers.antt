@@ -1,4 +1,6 @@
-use Rattle.std.proofs.Common.{sym, ◌∙◌}
+use Rattle.std.proofs.Common.{refl, sym, ap, ◌∙◌}
+use Rattle.std.specs.Prelude.{not}
+use Rattle.grid_model.specs.Applying.{is_empty_collection}
 use Rattle.plan_base.proofs.AtPaths.{user_known}
 use Rattle.plan_coll.proofs.DroppedCollections.{refused_nothing, refused_level, refused_fixed, refused_held, planned}
 use Rattle.plan_coll.proofs.dropping.plan_rmdir.Goals as goal
@@ -19,13 +21,15 @@ returns-then-is_fixed c =
     refused_fixed c.args.tables.now c.requires.made c.args.user c.args.path.now c.in-Some.id (sym c.in-Some.ensures)
     (sym (c.may_at.ensures c.args.path.now (sym c.in-Some.ensures)) ∙ c.if-not-may_at.false) (sym c.is_fixed.ensures ∙ c.if-is_fixed.true)
 
-pub returns-then-held : goal.returns-then-held
-returns-then-held c =
+pub returns-then-not-is_empty_collection : goal.returns-then-not-is_empty_collection
+returns-then-not-is_empty_collection c =
     refused_held c.args.tables.now c.requires.made c.args.user c.args.path.now c.in-Some.id (sym c.in-Some.ensures)
-    (sym (c.may_at.ensures c.args.path.now (sym c.in-Some.ensures)) ∙ c.if-not-may_at.false) (sym c.is_fixed.ensures ∙ c.if-is_fixed.false) c.in-Ok.held c.in-Ok.ensures c.if-held.true
+    (sym (c.may_at.ensures c.args.path.now (sym c.in-Some.ensures)) ∙ c.if-not-may_at.false) (sym c.is_fixed.ensures ∙ c.if-is_fixed.false)
+    (not (is_empty_collection c.args.tables.now c.in-Some.id)) refl (ap not (sym c.is_empty_collection.ensures ∙ c.if-not-is_empty_collection.true))
 
-pub returns-in-Ok-without_collection : goal.returns-in-Ok-without_collection
-returns-in-Ok-without_collection c =
+pub returns-in-Ok : goal.returns-in-Ok
+returns-in-Ok c =
     planned c.args.tables.now c.requires.made c.args.user c.args.path.now c.in-Some.id (sym c.in-Some.ensures)
-    (sym (c.may_at.ensures c.args.path.now (sym c.in-Some.ensures)) ∙ c.if-not-may_at.false) (sym c.is_fixed.ensures ∙ c.if-is_fixed.false) c.in-Ok.held c.in-Ok.ensures c.if-held.false
-    c.in-Ok-without_collection.deltas c.in-Ok-without_collection.ensures.changes c.in-Ok-without_collection.ensures.spelled
+    (sym (c.may_at.ensures c.args.path.now (sym c.in-Some.ensures)) ∙ c.if-not-may_at.false) (sym c.is_fixed.ensures ∙ c.if-is_fixed.false)
+    (not (is_empty_collection c.args.tables.now c.in-Some.id)) refl (ap not (sym c.is_empty_collection.ensures ∙ c.if-not-is_empty_collection.false))
+    c.in-Ok.deltas c.in-Ok.ensures.changes c.in-Ok.ensures.spelled

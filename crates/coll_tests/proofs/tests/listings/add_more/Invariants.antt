@@ -1,0 +1,5 @@
+use Rattle.grid_model.specs.Applying.{IsMade}
+use Rattle.coll_tests.proofs.tests.listings.add_more.Given as goal
+
+abbrev pub invariant-loop-id : goal.invariant-loop-id
+invariant-loop-id l = IsMade l.tables

@@ -1,0 +1,6 @@
+//! Tests of the plans of users and collections and of listings, in a crate of their own, since a crate with tests is proved
+//! once more for them.
+#![tactic(auto)]
+
+#[cfg(test)]
+mod tests;

@@ -1,0 +1,3 @@
+mod listings;
+mod plans;
+mod start;

@@ -1,0 +1,8 @@
+//! The rows that a listing shows of what is at a path.
+#![tactic(auto)]
+
+mod children;
+mod listing;
+mod rows;
+
+pub use listing::list_rows;
