@@ -74,8 +74,10 @@ Means texts at (verb.Repl path resource) body order = order ≡ works (repl path
 Means texts at (verb.ChkSum path) body order = order ≡ works (chksum path) 0
 Means texts at (verb.Trim path resource) body order = order ≡ works (trim path resource) 0
 Means texts at (verb.Rm path) body order = order ≡ works (rm path) 0
-Means texts at (verb.AddMeta kind name a v u) body order = (thing : Thing) × NamesThing kind name thing × (order ≡ works (addmeta (record { of = thing; attribute = a; value = v; unit = u })) 0)
-Means texts at (verb.RmMeta kind name a v u) body order = (thing : Thing) × NamesThing kind name thing × (order ≡ works (rmmeta (record { of = thing; attribute = a; value = v; unit = u })) 0)
+Means texts at (verb.AddMeta kind name a v u) body order = (thing : Thing) × NamesThing kind name thing
+    × (order ≡ works (addmeta (record { of = thing; attribute = a; value = v; unit = u })) 0)
+Means texts at (verb.RmMeta kind name a v u) body order = (thing : Thing) × NamesThing kind name thing
+    × (order ≡ works (rmmeta (record { of = thing; attribute = a; value = v; unit = u })) 0)
 Means texts at (verb.LsMeta kind name) body order = (thing : Thing) × NamesThing kind name thing × (order ≡ lists_triples thing)
 Means texts at (verb.Query text) body order = (query : Or Query) × ReadsQuery text query × (order ≡ queries query)
 Means texts at (verb.Exec text) body order = (call : Or CallText) × texts.call at.rules text call × (order ≡ executes call)
@@ -100,13 +102,16 @@ refusal_of error.Memory = None
 -- A line with its body asks for the order of a session, where the state is so, or is refused: it is too long, is no line of
 -- words, its words are no verb's, the body ends before all bytes that were promised, or the verb is not built.
 pub data Asks (texts : Texts) (at : State) (line body : Text) : runs.Request → Type 0 where
-  asks_for : {words : List Text} {session : ℕ} {order : Order} (request : Request) → length line ≤ longest_line → SpellsLine line words → Reads words (Ok request) → request.session ≡ session
+  asks_for : {words : List Text} {session : ℕ} {order : Order} (request : Request) → length line ≤ longest_line → SpellsLine line words
+      → Reads words (Ok request) → request.session ≡ session
       → promised request.verb ≤ length body → texts.built request.verb ≡ true → Means texts at request.verb body order
       → Asks texts at line body (Ok (session, order))
   not_built : {words : List Text} (request : Request) → length line ≤ longest_line → SpellsLine line words → Reads words (Ok request)
       → promised request.verb ≤ length body → texts.built request.verb ≡ false → Asks texts at line body (Err refusal.UnknownCommand)
-  cut_short : {words : List Text} (request : Request) → length line ≤ longest_line → SpellsLine line words → Reads words (Ok request) → length body < promised request.verb
+  cut_short : {words : List Text} (request : Request) → length line ≤ longest_line → SpellsLine line words → Reads words (Ok request)
+      → length body < promised request.verb
       → Asks texts at line body (Err (refusal.Truncated (length body) (promised request.verb)))
-  wrong_words : {words : List Text} {r : Refusal} (why : ReadError) → length line ≤ longest_line → SpellsLine line words → Reads words (Err why) → refusal_of why ≡ Some r → Asks texts at line body (Err r)
+  wrong_words : {words : List Text} {r : Refusal} (why : ReadError) → length line ≤ longest_line → SpellsLine line words → Reads words (Err why)
+      → refusal_of why ≡ Some r → Asks texts at line body (Err r)
   no_words : {place : ℕ} → length line ≤ longest_line → IsRefusedAt SpellsLine line place → Asks texts at line body (Err (refusal.Syntax place))
   too_long : longest_line < length line → Asks texts at line body (Err refusal.TooLong)

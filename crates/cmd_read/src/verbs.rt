@@ -144,7 +144,8 @@ pub(crate) struct Triple {
 
 /// An item, by its path or its name, and three texts.
 pub(crate) fn read_triple(alloc: Global, words: &[Text]) -> Result<Triple, ReadError>
-    ensures triple { IfOk result (λ t. (verb : ItemKind → Word → Word → Word → Word → Verb) → AsksFor (ways_to_triples verb) words.now (verb t.item t.name t.attribute t.value t.unit)) }
+    ensures triple { IfOk result (λ t. (verb : ItemKind → Word → Word → Word → Word → Verb)
+        → AsksFor (ways_to_triples verb) words.now (verb t.item t.name t.attribute t.value t.unit)) }
     ensures refused { IfErr result (λ why. why ≢ Memory → (verb : ItemKind → Word → Word → Word → Word → Verb) → Refuses (ways_to_triples verb) words.now why) }
 {
     let (item, rest) = front(words, 2)?;

@@ -21,17 +21,17 @@ use Rattle.grid_journal.specs.Stands.{StandsFor}
 use Rattle.grid_deed.specs.Held.{IsHeld, IsKept}
 use Rattle.grid_deed.proofs.Keeping.{held_stands, made_more}
 use Rattle.grid_headline.specs.Worlds.{World}
-use Rattle.run_laws.specs.Steps.{Step, IsWhole, Gave}
+use Rattle.run_laws.specs.Steps.{RequestStep, IsHandledWhole, Gave}
 use Rattle.run_laws.specs.Went.{Rests}
 use Rattle.sess.specs.Places.{Places}
 use Rattle.cmd_run.specs.declared.server.Server.{Server}
 use Rattle.cmd_run.specs.declared.server.Ending.{Ending}
 use Rattle.cmd_run.specs.declared.server.Ending.TheVariants as ending
 use Rattle.cmd_run.specs.Around.{around}
-use Rattle.cmd_run.specs.Answers.{IsPut, PutEnds}
-use Rattle.cmd_run.specs.Fits.{state_by, state_of, Fits, AreUsers}
+use Rattle.cmd_run.specs.Answers.{IsTextPut, PutEnds}
+use Rattle.cmd_run.specs.Fits.{state_by, state_of, FitsMain, AreUsers}
 use Rattle.cmd_run.specs.Keeps.{named, IsChange, IsKeptSo}
-use Rattle.cmd_run.specs.Obeys.{Obeys, Changes, handled}
+use Rattle.cmd_run.specs.Obeys.{Obeys, ChangesGrid, handled}
 use Rattle.cmd_run.proofs.ChangeLemmas.{grid_named, state_last, users_last, cut_short, said, whole}
 use Rattle.cmd_run.proofs.Resting.{gave_same, caused_same}
 use Rattle.cmd_run.proofs.Users.{KeepsUsers, users_apply_all}
@@ -42,7 +42,7 @@ pub rests_self : (s : SinkState) → Rests s s
 rests_self s = record { faults = omega arith; tells = refl; last = refl; holds = λ told. refl; left = λ t image left. left }
 
 -- a server that stands on these rows fits
-pub fits_on : (c : Cat) (main_old main : DiskState) (s : Server) → IsKept c main_old main s.store → c.pending ≡ None → c.rules ≡ [] → AreUsers c s.sessions → Fits main s
+pub fits_on : (c : Cat) (main_old main : DiskState) (s : Server) → IsKept c main_old main s.store → c.pending ≡ None → c.rules ≡ [] → AreUsers c s.sessions → FitsMain main s
 fits_on c main_old main s kept pending rules users =
     let H : Cat → Type 0 = λ x. IsHeld x main s.store in
     let U : Cat → Type 0 = λ x. AreUsers x s.sessions in
@@ -55,7 +55,7 @@ fits_on c main_old main s kept pending rules users =
     }
 
 module _ {D A P : Type 0} (disk : D → DiskState) (ambient : A → AmbientState) (plugin : P → StoreState) (source : SourceState) (o n : Outside D A P) (from to : SinkState) (server after_server : Server) (number : ℕ) (request : Request) (deltas : List Delta) (after : Cat)
-    (ambient_same : n.ambient ≡ o.ambient) (stores_same : n.stores ≡ o.stores) (fits : Fits (disk o.main) server) (sink_last : from.last ≤ o.moments) (sessions_same : after_server.sessions ≡ server.sessions) (change : IsChange server.store.cat deltas after) (s : Changes (state_of server) server.store.cat request after) where
+    (ambient_same : n.ambient ≡ o.ambient) (stores_same : n.stores ≡ o.stores) (fits : FitsMain (disk o.main) server) (sink_last : from.last ≤ o.moments) (sessions_same : after_server.sessions ≡ server.sessions) (change : IsChange server.store.cat deltas after) (s : ChangesGrid (state_of server) server.store.cat request after) where
   abbrev c : Cat
   c = server.store.cat
 
@@ -71,7 +71,7 @@ module _ {D A P : Type 0} (disk : D → DiskState) (ambient : A → AmbientState
   cut_in_keeping e k =
       handled (cut_short old (around disk ambient plugin n from source) (state_of server) c number request after s some (caused_same disk ambient plugin source o n from from stores_same) (gave_same disk ambient plugin source o n ambient_same) sink_last k.leaves (rests_self from)) tt
 
-  module _ (mid : ℕ) (k : IsKeptSo c (named number after) o.moments (disk o.main) (disk n.main) (Ok tt) after_server) (put : IsPut (end_line number well) mid from to) (later : o.moments ≤ mid) (main_last : (disk n.main).last ≤ mid) where
+  module _ (mid : ℕ) (k : IsKeptSo c (named number after) o.moments (disk o.main) (disk n.main) (Ok tt) after_server) (put : IsTextPut (end_line number well) mid from to) (later : o.moments ≤ mid) (main_last : (disk n.main).last ≤ mid) where
     abbrev new : World P
     new = around disk ambient plugin n to source
 
@@ -82,7 +82,7 @@ module _ {D A P : Type 0} (disk : D → DiskState) (ambient : A → AmbientState
       stands : IsTrue (disk o.main).tells → StandsFor (disk n.main).holds (named number after)
       stands told = held_stands (named number after) (disk n.main) after_server.store k.ends.held (subst IsTrue (sym tells) told)
 
-      abbrev step : Step old new (state_of server) c number request
+      abbrev step : RequestStep old new (state_of server) c number request
       step = said old new (state_of server) c number request after s some (caused_same disk ambient plugin source o n from to stores_same) (gave_same disk ambient plugin source o n ambient_same) sink_last k.leaves mid put later main_last stands k.ends.settled
 
       -- the state of the rows that are kept
@@ -95,12 +95,12 @@ module _ {D A P : Type 0} (disk : D → DiskState) (ambient : A → AmbientState
       grid_new : grid_of (named number after) ≡ (state_of after_server).grid
       grid_new = ap grid_of (sym k.ends.cat)
 
-      whole_step : (IsTrue from.tells → to.holds ≡ from.holds ++ end_line number well) → IsWhole old new (state_of server) c number request step after_server.store.cat (state_of after_server)
+      whole_step : (IsTrue from.tells → to.holds ≡ from.holds ++ end_line number well) → IsHandledWhole old new (state_of server) c number request step after_server.store.cat (state_of after_server)
       whole_step all =
-          let W : Cat → Type 0 = λ x. IsWhole old new (state_of server) c number request step x (state_of after_server) in
+          let W : Cat → Type 0 = λ x. IsHandledWhole old new (state_of server) c number request step x (state_of after_server) in
           subst W (sym k.ends.cat) (whole old new (state_of server) c number request after s some (caused_same disk ambient plugin source o n from to stores_same) (gave_same disk ambient plugin source o n ambient_same) sink_last k.leaves mid put later main_last stands k.ends.settled (state_of after_server) state_new grid_new all)
 
-      fits_new : Fits (disk n.main) after_server
+      fits_new : FitsMain (disk n.main) after_server
       fits_new =
           let U : Places → Type 0 = λ x. AreUsers (named number after) x in
           fits_on (named number after) (disk o.main) (disk n.main) after_server k.ends (s.stays.pending ∙ fits.pending) (s.stays.rules ∙ fits.rules) (subst U (sym sessions_same) (users_last c after server.sessions number keeps fits.users some))

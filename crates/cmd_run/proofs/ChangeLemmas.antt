@@ -28,17 +28,17 @@ use Rattle.grid_headline.specs.Worlds.{World}
 use Rattle.grid_headline.specs.Files.{IsKnown}
 use Rattle.grid_headline.specs.Numbers.{KeepsNumbers}
 use Rattle.grid_headline.specs.Causes.{AreCaused}
-use Rattle.run_laws.specs.Steps.{Step, IsWhole, IsBehind, Gave, OneOf, not_kept, kept_so, kept}
+use Rattle.run_laws.specs.Steps.{RequestStep, IsHandledWhole, IsLeftBehind, Gave, OneOf, not_kept, kept_so, kept}
 use Rattle.run_laws.specs.Went.{Rests}
 use Rattle.tables_laws.proofs.Grids.{grid-unseen}
 use Rattle.sess.specs.Places.{Places, sessions_of}
 use Rattle.cmd_run.specs.declared.server.Server.{Server}
 use Rattle.cmd_run.specs.declared.server.Ending.{Ending}
 use Rattle.cmd_run.specs.declared.server.Ending.TheVariants as ending
-use Rattle.cmd_run.specs.Answers.{IsPut}
+use Rattle.cmd_run.specs.Answers.{IsTextPut}
 use Rattle.cmd_run.specs.Fits.{state_by, AreUsers}
 use Rattle.cmd_run.specs.Keeps.{named}
-use Rattle.cmd_run.specs.Obeys.{Changes}
+use Rattle.cmd_run.specs.Obeys.{ChangesGrid}
 use Rattle.cmd_run.proofs.KeepLemmas.{applied_last}
 use Rattle.cmd_run.proofs.Resting.{like_self, none_of}
 use Rattle.cmd_run.proofs.SayLemmas.{put_left}
@@ -51,7 +51,7 @@ pub grid_named : (n : ℕ) (c : Cat) → 0 < c.numbers.next_vault → grid_of (n
 grid_named n c some = grid-unseen c (named n c) (delta.Numbers (record c.numbers { last = n })) refl (applied_last c n some)
 
 -- nor of the rows that name files
-names_named : (n : ℕ) (c : Cat) (slot name : ℕ) (row : Naming) → Names (named n c) slot name row → Names c slot name row
+pub names_named : (n : ℕ) (c : Cat) (slot name : ℕ) (row : Naming) → Names (named n c) slot name row → Names c slot name row
 names_named n c slot name (by_replica r) h = h
 names_named n c slot name (by_orphan o) h = h
 
@@ -75,7 +75,7 @@ module _ (before after : Cat) (places : Places) (n : ℕ) (keeps : KeepsUsers be
 
 -- ---- the request
 
-module _ {B : Type 0} (old new : World B) (at : State) (c : Cat) (number : ℕ) (request : Request) (after : Cat) (s : Changes at c request after) (some : 0 < after.numbers.next_vault) (caused : AreCaused old new []) (gave : IsTrue new.ambient.tells → Gave [] old.ambient new.ambient) (sink_last : old.sink.last ≤ old.moments) where
+module _ {B : Type 0} (old new : World B) (at : State) (c : Cat) (number : ℕ) (request : Request) (after : Cat) (s : ChangesGrid at c request after) (some : 0 < after.numbers.next_vault) (caused : AreCaused old new []) (gave : IsTrue new.ambient.tells → Gave [] old.ambient new.ambient) (sink_last : old.sink.last ≤ old.moments) where
   pub marks_none : s.d.reply.marks ≡ []
   marks_none = ap (λ (r : Reply). r.marks) s.reply_is
 
@@ -85,7 +85,7 @@ module _ {B : Type 0} (old new : World B) (at : State) (c : Cat) (number : ℕ) 
   pub text_is : text ≡ end_line number well
   text_is = ap (λ (r : Reply). reply_text number r []) s.reply_is
 
-  pub behind : IsBehind c number s.d (named number after)
+  pub behind : IsLeftBehind c number s.d (named number after)
   behind = record {
     grid = grid_named number after some ∙ sym (ap (λ (x : State). x.grid) s.state);
     run = s.stays.run;
@@ -113,7 +113,7 @@ module _ {B : Type 0} (old new : World B) (at : State) (c : Cat) (number : ℕ) 
 
   abbrev pub step_of : (IsTrue old.sink.tells → AddsPart text old.sink.holds new.sink.holds)
       → (IsTrue old.main.tells → IsTrue old.sink.tells → IsSettled old.main → IsSettled old.sink → (t : ℕ) (main sink : Text) → old.moments < t → new.main.left t main → new.sink.left t sink → Image main sink)
-      → Step old new at c number request
+      → RequestStep old new at c number request
   step_of shown images = record {
     marks = [];
     d = s.d;
@@ -132,15 +132,15 @@ module _ {B : Type 0} (old new : World B) (at : State) (c : Cat) (number : ℕ) 
 
   module _ (leaves : IsTrue old.main.tells → IsSettled old.main → Leaves old.moments (StandsEither c (named number after)) new.main) where
     -- the keeping failed
-    pub cut_short : Rests old.sink new.sink → Step old new at c number request
+    pub cut_short : Rests old.sink new.sink → RequestStep old new at c number request
     cut_short rests = step_of
         (λ told. let Q : Text → Type 0 = λ x. AddsPart text old.sink.holds x in subst Q (sym (rests.holds told)) (none_of text old.sink.holds))
         (λ told sink_told settled sink_settled t main sink late main_left sink_left. unsaid_image main sink (leaves told settled t main late main_left) (sink_settled t sink (omega (arith, late, sink_last)) (rests.left t sink sink_left)))
 
     -- all was kept, and the line was put as the moment after so many
-    module _ (mid : ℕ) (put : IsPut (end_line number well) mid old.sink new.sink) (later : old.moments ≤ mid) (main_last : new.main.last ≤ mid) (stands : IsTrue old.main.tells → StandsFor new.main.holds (named number after)) (settled_new : IsTrue old.main.tells → IsSettled new.main) where
-      pub line : IsPut text mid old.sink new.sink
-      line = let Q : Text → Type 0 = λ x. IsPut x mid old.sink new.sink in subst Q (sym text_is) put
+    module _ (mid : ℕ) (put : IsTextPut (end_line number well) mid old.sink new.sink) (later : old.moments ≤ mid) (main_last : new.main.last ≤ mid) (stands : IsTrue old.main.tells → StandsFor new.main.holds (named number after)) (settled_new : IsTrue old.main.tells → IsSettled new.main) where
+      pub line : IsTextPut text mid old.sink new.sink
+      line = let Q : Text → Type 0 = λ x. IsTextPut x mid old.sink new.sink in subst Q (sym text_is) put
 
       pub images : IsTrue old.main.tells → IsTrue old.sink.tells → IsSettled old.main → IsSettled old.sink → (t : ℕ) (main sink : Text) → old.moments < t → new.main.left t main → new.sink.left t sink → Image main sink
       images told sink_told settled sink_settled t main sink late main_left sink_left = by (cases_lt mid t)
@@ -151,10 +151,10 @@ module _ {B : Type 0} (old new : World B) (at : State) (c : Cat) (number : ℕ) 
               inr (subst Q (sym (settled_new told t main (omega (arith, now, main_last)) main_left)) (stands told), put_left text mid t old.sink new.sink sink line sink_told sink_settled (omega (arith, sink_last, later)) now sink_left)
           by (inr before) = unsaid_image main sink (leaves told settled t main late main_left) (sink_settled t sink (omega (arith, late, sink_last)) ((line.acts.earlier t sink (omega (arith, before))).0 sink_left))
 
-      abbrev pub said : Step old new at c number request
+      abbrev pub said : RequestStep old new at c number request
       said = step_of (λ told. line.acts.holds told) images
 
-      pub whole : (end : State) → s.d.state ≡ end → grid_of (named number after) ≡ end.grid → (IsTrue old.sink.tells → new.sink.holds ≡ old.sink.holds ++ end_line number well) → IsWhole old new at c number request said (named number after) end
+      pub whole : (end : State) → s.d.state ≡ end → grid_of (named number after) ≡ end.grid → (IsTrue old.sink.tells → new.sink.holds ≡ old.sink.holds ++ end_line number well) → IsHandledWhole old new at c number request said (named number after) end
       whole end state grid all = record {
         state = state;
         grid = grid;

@@ -27,14 +27,14 @@ use Rattle.grid_deed.proofs.Keeping.{held_stands}
 use Rattle.grid_deed.proofs.Wholes.{one_cat, whole_of, keep_more}
 use Rattle.grid_headline.specs.Worlds.{World}
 use Rattle.grid_headline.specs.Files.{IsKnown}
-use Rattle.run_laws.specs.Steps.{Step, IsWhole}
+use Rattle.run_laws.specs.Steps.{RequestStep, IsHandledWhole}
 use Rattle.sess.specs.Places.{Places}
 use Rattle.cmd_run.specs.declared.server.Server.{Server}
 use Rattle.cmd_run.specs.declared.server.Ending.{Ending}
 use Rattle.cmd_run.specs.declared.server.Ending.TheVariants as ending
 use Rattle.cmd_run.specs.Around.{around}
-use Rattle.cmd_run.specs.Answers.{IsPut, PutEnds}
-use Rattle.cmd_run.specs.Fits.{state_by, state_of, Fits, AreUsers}
+use Rattle.cmd_run.specs.Answers.{IsTextPut, PutEnds}
+use Rattle.cmd_run.specs.Fits.{state_by, state_of, FitsMain, AreUsers}
 use Rattle.cmd_run.specs.Gets.{AsksToGet, Drew, Fetches, FetchEnds, IsSent, IsCut, text_behind}
 use Rattle.cmd_run.specs.Keeps.{named, IsKeptSo}
 use Rattle.cmd_run.specs.Obeys.{Obeys, handled, quiet}
@@ -49,7 +49,7 @@ use Rattle.cmd_run.proofs.Users.{KeepsUsers, users_same}
 use Rattle.cmd_run.proofs.Vaults.{some_vault}
 
 module _ {D A P K : Type 0} (disk : D → DiskState) (ambient : A → AmbientState) (plugin : P → StoreState) (sink : K → SinkState) (source : SourceState) (more : ℕ) (o : Seen D A P K) (server : Server) (n : ℕ) (request : Request) (file : OldFile)
-    (fits : Fits (disk o.outside.main) server) (ready : AreReady disk plugin sink more o) (there : file.slot < length o.outside.stores.items) (asks : AsksToGet server file request) where
+    (fits : FitsMain (disk o.outside.main) server) (ready : AreReady disk plugin sink more o) (there : file.slot < length o.outside.stores.items) (asks : AsksToGet server file request) where
   abbrev c : Cat
   c = server.store.cat
 
@@ -141,7 +141,7 @@ module _ {D A P K : Type 0} (disk : D → DiskState) (ambient : A → AmbientSta
           handled (cut_short old (around disk ambient plugin end (sink mid.sink) source) server n request file s.sends.holds.sent text (told_sent end (sink mid.sink) stores_same ambient_same answer s) some (leaves (Err e) (kept_from (Err e) k))
           (has_lines o.outside.moments mid.outside.moments lines [] lines (sink o.sink) (sink mid.sink) (sym (append-nil lines)) s.sends.holds.lines.puts)) tt
 
-      module _ (k : IsKeptSo c (named n c) mid.outside.moments (disk mid.outside.main) (disk end.main) (Ok tt) new_server) (sessions_same : new_server.sessions ≡ server.sessions) (to : SinkState) (at : ℕ) (later : mid.outside.moments ≤ at) (main_last : (disk end.main).last ≤ at) (put : IsPut text at (sink mid.sink) to) where
+      module _ (k : IsKeptSo c (named n c) mid.outside.moments (disk mid.outside.main) (disk end.main) (Ok tt) new_server) (sessions_same : new_server.sessions ≡ server.sessions) (to : SinkState) (at : ℕ) (later : mid.outside.moments ≤ at) (main_last : (disk end.main).last ≤ at) (put : IsTextPut text at (sink mid.sink) to) where
         abbrev last_world : World P
         last_world = around disk ambient plugin end to source
 
@@ -154,7 +154,7 @@ module _ {D A P K : Type 0} (disk : D → DiskState) (ambient : A → AmbientSta
         stands : IsTrue (disk o.outside.main).tells → StandsFor (disk end.main).holds (named n c)
         stands told = held_stands (named n c) (disk end.main) new_server.store kk.ends.held (subst IsTrue (sym goes_from.tells) told)
 
-        abbrev step : Step old last_world (state_of server) c n request
+        abbrev step : RequestStep old last_world (state_of server) c n request
         step = said old last_world server n request file s.sends.holds.sent text (told_sent end to stores_same ambient_same answer s) some (leaves (Ok tt) kk) (sink mid.sink) mid.outside.moments at s.sends.holds.lines put later main_last stands kk.ends.settled
 
         state_new : state_of server ≡ state_of new_server
@@ -163,12 +163,12 @@ module _ {D A P K : Type 0} (disk : D → DiskState) (ambient : A → AmbientSta
             ∙ ap (λ (x : Places). state_by (named n c) x) (sym sessions_same)
             ∙ ap (λ (x : Cat). state_by x new_server.sessions) (sym kk.ends.cat)
 
-        whole_step : (IsTrue (sink mid.sink).tells → to.holds ≡ (sink mid.sink).holds ++ text) → IsWhole old last_world (state_of server) c n request step new_server.store.cat (state_of new_server)
+        whole_step : (IsTrue (sink mid.sink).tells → to.holds ≡ (sink mid.sink).holds ++ text) → IsHandledWhole old last_world (state_of server) c n request step new_server.store.cat (state_of new_server)
         whole_step all =
-            let W : Cat → Type 0 = λ x. IsWhole old last_world (state_of server) c n request step x (state_of new_server) in
+            let W : Cat → Type 0 = λ x. IsHandledWhole old last_world (state_of server) c n request step x (state_of new_server) in
             subst W (sym kk.ends.cat) (whole old last_world server n request file s.sends.holds.sent text (told_sent end to stores_same ambient_same answer s) some (leaves (Ok tt) kk) (sink mid.sink) mid.outside.moments at s.sends.holds.lines put later main_last stands kk.ends.settled (state_of new_server) state_new (ap grid_of (sym kk.ends.cat)) all)
 
-        fits_new : Fits (disk end.main) new_server
+        fits_new : FitsMain (disk end.main) new_server
         fits_new =
             let U : Places → Type 0 = λ x. AreUsers (named n c) x in
             fits_on (named n c) (disk o.outside.main) (disk end.main) new_server kk.ends fits.pending fits.rules (subst U (sym sessions_same) (users_last c c server.sessions n keeps fits.users some))

@@ -22,9 +22,9 @@ use Rattle.grid_vault.specs.Sending.{Puts, PutsAll}
 use Rattle.grid_journal.specs.Stands.{StandsFor, StandsEither}
 use Rattle.grid_deed.specs.Frame.{Goes}
 use Rattle.grid_headline.specs.Worlds.{World}
-use Rattle.run_laws.specs.Steps.{Step, IsWhole, IsBehind, OneOf, not_kept, kept_so, kept}
+use Rattle.run_laws.specs.Steps.{RequestStep, IsHandledWhole, IsLeftBehind, OneOf, not_kept, kept_so, kept}
 use Rattle.cmd_run.specs.declared.server.Server.{Server}
-use Rattle.cmd_run.specs.Answers.{IsPut}
+use Rattle.cmd_run.specs.Answers.{IsTextPut}
 use Rattle.cmd_run.specs.Fits.{state_of}
 use Rattle.cmd_run.specs.Keeps.{named}
 use Rattle.cmd_run.proofs.ChangeLemmas.{grid_named, keeps_named}
@@ -98,7 +98,7 @@ module _ {B : Type 0} (old new : World B) (server : Server) (n : ℕ) (request :
       ap (λ (x : Text). x ++ end_line n t.e) (append-nil piece) ∙ append_assoc lines (mark_line n t.m) (end_line n t.e)
       ∙ ap (λ (x : Text). lines ++ x) (sym t.text_is)
 
-  behind : IsBehind c n d (named n c)
+  behind : IsLeftBehind c n d (named n c)
   behind = record {
     grid = grid_named n c some;
     run = refl;
@@ -139,7 +139,7 @@ module _ {B : Type 0} (old new : World B) (server : Server) (n : ℕ) (request :
 
   abbrev pub step_of : (IsTrue old.sink.tells → AddsPart (lines ++ text) old.sink.holds new.sink.holds)
       → (IsTrue old.main.tells → IsTrue old.sink.tells → IsSettled old.main → IsSettled old.sink → (at : ℕ) (main sink : Text) → old.moments < at → new.main.left at main → new.sink.left at sink → Image main sink)
-      → Step old new (state_of server) c n request
+      → RequestStep old new (state_of server) c n request
   step_of shown images = record {
     marks = t.m ∷ [];
     d = d;
@@ -158,12 +158,12 @@ module _ {B : Type 0} (old new : World B) (server : Server) (n : ℕ) (request :
 
   module _ (leaves : IsTrue old.main.tells → IsSettled old.main → Leaves old.moments (StandsEither c (named n c)) new.main) where
     -- no more than lines were put
-    pub cut_short : HasLines old.moments lines old.sink new.sink → Step old new (state_of server) c n request
+    pub cut_short : HasLines old.moments lines old.sink new.sink → RequestStep old new (state_of server) c n request
     cut_short has = step_of (λ told. part_of_all new.sink.holds (has.holds told))
         (λ told sink_told settled sink_settled at main sink late main_left sink_left. unsaid_image main sink (leaves told settled at main late main_left) (has.leaves sink_told sink_settled at sink late sink_left))
 
     -- all lines were put, all was kept, and then mark and end were put as the moment after so many
-    module _ (mid : SinkState) (from to : ℕ) (all : PutsAll old.moments from lines old.sink mid) (put : IsPut text to mid new.sink) (later : from ≤ to) (main_last : new.main.last ≤ to)
+    module _ (mid : SinkState) (from to : ℕ) (all : PutsAll old.moments from lines old.sink mid) (put : IsTextPut text to mid new.sink) (later : from ≤ to) (main_last : new.main.last ≤ to)
         (stands : IsTrue old.main.tells → StandsFor new.main.holds (named n c)) (settled_new : IsTrue old.main.tells → IsSettled new.main) where
       pub mid_tells : IsTrue old.sink.tells → IsTrue mid.tells
       mid_tells told = subst IsTrue (sym all.puts.span.tells) told
@@ -181,10 +181,10 @@ module _ {B : Type 0} (old new : World B) (server : Server) (n : ℕ) (request :
               unsaid_image main sink (leaves told settled at main late main_left)
               (all.puts.any_moment sink_told sink_settled at sink late ((put.acts.earlier at sink (omega (arith, before))).0 sink_left))
 
-      abbrev pub said : Step old new (state_of server) c n request
+      abbrev pub said : RequestStep old new (state_of server) c n request
       said = step_of (λ told. then_part lines text (lines ++ text) old.sink.holds mid.holds new.sink.holds refl (all.all told) (put.acts.holds (mid_tells told))) images
 
-      pub whole : (end : State) → state_of server ≡ end → grid_of (named n c) ≡ end.grid → (IsTrue mid.tells → new.sink.holds ≡ mid.holds ++ text) → IsWhole old new (state_of server) c n request said (named n c) end
+      pub whole : (end : State) → state_of server ≡ end → grid_of (named n c) ≡ end.grid → (IsTrue mid.tells → new.sink.holds ≡ mid.holds ++ text) → IsHandledWhole old new (state_of server) c n request said (named n c) end
       whole end state grid put_all = record {
         state = state;
         grid = grid;

@@ -53,6 +53,8 @@ use Rattle.plan_object.specs.Sending.{Sends}
 use Rattle.cmd_run.specs.declared.server.Server.{Server}
 use Rattle.cmd_run.specs.Fits.{state_of}
 use Rattle.cmd_run.specs.Gets.{AsksToGet, Drawn, Drew, whole_text, broken_text, damaged_text, text_behind}
+use Rattle.cmd_run.specs.Obeys.{IsRefusedAtOnce}
+use Rattle.cmd_run.proofs.NotRefused.{deed_not_refused}
 use Rattle.cmd_run.proofs.Operating.{with_login, not_too_much, ran_so, failed_so, damaged_so}
 use Rattle.cmd_run.proofs.SentFiles.{SentFile, read_is_text, front_of_text, lines_of_text, broken_parts, sent_or_not}
 
@@ -99,6 +101,10 @@ module _ (at : State) (no_rules : at.rules ≡ []) (session : ℕ) (who : Sessio
 
   obeyed : (m : Mark) → command at session (works op 0) (m ∷ []) ≡ operate at who.user op (begun at.grid (m ∷ []))
   obeyed m = with_login at session (works op 0) (m ∷ []) who login ∙ not_too_much at who op 0 (begun at.grid (m ∷ [])) refl
+
+  -- it waits for its mark
+  pub waits_for_mark : (request : Request) → request ≡ Ok (session, works op 0) → ¬ IsRefusedAtOnce at request
+  waits_for_mark request its = deed_not_refused at no_rules session who login op 0 refl its_deed row_is request its
 
   pub ran : (word now : ℕ) → command at session (works op 0) (mark.Ran word now [] ∷ []) ≡ gives (got_done at file (mark.Ran word now []) (told_number file))
   ran word now =
@@ -375,3 +381,9 @@ module _ {B : Type 0} (old new : World B) (count : length new.stores ≡ length 
         by_tells : (t : Bool) → store.tells ≡ t → ToldSome b.sent
         by_tells true told = by_file told (sent_or_not file store.holds b.sent (b.of_file told))
         by_tells false silent = told_some (λ k. (let told : store.tells ≡ true = (text k).1 in cc)) b.sent within
+
+-- what is sent is not refused at once
+pub get_not_refused : (server : Server) (request : Request) (file : OldFile) → AsksToGet server file request → ¬ IsRefusedAtOnce (state_of server) request
+get_not_refused server request file asks =
+    let s = asks.sends in
+    waits_for_mark (state_of server) refl asks.session asks.who asks.login asks.path asks.asked file s.from s.is s.number s.slot s.size s.digest request asks.is

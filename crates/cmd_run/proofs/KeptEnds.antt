@@ -16,7 +16,7 @@ use Rattle.cmd_run.specs.declared.server.Ending.{Ending}
 use Rattle.cmd_run.specs.declared.server.Ending.TheVariants.{Disk, Sink, Memory, Worn}
 use Rattle.cmd_run.specs.Keeps.{KeepEnds}
 use Rattle.cmd_run.specs.Obeys.{IsWorn, IsWornAt}
-use Rattle.cmd_run.specs.Passes.{Seen, Passes}
+use Rattle.cmd_run.specs.Passes.{Seen, CallsPass}
 
 -- keeping does not fail by the sink
 pub not_sink : (kept after : Cat) (main_old main_new : DiskState) (s : Server) (e : Ending) → KeepEnds kept after main_old main_new (Err e) s → IsErrOf {T = ⊤} {E = Ending} (Err e) Sink → ⊥
@@ -36,7 +36,7 @@ worn_kept new before request kept after main_old s e tells ends what place is =
 
 -- calls that did not fail, and then keeping
 pub passes_kept : {D A P K : Type 0} (disk : D → DiskState) (plugin : P → StoreState) (sink : K → SinkState) (first_disk first_sink failed sink_failed : Type 0) (a b : Seen D A P K) (n : Outside D A P) → (¬ first_disk) → (¬ sink_failed)
-    → Passes disk plugin sink first_disk first_sink a b → Frame disk plugin failed b.outside n → Passes disk plugin sink failed sink_failed a (record { outside = n; sink = b.sink })
+    → CallsPass disk plugin sink first_disk first_sink a b → Frame disk plugin failed b.outside n → CallsPass disk plugin sink failed sink_failed a (record { outside = n; sink = b.sink })
 passes_kept {D} {A} {P} {K} disk plugin sink first_disk first_sink failed sink_failed a b n not_disk no_sink first then =
     let F : A → Type 0 = λ x. Frame disk plugin failed (record a.outside { ambient = x }) n in
     record {

@@ -27,7 +27,7 @@ abbrev pub OfGrid : {A : Type 0} → Or A → Type 0
 OfGrid (Ok a) = Unit {0}
 OfGrid (Err r) = IsOfGrid r
 
-then_of : {A B : Type 0} (x : Or A) (f : A → Or B) → OfGrid x → ((a : A) → OfGrid (f a)) → OfGrid (x >>= f)
+pub then_of : {A B : Type 0} (x : Or A) (f : A → Or B) → OfGrid x → ((a : A) → OfGrid (f a)) → OfGrid (x >>= f)
 then_of (Ok a) f first next = next a
 then_of (Err r) f first next = first
 
@@ -39,11 +39,11 @@ unless_ok : (b : Bool) (r : Refusal) (a : ⊤) → unless b r ≡ Ok a → b ≡
 unless_ok true r a is = refl
 unless_ok false r a is = absurd cc
 
-unless_of : (b : Bool) (r : Refusal) → IsOfGrid r → OfGrid (unless b r)
+pub unless_of : (b : Bool) (r : Refusal) → IsOfGrid r → OfGrid (unless b r)
 unless_of true r is = tt
 unless_of false r is = is
 
-refuse_of : (b : Bool) (r : Refusal) → IsOfGrid r → OfGrid (refuse b r)
+pub refuse_of : (b : Bool) (r : Refusal) → IsOfGrid r → OfGrid (refuse b r)
 refuse_of true r is = is
 refuse_of false r is = tt
 
@@ -51,10 +51,10 @@ there_of : {A : Type 0} (o : Option A) (r : Refusal) → IsOfGrid r → OfGrid (
 there_of None r is = is
 there_of (Some a) r is = tt
 
-within_of : (what : What) (n : ℕ) → OfGrid (within what n)
+pub within_of : (what : What) (n : ℕ) → OfGrid (within what n)
 within_of what n = unless_of (nat_le n (most what)) (refusal.TooMany what (most what)) tt
 
-above_of : (g : Grid) (p : Path) → OfGrid (collection_above g p)
+pub above_of : (g : Grid) (p : Path) → OfGrid (collection_above g p)
 above_of g p =
     then_of (there (parent p) refusal.Exists) (λ c. unless (has g.collections c) refusal.NoCollection >>= (λ _. Ok c)) (there_of (parent p) refusal.Exists tt)
     (λ c. then_of (unless (has g.collections c) refusal.NoCollection) (λ _. Ok c) (unless_of (has g.collections c) refusal.NoCollection tt) (λ _. tt))

@@ -9,7 +9,7 @@ use Rattle.grid_model.specs.Limits.{object_size}
 use Rattle.grid_model.specs.Refusing.{Or}
 use Rattle.grid_model.specs.Deeds.{Act, Deed, changes, deed, fits, by_mark}
 use Rattle.grid_model.specs.Operations.Table.{Operation, row}
-use Rattle.grid_model.specs.Meanings.{Meaning, gives, mapped}
+use Rattle.grid_model.specs.Meanings.{Meaning, gives, waits, mapped}
 use Rattle.grid_model.specs.Doing.{Course, Did, do_act, where_fits, with_result, taking}
 use Rattle.grid_model.specs.Sessions.{Session, State}
 use Rattle.grid_model.specs.Orders.{Order, works}
@@ -85,6 +85,11 @@ module _ (at : State) (none : at.rules ≡ []) (user : Text) (op : Operation) wh
 
   pub changed_so : (g : Grid) → row at.grid user op ≡ Ok (changes g) → operate at user op (begun at.grid []) ≡ gives (changed_work g)
   changed_so g is = alone [] (Ok (changes g)) is
+
+  -- a deed waits where no mark is there
+  pub waited_so : (d : Deed) → row at.grid user op ≡ Ok (deed d)
+      → operate at user op (begun at.grid []) ≡ waits (record { call = running op; grid = at.grid; taken = []; passed = []; undo = [] })
+  waited_so d is = alone [] (Ok (deed d)) is
 
   abbrev by_fit : Deed → Mark → Bool → Meaning Done
   by_fit d m b = mapped (answers at) (mapped (λ (x : Did). record { state = x.state; failure = x.failure; words = its_words; rows = []; sent = its_sent (m ∷ []) }) (where_fits b (with_result (taking (begun at.grid (m ∷ [])) m []) (by_mark d m))))

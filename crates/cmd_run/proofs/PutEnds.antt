@@ -39,21 +39,21 @@ use Rattle.grid_deed.specs.Frame.{StoresGo, Frame}
 use Rattle.grid_deed.specs.Held.{IsHeld, IsKept}
 use Rattle.grid_deed.proofs.Keeping.{held_stands, made_more}
 use Rattle.grid_headline.specs.Worlds.{World}
-use Rattle.run_laws.specs.Steps.{Step, IsWhole, IsBehind, IsLike, Gave}
+use Rattle.run_laws.specs.Steps.{RequestStep, IsHandledWhole, IsLeftBehind, IsLike, Gave}
 use Rattle.sess.specs.Places.{Places, sessions_of}
 use Rattle.cmd_run.specs.declared.server.Server.{Server}
 use Rattle.cmd_run.specs.declared.server.Ending.{Ending}
 use Rattle.cmd_run.specs.declared.server.Ending.TheVariants as ending
 use Rattle.cmd_run.specs.declared.putting.Putting.{Putting}
 use Rattle.cmd_run.specs.Around.{around}
-use Rattle.cmd_run.specs.Answers.{IsPut, PutEnds}
-use Rattle.cmd_run.specs.Fits.{state_by, state_of, Fits, AreUsers}
+use Rattle.cmd_run.specs.Answers.{IsTextPut, PutEnds}
+use Rattle.cmd_run.specs.Fits.{state_by, state_of, FitsMain, AreUsers}
 use Rattle.cmd_run.specs.Gets.{Drawn, Drew}
 use Rattle.cmd_run.specs.Keeps.{named}
-use Rattle.cmd_run.specs.Obeys.{Obeys, SaysOnly, IsWorn, IsWornAt, Puts, handled, quiet}
+use Rattle.cmd_run.specs.Obeys.{Obeys, SaysOnly, IsWorn, IsWornAt, AsksForFile, handled, quiet}
 use Rattle.file_laws.specs.Plans.{IsPlan, Turns}
 use Rattle.grid_headline.specs.Numbers.{last_vault}
-use Rattle.cmd_run.specs.Passes.{Seen, Passes}
+use Rattle.cmd_run.specs.Passes.{Seen, CallsPass}
 use Rattle.plan_object.specs.Writing.{FindsTargets}
 use Rattle.cmd_run.proofs.OfGrid.{OfGrid, put_of}
 use Rattle.cmd_run.specs.Puts.{wanted, AsksToPut, PlansPut, operation_of}
@@ -113,7 +113,7 @@ worn_vaults new s p request asks next is more stands what place same =
     let what_is : wear.Vaults ≡ what = cc in
     let place_is : next ≡ place = cc in
     let W : Wear → Type 0 = λ w. IsWornAt new s request place w in
-    subst W what_is (sym place_is ∙ is, omega (arith, more, place_is), stands, subst Puts (sym asks.is) tt)
+    subst W what_is (sym place_is ∙ is, omega (arith, more, place_is), stands, subst AsksForFile (sym asks.is) tt)
 
 -- nothing was said, though a word and a time were drawn
 pub unsaid_drawn : {D A P : Type 0} (disk : D → DiskState) (ambient : A → AmbientState) (plugin : P → StoreState) (source : SourceState) (o n : Outside D A P) (sink : SinkState) (before : Server) (number : ℕ) (request : Request) (after : Server) (drawn : Drawn) → n.main ≡ o.main
@@ -133,7 +133,7 @@ unsaid_drawn disk ambient plugin source o n sink before number request after dra
 
 -- calls of a frame, after the ambient was asked
 pub passes_framed : {D A P K : Type 0} (disk : D → DiskState) (plugin : P → StoreState) (sink : K → SinkState) (failed sink_failed : Type 0) (o n : Outside D A P) (a : A) (k : K) → (¬ sink_failed)
-    → Frame disk plugin failed (record o { ambient = a }) n → Passes disk plugin sink failed sink_failed (record { outside = o; sink = k }) (record { outside = n; sink = k })
+    → Frame disk plugin failed (record o { ambient = a }) n → CallsPass disk plugin sink failed sink_failed (record { outside = o; sink = k }) (record { outside = n; sink = k })
 passes_framed {D} {A} {P} {K} disk plugin sink failed sink_failed o n a k unsunk_so frame =
     let F : A → Type 0 = λ x. Frame disk plugin failed (record o { ambient = x }) n in
     record {
@@ -155,7 +155,7 @@ written_unsunk plugin w old new e s (inl ends) is = ends_unsunk w.end None old.m
 written_unsunk plugin w old new e s (inr f) is = ends_unsunk (named w.number w.mid) (Some f.slot) old.main new.main s e f.ends.ends is
 
 module _ {D A P : Type 0} (disk : D → DiskState) (ambient : A → AmbientState) (plugin : P → StoreState) (source : SourceState) (o n : Outside D A P) (last : ℕ) (from : SinkState) (server after_server : Server) (number : ℕ) (request : Request) (p : Putting) (plan : Plan) (drawn : Drawn)
-    (fits : Fits (disk o.main) server) (asks : AsksToPut server p request) (pp : PlansPut server.store.cat p drawn.word drawn.now number plan) (slots : server.store.cat.stores ≡ length o.stores.items) (sink_last : from.last ≤ o.moments)
+    (fits : FitsMain (disk o.main) server) (asks : AsksToPut server p request) (pp : PlansPut server.store.cat p drawn.word drawn.now number plan) (slots : server.store.cat.stores ≡ length o.stores.items) (sink_last : from.last ≤ o.moments)
     (sessions_same : after_server.sessions ≡ server.sessions) (drew : IsTrue (ambient n.ambient).tells → Drew drawn (ambient o.ambient) (ambient n.ambient)) (go : StoresGo plugin o.moments o.stores.items n.stores.items) where
   abbrev c : Cat
   c = server.store.cat
@@ -231,7 +231,7 @@ module _ {D A P : Type 0} (disk : D → DiskState) (ambient : A → AmbientState
     pub e : End
     pub g : Grid
     pub fin : Cat
-    pub behind : IsBehind c number (marked_done at g m e) fin
+    pub behind : IsLeftBehind c number (marked_done at g m e) fin
     pub keeps : KeepsUsers c fin
     pub told : (to : SinkState) → MarkTold old (new to) at c request g m e
 
@@ -281,11 +281,11 @@ module _ {D A P : Type 0} (disk : D → DiskState) (ambient : A → AmbientState
     pub cut : (e : Ending) → Obeys old (new from) server number request (Err e) after_server
     cut e = handled (cut_short old (new from) at c mid b.fin number request b.g b.m b.e (b.told from) pp.before b.behind sink_last leaves (rests_self from)) tt
 
-    module _ (k : IsKept b.fin (disk o.main) (disk n.main) after_server.store) (to : SinkState) (put : IsPut (marked_text number b.m b.e) n.moments from to) (drawn_more : o.moments ≤ n.moments) (main_last : (disk n.main).last ≤ n.moments) (tells : (disk n.main).tells ≡ (disk o.main).tells) where
+    module _ (k : IsKept b.fin (disk o.main) (disk n.main) after_server.store) (to : SinkState) (put : IsTextPut (marked_text number b.m b.e) n.moments from to) (drawn_more : o.moments ≤ n.moments) (main_last : (disk n.main).last ≤ n.moments) (tells : (disk n.main).tells ≡ (disk o.main).tells) where
       stands : IsTrue (disk o.main).tells → StandsFor (disk n.main).holds b.fin
       stands told = held_stands b.fin (disk n.main) after_server.store k.held (subst IsTrue (sym tells) told)
 
-      abbrev step : Step old (new to) at c number request
+      abbrev step : RequestStep old (new to) at c number request
       step = said old (new to) at c mid b.fin number request b.g b.m b.e (b.told to) pp.before b.behind sink_last leaves n.moments put drawn_more main_last stands k.settled
 
       state_new : record at { grid = b.g } ≡ state_of after_server
@@ -294,12 +294,12 @@ module _ {D A P : Type 0} (disk : D → DiskState) (ambient : A → AmbientState
           ∙ ap (λ (x : Places). state_by b.fin x) (sym sessions_same)
           ∙ ap (λ (x : Cat). state_by x after_server.sessions) (sym k.cat)
 
-      whole_step : (IsTrue from.tells → to.holds ≡ from.holds ++ marked_text number b.m b.e) → IsWhole old (new to) at c number request step after_server.store.cat (state_of after_server)
+      whole_step : (IsTrue from.tells → to.holds ≡ from.holds ++ marked_text number b.m b.e) → IsHandledWhole old (new to) at c number request step after_server.store.cat (state_of after_server)
       whole_step all =
-          let W : Cat → Type 0 = λ x. IsWhole old (new to) at c number request step x (state_of after_server) in
+          let W : Cat → Type 0 = λ x. IsHandledWhole old (new to) at c number request step x (state_of after_server) in
           subst W (sym k.cat) (whole old (new to) at c mid b.fin number request b.g b.m b.e (b.told to) pp.before b.behind sink_last leaves n.moments put drawn_more main_last stands k.settled (state_of after_server) state_new (ap grid_of (sym k.cat)) all)
 
-      fits_new : Fits (disk n.main) after_server
+      fits_new : FitsMain (disk n.main) after_server
       fits_new =
           let U : Places → Type 0 = λ x. AreUsers b.fin x in
           fits_on b.fin (disk o.main) (disk n.main) after_server k (b.behind.pending ∙ fits.pending) (b.behind.rules ∙ fits.rules) (subst U (sym sessions_same) (users_stay c b.fin server.sessions b.keeps fits.users))
@@ -325,7 +325,7 @@ module _ {D A P : Type 0} (disk : D → DiskState) (ambient : A → AmbientState
 
   module _ (to : SinkState) (drawn_more : o.moments ≤ n.moments) (main_last : (disk n.main).last ≤ n.moments) (tells : (disk n.main).tells ≡ (disk o.main).tells) where
     -- all was written
-    pub ran_then : IsWritten plugin writing kept_old kept_new (Ok None) after_server → IsPut (marked_text number ran well) n.moments from to → (r : Result ⊤ Ending) → PutEnds (marked_text number ran well) from to r → Obeys old (new to) server number request r after_server
+    pub ran_then : IsWritten plugin writing kept_old kept_new (Ok None) after_server → IsTextPut (marked_text number ran well) n.moments from to → (r : Result ⊤ Ending) → PutEnds (marked_text number ran well) from to r → Obeys old (new to) server number request r after_server
     ran_then (inl ends) put r put_ends = told_then ran_behind ends.leaves ends.ends.1 to put drawn_more main_last tells r put_ends
     ran_then (inr f) put r put_ends = absurd (none_some f.slot f.ends.ends.0)
       where
@@ -333,7 +333,7 @@ module _ {D A P : Type 0} (disk : D → DiskState) (ambient : A → AmbientState
         none_some s same = cc
 
     -- a store failed
-    pub failed_then : (slot : ℕ) → IsWritten plugin writing kept_old kept_new (Ok (Some slot)) after_server → IsPut (marked_text number (fault slot) (refused slot)) n.moments from to → (r : Result ⊤ Ending) → PutEnds (marked_text number (fault slot) (refused slot)) from to r
+    pub failed_then : (slot : ℕ) → IsWritten plugin writing kept_old kept_new (Ok (Some slot)) after_server → IsTextPut (marked_text number (fault slot) (refused slot)) n.moments from to → (r : Result ⊤ Ending) → PutEnds (marked_text number (fault slot) (refused slot)) from to r
         → Obeys old (new to) server number request r after_server
     failed_then slot (inl ends) put r put_ends = absurd (some_none slot ends.ends.0)
       where
@@ -341,7 +341,7 @@ module _ {D A P : Type 0} (disk : D → DiskState) (ambient : A → AmbientState
         some_none s same = cc
     failed_then slot (inr f) put r put_ends =
         let same : slot ≡ f.slot = cc in
-        let Q : ℕ → Type 0 = λ s. IsPut (marked_text number (fault s) (refused s)) n.moments from to in
+        let Q : ℕ → Type 0 = λ s. IsTextPut (marked_text number (fault s) (refused s)) n.moments from to in
         let R : ℕ → Type 0 = λ s. PutEnds (marked_text number (fault s) (refused s)) from to r in
         told_then (failed_behind f.slot f.among f.rose) f.ends.leaves f.ends.ends.1 to (subst Q same put) drawn_more main_last tells r (subst R same put_ends)
 

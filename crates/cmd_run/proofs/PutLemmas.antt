@@ -35,7 +35,7 @@ use Rattle.run_laws.specs.Steps.{IsLike}
 use Rattle.plan_object.specs.Writing.{Draws, Makes, Writes}
 use Rattle.cmd_run.specs.declared.putting.Putting.{Putting}
 use Rattle.cmd_run.specs.Keeps.{named}
-use Rattle.cmd_run.specs.Obeys.{Stays}
+use Rattle.cmd_run.specs.Obeys.{StaysBeside}
 use Rattle.cmd_run.specs.Puts.{operation_of, PlansPut, IsNamedPlan}
 use Rattle.cmd_run.proofs.ChangeLemmas.{grid_named, keeps_named}
 use Rattle.cmd_run.proofs.KeepLemmas.{apply_all-then, applied_last}
@@ -53,7 +53,7 @@ like_drawn c d files draws grid = record {
   keeps = record { rises = omega (arith, ap (λ (n : Numbers). n.next_vault) draws.numbers); names = draws.names };
 }
 
-stays_drawn : (c d : Cat) (files : ℕ) → Draws c files d → Stays c d
+stays_drawn : (c d : Cat) (files : ℕ) → Draws c files d → StaysBeside c d
 stays_drawn c d files draws = record {
   rules = draws.rules;
   stores = draws.stores;
@@ -105,7 +105,7 @@ module _ (c : Cat) (m : IsMade c) (p : Putting) (word now n : ℕ) (plan named_p
   some_end : 0 < e.numbers.next_vault
   some_end = some_vault e (made_more w.makes.is_plan.mid e plan.after (made_more c w.makes.is_plan.mid plan.before m w.makes.is_plan.first) w.makes.is_plan.then)
 
-  stays_named : Stays c (named n e)
+  stays_named : StaysBeside c (named n e)
   stays_named =
       let s = stays_drawn c e (length plan.files) w.makes.drawn in
       record { rules = s.rules; stores = s.stores; pending = s.pending; run = s.run; keeps = keeps_named n c e s.keeps }

@@ -23,9 +23,9 @@ use Rattle.grid_deed.specs.Deeds.{StandsOne}
 use Rattle.grid_headline.specs.Worlds.{World}
 use Rattle.grid_headline.specs.Files.{IsKnown}
 use Rattle.grid_headline.specs.Causes.{AreCaused}
-use Rattle.run_laws.specs.Steps.{Step, IsWhole, IsLike, IsBehind, Gave, IsToldOf, OneOf, not_kept, kept_so, kept}
+use Rattle.run_laws.specs.Steps.{RequestStep, IsHandledWhole, IsLike, IsLeftBehind, Gave, IsToldOf, OneOf, not_kept, kept_so, kept}
 use Rattle.run_laws.specs.Went.{Rests}
-use Rattle.cmd_run.specs.Answers.{IsPut}
+use Rattle.cmd_run.specs.Answers.{IsTextPut}
 use Rattle.cmd_run.proofs.GetSteps.{line_has_bytes}
 use Rattle.cmd_run.proofs.Resting.{like_self, none_of}
 use Rattle.cmd_run.proofs.SayLemmas.{put_left}
@@ -51,7 +51,7 @@ pub record MarkTold {B : Type 0} (old new : World B) (at : State) (c : Cat) (req
   pub caused : AreCaused old new (m ∷ [])
   pub gave : IsTrue new.ambient.tells → Gave (m ∷ []) old.ambient new.ambient
 
-module _ {B : Type 0} (old new : World B) (at : State) (c mid fin : Cat) (n : ℕ) (request : Request) (g : Grid) (m : Mark) (e : End) (t : MarkTold old new at c request g m e) (like : IsLike c mid) (behind : IsBehind c n (marked_done at g m e) fin) (sink_last : old.sink.last ≤ old.moments) where
+module _ {B : Type 0} (old new : World B) (at : State) (c mid fin : Cat) (n : ℕ) (request : Request) (g : Grid) (m : Mark) (e : End) (t : MarkTold old new at c request g m e) (like : IsLike c mid) (behind : IsLeftBehind c n (marked_done at g m e) fin) (sink_last : old.sink.last ≤ old.moments) where
   abbrev d : Done
   d = marked_done at g m e
 
@@ -85,7 +85,7 @@ module _ {B : Type 0} (old new : World B) (at : State) (c mid fin : Cat) (n : �
 
   abbrev pub step_of : (IsTrue old.sink.tells → AddsPart text old.sink.holds new.sink.holds)
       → (IsTrue old.main.tells → IsTrue old.sink.tells → IsSettled old.main → IsSettled old.sink → (t : ℕ) (main sink : Text) → old.moments < t → new.main.left t main → new.sink.left t sink → Image main sink)
-      → Step old new at c n request
+      → RequestStep old new at c n request
   step_of shown images = record {
     marks = m ∷ [];
     d = d;
@@ -104,15 +104,15 @@ module _ {B : Type 0} (old new : World B) (at : State) (c mid fin : Cat) (n : �
 
   module _ (leaves : IsTrue old.main.tells → IsSettled old.main → Leaves old.moments (StandsOne c mid fin) new.main) where
     -- nothing was put
-    pub cut_short : Rests old.sink new.sink → Step old new at c n request
+    pub cut_short : Rests old.sink new.sink → RequestStep old new at c n request
     cut_short rests = step_of
         (λ told. let Q : Text → Type 0 = λ x. AddsPart text old.sink.holds x in subst Q (sym (rests.holds told)) (none_of text old.sink.holds))
         (λ told sink_told settled sink_settled moment main sink late main_left sink_left. unsaid_image main sink (leaves told settled moment main late main_left) (sink_settled moment sink (omega (arith, late, sink_last)) (rests.left moment sink sink_left)))
 
     -- all was kept, and mark and end were put as the moment after so many
-    module _ (to : ℕ) (put : IsPut (marked_text n m e) to old.sink new.sink) (later : old.moments ≤ to) (main_last : new.main.last ≤ to) (stands : IsTrue old.main.tells → StandsFor new.main.holds fin) (settled_new : IsTrue old.main.tells → IsSettled new.main) where
-      pub line : IsPut text to old.sink new.sink
-      line = let Q : Text → Type 0 = λ x. IsPut x to old.sink new.sink in subst Q (sym text_is) put
+    module _ (to : ℕ) (put : IsTextPut (marked_text n m e) to old.sink new.sink) (later : old.moments ≤ to) (main_last : new.main.last ≤ to) (stands : IsTrue old.main.tells → StandsFor new.main.holds fin) (settled_new : IsTrue old.main.tells → IsSettled new.main) where
+      pub line : IsTextPut text to old.sink new.sink
+      line = let Q : Text → Type 0 = λ x. IsTextPut x to old.sink new.sink in subst Q (sym text_is) put
 
       pub images : IsTrue old.main.tells → IsTrue old.sink.tells → IsSettled old.main → IsSettled old.sink → (moment : ℕ) (main sink : Text) → old.moments < moment → new.main.left moment main → new.sink.left moment sink → Image main sink
       images told sink_told settled sink_settled moment main sink late main_left sink_left = by (cases_lt to moment)
@@ -123,10 +123,10 @@ module _ {B : Type 0} (old new : World B) (at : State) (c mid fin : Cat) (n : �
               inr (subst Q (sym (settled_new told moment main (omega (arith, now, main_last)) main_left)) (stands told), put_left text to moment old.sink new.sink sink line sink_told sink_settled (omega (arith, sink_last, later)) now sink_left)
           by (inr before) = unsaid_image main sink (leaves told settled moment main late main_left) (sink_settled moment sink (omega (arith, late, sink_last)) ((line.acts.earlier moment sink (omega (arith, before))).0 sink_left))
 
-      abbrev pub said : Step old new at c n request
+      abbrev pub said : RequestStep old new at c n request
       said = step_of (λ told. line.acts.holds told) images
 
-      pub whole : (end : State) → (record at { grid = g }) ≡ end → grid_of fin ≡ end.grid → (IsTrue old.sink.tells → new.sink.holds ≡ old.sink.holds ++ marked_text n m e) → IsWhole old new at c n request said fin end
+      pub whole : (end : State) → (record at { grid = g }) ≡ end → grid_of fin ≡ end.grid → (IsTrue old.sink.tells → new.sink.holds ≡ old.sink.holds ++ marked_text n m e) → IsHandledWhole old new at c n request said fin end
       whole end state grid all = record {
         state = state;
         grid = grid;

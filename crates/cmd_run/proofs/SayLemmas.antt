@@ -14,7 +14,7 @@ use Rattle.grid_model.specs.Names.{Text}
 use Rattle.grid_model.specs.Grid.{Grid}
 use Rattle.grid_model.specs.Rows.{Cat}
 use Rattle.grid_model.specs.RowGrids.{grid_of}
-use Rattle.grid_model.specs.Replies.{end_line, rest_lines}
+use Rattle.grid_model.specs.Replies.{rest_lines}
 use Rattle.grid_model.specs.ReplyTexts.{ArePieces, reply_text}
 use Rattle.grid_model.specs.Runs.{Request}
 use Rattle.grid_model.specs.Sessions.{State}
@@ -28,14 +28,14 @@ use Rattle.grid_deed.specs.Held.{IsHeld}
 use Rattle.grid_deed.proofs.Keeping.{held_stands}
 use Rattle.grid_headline.specs.Worlds.{World}
 use Rattle.grid_headline.specs.Files.{IsKnown}
-use Rattle.run_laws.specs.Steps.{Step, IsWhole, IsQuiet, OneOf, kept_so, nothing}
+use Rattle.run_laws.specs.Steps.{RequestStep, IsHandledWhole, IsQuiet, OneOf, kept_so, nothing}
 use Rattle.cmd_run.specs.declared.server.Server.{Server}
 use Rattle.cmd_run.specs.declared.server.Ending.{Ending}
 use Rattle.cmd_run.specs.declared.server.Ending.TheVariants as ending
 use Rattle.cmd_run.specs.Around.{around}
-use Rattle.cmd_run.specs.Answers.{IsPut, PutEnds}
-use Rattle.cmd_run.specs.Fits.{state_of, Fits}
-use Rattle.cmd_run.specs.Obeys.{Obeys, ObeyEnds, SaysOnly, handled, quiet}
+use Rattle.cmd_run.specs.Answers.{IsTextPut, PutEnds, shown_lines}
+use Rattle.cmd_run.specs.Fits.{state_of, FitsMain}
+use Rattle.cmd_run.specs.Obeys.{Obeys, ObeyEnds, SaysRows, handled, quiet}
 use Rattle.cmd_run.proofs.Resting.{like_self, gave_none, gave_same, caused_same, stands_still}
 
 -- ---- what was put of a text
@@ -45,7 +45,7 @@ pub part_of_all : (text old new : Text) → new ≡ old ++ text → AddsPart tex
 part_of_all text old new is = record { count = length text; within = omega arith; is = is ∙ ap (λ (t : Text). old ++ t) (sym (take_all (length text) text (omega arith))) }
 
 -- what a stop leaves of the sink
-pub put_left : (text : Text) (from t : ℕ) (old new : SinkState) (image : Text) → IsPut text from old new → IsTrue old.tells → IsSettled old → old.last ≤ from → from < t → new.left t image → AddsPart text old.holds image
+pub put_left : (text : Text) (from t : ℕ) (old new : SinkState) (image : Text) → IsTextPut text from old new → IsTrue old.tells → IsSettled old → old.last ≤ from → from < t → new.left t image → AddsPart text old.holds image
 put_left text from t old new image put told settled last late left =
     let step = put.acts.images told t image (omega (arith, late)) left in
     let P : Text → Type 0 = λ x. AddsPart text x image in
@@ -53,8 +53,8 @@ put_left text from t old new image put told settled last late left =
 
 -- ---- the request
 
-module _ {D A P : Type 0} (disk : D → DiskState) (ambient : A → AmbientState) (plugin : P → StoreState) (source : SourceState) (o n : Outside D A P) (from to : SinkState) (before after : Server) (number : ℕ) (request : Request) (e : End)
-    (main_same : n.main ≡ o.main) (ambient_same : n.ambient ≡ o.ambient) (stores_same : n.stores ≡ o.stores) (store_same : before.store ≡ after.store) (fits : Fits (disk o.main) after) (main_last : (disk o.main).last ≤ o.moments) (sink_last : from.last ≤ o.moments) where
+module _ {D A P : Type 0} (disk : D → DiskState) (ambient : A → AmbientState) (plugin : P → StoreState) (source : SourceState) (o n : Outside D A P) (from to : SinkState) (before after : Server) (number : ℕ) (request : Request)
+    (rows : List (List Text)) (e : End) (main_same : n.main ≡ o.main) (ambient_same : n.ambient ≡ o.ambient) (stores_same : n.stores ≡ o.stores) (store_same : before.store ≡ after.store) (fits : FitsMain (disk o.main) after) (main_last : (disk o.main).last ≤ o.moments) (sink_last : from.last ≤ o.moments) where
   abbrev pub old : World P
   old = around disk ambient plugin o from source
 
@@ -64,14 +64,14 @@ module _ {D A P : Type 0} (disk : D → DiskState) (ambient : A → AmbientState
   stood : IsTrue (disk o.main).tells → StandsFor (disk o.main).holds before.store.cat
   stood told = let S : _ → Type 0 = λ s. StandsFor (disk o.main).holds s.cat in subst S (sym store_same) (held_stands after.store.cat (disk o.main) after.store fits.held told)
 
-  module _ (s : SaysOnly (state_of before) request e (state_of after)) where
+  module _ (s : SaysRows (state_of before) request rows e (state_of after)) where
     pub marks_none : s.d.reply.marks ≡ []
     marks_none = ap (λ (r : Reply). r.marks) s.reply_is
 
     abbrev pub text : Text
     text = reply_text number s.d.reply []
 
-    pub text_is : text ≡ end_line number e
+    pub text_is : text ≡ shown_lines number rows e
     text_is = ap (λ (r : Reply). reply_text number r []) s.reply_is
 
     pub pieces_are : ArePieces (IsKnown old before.store.cat) number s.d.sent 0 s.d.reply.marks []
@@ -85,9 +85,9 @@ module _ {D A P : Type 0} (disk : D → DiskState) (ambient : A → AmbientState
     image_of t main sink told settled late main_left part =
         kept_so before.store.cat (nothing refl marks_none s.grid) (stands_still disk o.main n.main before.store.cat o.moments t main main_same main_last late settled (stood told) main_left) part
 
-    abbrev pub step_of : IsPut (end_line number e) o.moments from to → Step old new (state_of before) before.store.cat number request
+    abbrev pub step_of : IsTextPut (shown_lines number rows e) o.moments from to → RequestStep old new (state_of before) before.store.cat number request
     step_of put_line =
-        let put : IsPut text o.moments from to = (let Q : Text → Type 0 = λ t. IsPut t o.moments from to in subst Q (sym text_is) put_line) in
+        let put : IsTextPut text o.moments from to = (let Q : Text → Type 0 = λ t. IsTextPut t o.moments from to in subst Q (sym text_is) put_line) in
         record {
           marks = [];
           d = s.d;
@@ -105,10 +105,10 @@ module _ {D A P : Type 0} (disk : D → DiskState) (ambient : A → AmbientState
               image_of t main sink told settled late main_left (put_left text o.moments t from to sink put sink_told sink_settled sink_last late sink_left);
         }
 
-    pub fits_still : Fits (disk n.main) after
-    fits_still = let F : D → Type 0 = λ m. Fits (disk m) after in subst F (sym main_same) fits
+    pub fits_still : FitsMain (disk n.main) after
+    fits_still = let F : D → Type 0 = λ m. FitsMain (disk m) after in subst F (sym main_same) fits
 
-    pub whole_of : (put : IsPut (end_line number e) o.moments from to) → (IsTrue from.tells → to.holds ≡ from.holds ++ end_line number e) → IsWhole old new (state_of before) before.store.cat number request (step_of put) after.store.cat (state_of after)
+    pub whole_of : (put : IsTextPut (shown_lines number rows e) o.moments from to) → (IsTrue from.tells → to.holds ≡ from.holds ++ shown_lines number rows e) → IsHandledWhole old new (state_of before) before.store.cat number request (step_of put) after.store.cat (state_of after)
     whole_of put all = record {
       state = s.state;
       grid = refl;
@@ -119,7 +119,7 @@ module _ {D A P : Type 0} (disk : D → DiskState) (ambient : A → AmbientState
       sink_settled = λ told settled. put.settled told;
     }
 
-    pub said_so : (result : Result ⊤ Ending) → IsPut (end_line number e) o.moments from to → PutEnds (end_line number e) from to result → Obeys old new before number request result after
+    pub said_so : (result : Result ⊤ Ending) → IsTextPut (shown_lines number rows e) o.moments from to → PutEnds (shown_lines number rows e) from to result → Obeys old new before number request result after
     said_so (Ok done) put ends = handled (step_of put) (whole_of put ends, fits_still)
     said_so (Err x) put ends = handled (step_of put) tt
 

@@ -12,7 +12,7 @@ use Rattle.grid_model.specs.RowGrids.{grid_of, user_name}
 use Rattle.grid_model.specs.Applying.{IsMade, is_leaf, is_storage, slot_fits}
 use Rattle.grid_model.specs.Doing.{Course}
 use Rattle.grid_model.specs.Completing.{IsOfGrid}
-use Rattle.grid_model.specs.Operations.Table.{Operation, row, put}
+use Rattle.grid_model.specs.Operations.Table.{Operation, row, mkuser, mkgroup, mkdir, rmdir, mv, chmod, inherit, addmember, rmmember, put}
 use Rattle.grid_model.specs.Orders.{Order, works}
 use Rattle.grid_model.specs.declared.requests.Request as model
 use Rattle.grid_model.specs.declared.grid.Mode.{Mode}
@@ -20,7 +20,8 @@ use Rattle.grid_model.specs.declared.grid.Mode.TheVariants.{New}
 use Rattle.grid_model.specs.declared.requests.Verb.{Verb}
 use Rattle.grid_model.specs.declared.requests.Verb.TheVariants as verb
 use Rattle.grid_headline.specs.Reads.{is_built}
-use Rattle.cmd_run.specs.Asking.{AsksFor, Orders, PutOf}
+use Rattle.cmd_run.specs.Operating.{operation_by, AsksBy}
+use Rattle.cmd_run.specs.Asking.{AsksForRequest, MeansHeld, PutOf}
 use Rattle.cmd_run.specs.Puts.{AsksToPut}
 use Rattle.cmd_run.specs.declared.working.PutLine.{PutLine}
 use Rattle.grid_model.specs.Runs.{Request}
@@ -48,7 +49,7 @@ use Rattle.sess.proofs.PlacesLemmas.{sessions_of-user}
 use Rattle.cmd_run.specs.declared.server.Server.{Server}
 use Rattle.cmd_run.specs.Fits.{state_of}
 use Rattle.cmd_run.specs.Keeps.{IsChange}
-use Rattle.cmd_run.specs.Obeys.{SaysOnly, Changes}
+use Rattle.cmd_run.specs.Obeys.{SaysOnly, ChangesGrid}
 use Rattle.cmd_run.proofs.Operating.{with_login, too_much, not_too_much, refused_so, changed_so, refused_work, changed_work}
 
 module _ (s : Server) (session user : ℕ) (has : user_of (at s.sessions session) ≡ Some user) where
@@ -96,7 +97,7 @@ module _ (s : Server) (session user : ℕ) (has : user_of (at s.sessions session
     }
 
     -- it changes rows
-    pub changes_of : (deltas : List Delta) (p : plans.Changes c name op deltas) → words_of (grid_of c) name op ≡ [] → Changes now c (Ok (session, works op count)) p.after
+    pub changes_of : (deltas : List Delta) (p : plans.Changes c name op deltas) → words_of (grid_of c) name op ≡ [] → ChangesGrid now c (Ok (session, works op count)) p.after
     changes_of deltas p silent = record {
       d = changed_work now refl name op (grid_of p.after);
       does_so = with_login now session (works op count) [] who login ∙ not_too_much now who op count from small ∙ changed_so now refl name op (grid_of p.after) p.row_is;
@@ -113,64 +114,50 @@ module _ (s : Server) (session user : ℕ) (has : user_of (at s.sessions session
     }
 
 pub is_change : (c : Cat) (name : Text) (op : Operation) (deltas : List Delta) (p : plans.Changes c name op deltas) → IsChange c deltas p.after
-is_change c name op deltas p = record { applied = p.applied; spelled = p.spelled; turns = p.turns; numbers = p.numbers }
+is_change c name op deltas p = record { applied = p.applied; spelled = p.spelled; turns = p.turns; numbers = p.numbers; pending = p.pending }
 
 -- ---- what was read
 
 -- what it asks for, where its verb is known
-pub verb_asks : (asked : Result model.Request Refusal) (body : Text) (request : Request) (r : model.Request) (v : Verb) → asked ≡ Ok r → r.verb ≡ v → AsksFor asked body request
-    → MatchBool (is_built v) ((order : Order) × (request ≡ Ok (r.session, order)) × Orders v body order) (request ≡ Err refusal.UnknownCommand)
-verb_asks asked body request r v is verb_is asks =
-    let A : Result model.Request Refusal → Type 0 = λ a. AsksFor a body request in
-    let V : Verb → Type 0 = λ x. MatchBool (is_built x) ((order : Order) × (request ≡ Ok (r.session, order)) × Orders x body order) (request ≡ Err refusal.UnknownCommand) in
+pub verb_asks : (at : State) (asked : Result model.Request Refusal) (body : Text) (request : Request) (r : model.Request) (v : Verb) → asked ≡ Ok r → r.verb ≡ v → AsksForRequest at asked body request
+    → MatchBool (is_built v) ((order : Order) × (request ≡ Ok (r.session, order)) × MeansHeld at v body order) (request ≡ Err refusal.UnknownCommand)
+verb_asks at asked body request r v is verb_is asks =
+    let A : Result model.Request Refusal → Type 0 = λ a. AsksForRequest at a body request in
+    let V : Verb → Type 0 = λ x. MatchBool (is_built x) ((order : Order) × (request ≡ Ok (r.session, order)) × MeansHeld at x body order) (request ≡ Err refusal.UnknownCommand) in
     subst V verb_is (subst A is asks)
 
--- a verb that is none of those that are built
-pub unbuilt : (v : Verb) → ((u : Text) → v ≡ verb.Login u → ⊥) → (v ≡ verb.Logout → ⊥) → (v ≡ verb.Quit → ⊥) → ((p : Path) → v ≡ verb.MkDir p → ⊥)
-    → ((p : Path) (r : Text) (m : Mode) (n : ℕ) → v ≡ verb.Put p r m n → ⊥) → ((p : Path) (r : Option Text) → v ≡ verb.Get p r → ⊥) → is_built v ≡ false
-unbuilt (verb.Login a) n0 n1 n2 n3 n4 n5 = absurd (n0 a refl)
-unbuilt verb.Logout n0 n1 n2 n3 n4 n5 = absurd (n1 refl)
-unbuilt verb.Quit n0 n1 n2 n3 n4 n5 = absurd (n2 refl)
-unbuilt (verb.MkUser a b) n0 n1 n2 n3 n4 n5 = refl
-unbuilt (verb.MkGroup a) n0 n1 n2 n3 n4 n5 = refl
-unbuilt (verb.AddMember a b) n0 n1 n2 n3 n4 n5 = refl
-unbuilt (verb.RmMember a b) n0 n1 n2 n3 n4 n5 = refl
-unbuilt (verb.MkStorage a b) n0 n1 n2 n3 n4 n5 = refl
-unbuilt (verb.MkCoordinating a b) n0 n1 n2 n3 n4 n5 = refl
-unbuilt (verb.AddChild a b) n0 n1 n2 n3 n4 n5 = refl
-unbuilt (verb.ModResc a b) n0 n1 n2 n3 n4 n5 = refl
-unbuilt (verb.Rules a) n0 n1 n2 n3 n4 n5 = refl
-unbuilt verb.ShowRules n0 n1 n2 n3 n4 n5 = refl
-unbuilt verb.Sweep n0 n1 n2 n3 n4 n5 = refl
-unbuilt (verb.MkDir a) n0 n1 n2 n3 n4 n5 = absurd (n3 a refl)
-unbuilt (verb.RmDir a) n0 n1 n2 n3 n4 n5 = refl
-unbuilt (verb.Mv a b) n0 n1 n2 n3 n4 n5 = refl
-unbuilt (verb.Ls a) n0 n1 n2 n3 n4 n5 = refl
-unbuilt (verb.ChMod a b c) n0 n1 n2 n3 n4 n5 = refl
-unbuilt (verb.Inherit a) n0 n1 n2 n3 n4 n5 = refl
-unbuilt (verb.NoInherit a) n0 n1 n2 n3 n4 n5 = refl
-unbuilt (verb.Put a b c d) n0 n1 n2 n3 n4 n5 = absurd (n4 a b c d refl)
-unbuilt (verb.Open a b c) n0 n1 n2 n3 n4 n5 = refl
-unbuilt (verb.Part a) n0 n1 n2 n3 n4 n5 = refl
-unbuilt verb.Close n0 n1 n2 n3 n4 n5 = refl
-unbuilt verb.Abort n0 n1 n2 n3 n4 n5 = refl
-unbuilt (verb.Get a b) n0 n1 n2 n3 n4 n5 = absurd (n5 a b refl)
-unbuilt (verb.Repl a b) n0 n1 n2 n3 n4 n5 = refl
-unbuilt (verb.ChkSum a) n0 n1 n2 n3 n4 n5 = refl
-unbuilt (verb.Trim a b) n0 n1 n2 n3 n4 n5 = refl
-unbuilt (verb.Rm a) n0 n1 n2 n3 n4 n5 = refl
-unbuilt (verb.AddMeta a b c d e) n0 n1 n2 n3 n4 n5 = refl
-unbuilt (verb.RmMeta a b c d e) n0 n1 n2 n3 n4 n5 = refl
-unbuilt (verb.LsMeta a b) n0 n1 n2 n3 n4 n5 = refl
-unbuilt (verb.Query a) n0 n1 n2 n3 n4 n5 = refl
-unbuilt (verb.Exec a) n0 n1 n2 n3 n4 n5 = refl
+-- what one asks for that is none of these: an operation that changes rows alone, or what is unknown
+pub asks_other : (at : State) (asked : Result model.Request Refusal) (body : Text) (request : Request) (r : model.Request) → asked ≡ Ok r
+    → ((u : Text) → r.verb ≡ verb.Login u → ⊥) → (r.verb ≡ verb.Logout → ⊥) → (r.verb ≡ verb.Quit → ⊥)
+    → ((p : Path) → r.verb ≡ verb.Ls p → ⊥) → ((p : Path) (o : Text) (m : Mode) (n : ℕ) → r.verb ≡ verb.Put p o m n → ⊥)
+    → ((p : Path) (o : Option Text) → r.verb ≡ verb.Get p o → ⊥) → AsksForRequest at asked body request → AsksBy r.session (operation_by r.verb) request
+asks_other at asked body request r is no_login no_logout no_quit no_ls no_put no_get asks = by r.verb no_login no_logout no_quit no_ls no_put no_get (verb_asks at asked body request r r.verb is refl asks)
+  where
+    worked : (o order : Order) → request ≡ Ok (r.session, order) → order ≡ o → request ≡ Ok (r.session, o)
+    worked o order its same = its ∙ ap (λ (x : Order). Ok (r.session, x)) same
 
--- and asks for what is unknown
-pub unknown_asks : (asked : Result model.Request Refusal) (body : Text) (request : Request) (r : model.Request) → asked ≡ Ok r → is_built r.verb ≡ false → AsksFor asked body request → request ≡ Err refusal.UnknownCommand
-unknown_asks asked body request r is unknown asks =
-    let A : Result model.Request Refusal → Type 0 = λ a. AsksFor a body request in
-    let B : Bool → Type 0 = λ b. MatchBool b ((order : Order) × (request ≡ Ok (r.session, order)) × Orders r.verb body order) (request ≡ Err refusal.UnknownCommand) in
-    subst B unknown (subst A is asks)
+    by : (v : Verb) → ((u : Text) → v ≡ verb.Login u → ⊥) → (v ≡ verb.Logout → ⊥) → (v ≡ verb.Quit → ⊥)
+        → ((p : Path) → v ≡ verb.Ls p → ⊥) → ((p : Path) (o : Text) (m : Mode) (n : ℕ) → v ≡ verb.Put p o m n → ⊥)
+        → ((p : Path) (o : Option Text) → v ≡ verb.Get p o → ⊥)
+        → MatchBool (is_built v) ((order : Order) × (request ≡ Ok (r.session, order)) × MeansHeld at v body order) (request ≡ Err refusal.UnknownCommand)
+        → AsksBy r.session (operation_by v) request
+    by (verb.Login u) n0 n1 n2 nl n3 n4 its = absurd (n0 u refl)
+    by verb.Logout n0 n1 n2 nl n3 n4 its = absurd (n1 refl)
+    by verb.Quit n0 n1 n2 nl n3 n4 its = absurd (n2 refl)
+    by (verb.Ls p) n0 n1 n2 nl n3 n4 its = absurd (nl p refl)
+    by (verb.Put p o m n) n0 n1 n2 nl n3 n4 its = absurd (n3 p o m n refl)
+    by (verb.Get p o) n0 n1 n2 nl n3 n4 its = absurd (n4 p o refl)
+    by (verb.MkUser name kind) n0 n1 n2 nl n3 n4 its = worked (works (mkuser name kind) 0) its.0 its.1 its.2.1
+    by (verb.MkGroup name) n0 n1 n2 nl n3 n4 its = worked (works (mkgroup name) 0) its.0 its.1 its.2.1
+    by (verb.RmDir path) n0 n1 n2 nl n3 n4 its = worked (works (rmdir path) 0) its.0 its.1 its.2.1
+    by (verb.AddMember group user) n0 n1 n2 nl n3 n4 its = worked (works (addmember group user) 0) its.0 its.1 its.2.1
+    by (verb.RmMember group user) n0 n1 n2 nl n3 n4 its = worked (works (rmmember group user) 0) its.0 its.1 its.2.1
+    by (verb.MkDir path) n0 n1 n2 nl n3 n4 its = worked (works (mkdir path) 0) its.0 its.1 its.2.1
+    by (verb.Mv from to) n0 n1 n2 nl n3 n4 its = worked (works (mv from to) 0) its.0 its.1 its.2.1
+    by (verb.ChMod level name path) n0 n1 n2 nl n3 n4 its = worked (works (chmod level name path) 0) its.0 its.1 its.2.1
+    by (verb.Inherit path) n0 n1 n2 nl n3 n4 its = worked (works (inherit path true) 0) its.0 its.1 its.2.1
+    by (verb.NoInherit path) n0 n1 n2 nl n3 n4 its = worked (works (inherit path false) 0) its.0 its.1 its.2.1
+    by other n0 n1 n2 nl n3 n4 its = its
 
 -- ---- a put
 

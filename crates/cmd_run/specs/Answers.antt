@@ -1,14 +1,16 @@
 -- What is put on the sink.
-use Rattle.std.specs.Prelude.{◌≡◌, ℕ, ◌+◌, ◌≤◌, List, [], ◌++◌, Result, Ok, Err, IsTrue, ⊤}
+use Rattle.std.specs.Prelude.{◌≡◌, ℕ, ◌+◌, ◌≤◌, List, [], ◌++◌, Result, Ok, Err, IsTrue, flat_map, ⊤}
 use Rattle.grid_outside.specs.Device.{Acts, IsSettled}
 use Rattle.grid_outside.specs.Fault.{Rose}
 use Rattle.grid_outside.specs.Sink.{SinkState, AddsPart}
 use Rattle.grid_model.specs.Names.{Text}
+use Rattle.grid_model.specs.Replies.{row_line, end_line}
+use Rattle.grid_model.specs.declared.replies.End.{End}
 use Rattle.cmd_run.specs.declared.server.Ending.{Ending}
 use Rattle.cmd_run.specs.declared.server.Ending.TheVariants.{Disk, Sink, Memory, Worn}
 
 -- The text was put on the sink as the next moment after so many, in whole or in part.
-pub record IsPut (text : Text) (from : ℕ) (old new : SinkState) : Type 0 where
+pub record IsTextPut (text : Text) (from : ℕ) (old new : SinkState) : Type 0 where
   pub acts : Acts (from + 1) (AddsPart text) old new
   pub settled : IsTrue old.tells → IsSettled new
   pub later : old.faults ≤ new.faults
@@ -18,3 +20,7 @@ abbrev pub PutEnds : Text → SinkState → SinkState → Result ⊤ Ending → 
 PutEnds text old new (Ok done) = IsTrue old.tells → new.holds ≡ old.holds ++ text
 PutEnds text old new (Err Sink) = Rose old.faults new.faults
 PutEnds text old new (Err other) = ⊥
+
+-- rows, and an end behind them
+abbrev pub shown_lines : ℕ → List (List Text) → End → Text
+shown_lines n rows e = flat_map (row_line n) rows ++ end_line n e

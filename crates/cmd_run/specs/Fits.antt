@@ -22,7 +22,7 @@ abbrev pub AreUsers : Cat → Places → Type 0
 AreUsers c places = (n id : ℕ) → user_of (at places n) ≡ Some id → IsTrue (is_user c id)
 
 -- Memory has the rows that main has, with nothing staged; no command is pending, there are no rules, and who is logged in is there.
-pub record Fits (main : DiskState) (s : Server) : Type 0 where
+pub record FitsMain (main : DiskState) (s : Server) : Type 0 where
   pub held : IsHeld s.store.cat main s.store
   pub staged : s.store.staged ≡ []
   pub pending : s.store.cat.pending ≡ None

@@ -32,9 +32,11 @@ pub record IsKeptSo (kept after : Cat) (from : ℕ) (main_old main_new : DiskSta
   pub ends : KeepEnds kept after main_old main_new result new
   pub leaves : IsTrue main_old.tells → IsSettled main_old → Leaves from (StandsEither kept after) main_new
 
--- The changes lead from the one catalogue to the other, may be kept, and name the same files, and they change no number.
+-- The changes lead from the one catalogue to the other, may be kept, and name the same files; they change no number and no pending
+-- command.
 pub record IsChange (c : Cat) (deltas : List Delta) (after : Cat) : Type 0 where
   pub applied : apply_all c deltas ≡ Ok after
   pub spelled : IsTrue (list_all can_be_kept deltas)
   pub turns : Turns [] [] c after
   pub numbers : after.numbers ≡ c.numbers
+  pub pending : after.pending ≡ c.pending

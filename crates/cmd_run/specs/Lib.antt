@@ -7,6 +7,7 @@ pub mod Gets
 pub mod Keeps
 pub mod Logins
 pub mod Obeys
+pub mod Operating
 pub mod Passes
 pub mod Puts
 pub mod Writes

@@ -1,69 +1,91 @@
 -- What the handling of one request leaves.
-use Rattle.std.specs.Prelude.{◌≡◌, ℕ, ◌^◌, ◌<◌, [], Result, Ok, Err, IsTrue, ⊤}
+use Rattle.std.specs.Prelude.{◌≡◌, ℕ, ◌^◌, ◌<◌, List, [], Result, Ok, Err, IsTrue, ⊤}
+use Rattle.grid_outside.specs.Device.{IsSettled}
+use Rattle.grid_outside.specs.Disk.{DiskState}
 use Rattle.grid_outside.specs.declared.outside.Wear.{Wear}
 use Rattle.grid_outside.specs.declared.outside.Wear.TheVariants as wear
+use Rattle.grid_model.specs.Names.{Text}
 use Rattle.grid_model.specs.Rows.{Cat}
 use Rattle.grid_model.specs.Meanings.{gives}
 use Rattle.grid_model.specs.Sessions.{State}
-use Rattle.grid_model.specs.Orders.{works}
-use Rattle.grid_model.specs.Operations.Table.{put}
 use Rattle.grid_model.specs.Working.{Done}
 use Rattle.grid_model.specs.Completing.{EndsByRows}
 use Rattle.grid_model.specs.Runs.{Request, does}
 use Rattle.grid_model.specs.RowGrids.{grid_of}
+use Rattle.grid_model.specs.declared.refusal.Refusal.{Refusal}
 use Rattle.grid_model.specs.declared.replies.End.{End}
 use Rattle.grid_model.specs.declared.replies.End.TheVariants as end
 use Rattle.grid_deed.specs.Held.{ClosesAt}
 use Rattle.grid_journal.specs.Stands.{StandsFor}
+use Rattle.grid_headline.specs.Files.{NamesCall, KeepsNamed}
 use Rattle.grid_headline.specs.Worlds.{World}
 use Rattle.grid_headline.specs.Numbers.{KeepsNumbers, last_vault}
-use Rattle.run_laws.specs.Steps.{Step, IsWhole, IsQuiet}
-use Rattle.cmd_run.specs.Fits.{state_of, Fits}
+use Rattle.run_laws.specs.Ends.{MakesFile}
+use Rattle.run_laws.specs.Steps.{RequestStep, IsHandledWhole, IsQuiet}
+use Rattle.cmd_run.specs.Fits.{state_of, FitsMain}
 use Rattle.cmd_run.specs.declared.server.Server.{Server}
 use Rattle.cmd_run.specs.declared.server.Ending.{Ending}
 use Rattle.cmd_run.specs.declared.server.Ending.TheVariants.{Worn}
 
 -- how it ended: it was handled whole, or the run ends in it
-abbrev pub ObeyEnds : {B : Type 0} (old new : World B) (before : Server) (n : ℕ) (request : Request) → Step old new (state_of before) before.store.cat n request
+abbrev pub ObeyEnds : {B : Type 0} (old new : World B) (before : Server) (n : ℕ) (request : Request)
+    → RequestStep old new (state_of before) before.store.cat n request
     → Result ⊤ Ending → Server → Type 0
 ObeyEnds old new before n request step (Ok done) after =
-    IsWhole old new (state_of before) before.store.cat n request step after.store.cat (state_of after) × Fits new.main after
+    IsHandledWhole old new (state_of before) before.store.cat n request step after.store.cat (state_of after) × FitsMain new.main after
 ObeyEnds old new before n request step (Err ending) after = Unit {0}
 
 -- The request of this number was handled, or how far that came; or nothing is seen of it.
 pub data Obeys {B : Type 0} (old new : World B) (before : Server) (n : ℕ) (request : Request) (result : Result ⊤ Ending) (after : Server) : Type 0 where
-  handled : (step : Step old new (state_of before) before.store.cat n request) → ObeyEnds old new before n request step result after
+  handled : (step : RequestStep old new (state_of before) before.store.cat n request) → ObeyEnds old new before n request step result after
       → Obeys old new before n request result after
   quiet : (ending : Ending) → result ≡ Err ending → IsQuiet old new before.store.cat → Obeys old new before n request result after
 
--- the request puts a body
-abbrev pub Puts : Request → Type 0
-Puts (Ok (session, works (put p r mode body) count)) = Unit {0}
-Puts other = ⊥
+-- A catalogue that main stands for at a moment after so many names what one row of this one named, and the call of a pending command.
+abbrev pub Remembers : Cat → ℕ → DiskState → DiskState → Type 0
+Remembers before from old new = IsTrue old.tells → IsSettled old → (t : ℕ) (main : Text) (c : Cat)
+    → from < t → new.left t main → StandsFor main c → NamesCall c.pending × KeepsNamed before c
 
--- what has run out: the numbers of vault files, before a body was put, or the room behind the log
+-- the request makes files
+abbrev pub AsksForFile : Request → Type 0
+AsksForFile (Ok (session, order)) = MakesFile order
+AsksForFile (Err r) = ⊥
+
+-- what has run out: the numbers of vault files, before a file was made, or the room behind the log
 abbrev pub IsWornAt : {B : Type 0} → World B → Server → Request → ℕ → Wear → Type 0
 IsWornAt new before request place wear.Runs = ⊥
 IsWornAt new before request place wear.Vaults =
-    (place ≡ before.store.cat.numbers.next_vault) × (last_vault < place) × (IsTrue new.main.tells → StandsFor new.main.holds before.store.cat) × Puts request
+    (place ≡ before.store.cat.numbers.next_vault) × (last_vault < place) × (IsTrue new.main.tells → StandsFor new.main.holds before.store.cat)
+    × AsksForFile request
 IsWornAt new before request place wear.Log = (2 ^ 62 < place) × (IsTrue new.main.tells → ClosesAt new.main.holds place)
 
 -- a run that ended for that has run out of it
 abbrev pub IsWorn : {B : Type 0} → World B → Server → Request → Result ⊤ Ending → Type 0
 IsWorn new before request result = (what : Wear) (place : ℕ) → result ≡ Err (Worn what place) → IsWornAt new before request place what
 
--- A request is answered with this end alone, and leaves this state with the same grid.
-pub record SaysOnly (at : State) (request : Request) (e : End) (after : State) : Type 0 where
+-- A request is refused without a mark.
+pub record IsRefusedAtOnce (at : State) (request : Request) : Type 0 where
+  pub d : Done
+  pub why : Refusal
+  pub does_so : does at request [] ≡ gives d
+  pub reply_is : d.reply ≡ record { marks = []; shown = []; passed = []; rows = []; end = end.Refused why }
+
+-- A request is answered with these rows and this end alone, and leaves this state with the same grid.
+pub record SaysRows (at : State) (request : Request) (rows : List (List Text)) (e : End) (after : State) : Type 0 where
   pub d : Done
   pub does_so : does at request [] ≡ gives d
-  pub reply_is : d.reply ≡ record { marks = []; shown = []; passed = []; rows = []; end = e }
+  pub reply_is : d.reply ≡ record { marks = []; shown = []; passed = []; rows = rows; end = e }
   pub all : d.left ≡ []
   pub state : d.state ≡ after
   pub grid : d.state.grid ≡ at.grid
   pub by_rows : EndsByRows e
 
+-- the same without rows
+abbrev pub SaysOnly : State → Request → End → State → Type 0
+SaysOnly at request e after = SaysRows at request [] e after
+
 -- What rows have beside the grid is as it was, and no file is named by a number that was given before but as it was named then.
-pub record Stays (before after : Cat) : Type 0 where
+pub record StaysBeside (before after : Cat) : Type 0 where
   pub rules : after.rules ≡ before.rules
   pub stores : after.stores ≡ before.stores
   pub pending : after.pending ≡ before.pending
@@ -71,10 +93,10 @@ pub record Stays (before after : Cat) : Type 0 where
   pub keeps : KeepsNumbers before after
 
 -- A request without a deed is answered ok, and makes of the grid what these rows stand for.
-pub record Changes (at : State) (before : Cat) (request : Request) (after : Cat) : Type 0 where
+pub record ChangesGrid (at : State) (before : Cat) (request : Request) (after : Cat) : Type 0 where
   pub d : Done
   pub does_so : does at request [] ≡ gives d
   pub reply_is : d.reply ≡ record { marks = []; shown = []; passed = []; rows = []; end = end.Done [] }
   pub all : d.left ≡ []
   pub state : d.state ≡ record at { grid = grid_of after }
-  pub stays : Stays before after
+  pub stays : StaysBeside before after

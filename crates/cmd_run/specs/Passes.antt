@@ -19,7 +19,7 @@ module _ {D A P K : Type 0} (disk : D → DiskState) (plugin : P → StoreState)
     pub sink_last : (sink at.sink).last ≤ at.outside.moments
 
   -- Calls of all devices, one after another; the ambient may have been asked too.
-  pub record Passes (disk_failed sink_failed : Type 0) (old new : Seen D A P K) : Type 0 where
+  pub record CallsPass (disk_failed sink_failed : Type 0) (old new : Seen D A P K) : Type 0 where
     pub frame : Frame disk plugin disk_failed (record old.outside { ambient = new.outside.ambient }) new.outside
     pub sink_last : (sink old.sink).last ≤ old.outside.moments → (sink new.sink).last ≤ new.outside.moments
     pub goes : Goes old.outside.moments (sink old.sink) (sink new.sink)

@@ -24,7 +24,7 @@ use Rattle.plan_object.specs.Writing.{Wanted}
 use Rattle.cmd_run.specs.declared.server.Server.{Server}
 use Rattle.cmd_run.specs.declared.putting.Putting.{Putting}
 use Rattle.cmd_run.specs.Fits.{state_of}
-use Rattle.cmd_run.specs.Obeys.{Stays}
+use Rattle.cmd_run.specs.Obeys.{StaysBeside}
 
 -- the operation
 abbrev pub operation_of : Putting → Operation
@@ -55,7 +55,7 @@ pub record PlansPut (c : Cat) (p : Putting) (word now n : ℕ) (plan : Plan) : T
   pub before : IsLike c is_plan.mid
   pub grid : grid_of is_plan.end ≡ of.ran word now []
   pub last : is_plan.end.numbers.last ≡ n
-  pub stays : Stays c is_plan.end
+  pub stays : StaysBeside c is_plan.end
   pub few : length plan.files ≤ 2 ^ 32
 
 -- The plan has these numbers behind its last changes.

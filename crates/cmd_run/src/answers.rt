@@ -1,7 +1,8 @@
 ghost use Rattle.std.specs.Prelude.{◌≡◌, ◌+◌, ◌^◌, ◌<◌, ◌≤◌, [], ◌++◌, IfOk, IsTrue};
 ghost use Rattle.grid_model.specs.Replies.{mark_line as mark_text, end_line};
-ghost use Rattle.grid_model.specs.Writable.{is_writable_end};
-ghost use Rattle.cmd_run.specs.Answers.{IsPut, PutEnds};
+ghost use Rattle.std.specs.List.{list_all};
+ghost use Rattle.grid_model.specs.Writable.{is_word, is_writable_end};
+ghost use Rattle.cmd_run.specs.Answers.{IsTextPut, PutEnds, shown_lines};
 
 use crate::Ending;
 use cmd_reply::{mark_line, rest};
@@ -17,7 +18,7 @@ pub(crate) fn put_text<K: Sink>(
 ) -> Result<(), Ending>
     requires sink_last { (K.sink sink.old).last ≤ moments.old }
     requires room { moments.old + 1 < 2 ^ 128 }
-    ensures put { IsPut text.now moments.old (K.sink sink.old) (K.sink sink.new) }
+    ensures put { IsTextPut text.now moments.old (K.sink sink.old) (K.sink sink.new) }
     ensures ends { PutEnds text.now (K.sink sink.old) (K.sink sink.new) result }
     ensures drawn { moments.new ≡ moments.old + 1 }
     ensures last { (K.sink sink.new).last ≤ moments.new }
@@ -33,7 +34,16 @@ pub(crate) fn end_text(alloc: Global, number: u64, end: End) -> Result<Text, All
     requires { IsTrue (is_writable_end end) }
     ensures { IfOk result (λ text. text ≡ end_line number end) }
 {
-    rest(alloc, number, &of_end(alloc, end))
+    let rows = Rows::from_vec(Vec::new(alloc));
+    rest(alloc, number, &of_rows(alloc, rows, end))
+}
+
+/// Rows, and ok behind them. Fails for want of memory alone.
+pub(crate) fn rows_text(alloc: Global, number: u64, rows: Rows) -> Result<Text, AllocError>
+    requires { IsTrue (list_all (list_all is_word) rows) }
+    ensures { IfOk result (λ text. text ≡ shown_lines number rows (End.Done [])) }
+{
+    rest(alloc, number, &of_rows(alloc, rows, well(alloc)))
 }
 
 /// A mark and the last line behind it. Fails for want of memory alone.
@@ -60,15 +70,15 @@ pub(crate) fn well(alloc: Global) -> End
     End::Done(Texts::from_vec(Vec::new(alloc)))
 }
 
-// A reply that has nothing but its end.
-fn of_end(alloc: Global, end: End) -> Reply
-    ensures { result ≡ record { marks = []; shown = []; passed = []; rows = []; end = end } }
+// A reply that has nothing but rows and its end.
+fn of_rows(alloc: Global, rows: Rows, end: End) -> Reply
+    ensures { result ≡ record { marks = []; shown = []; passed = []; rows = rows; end = end } }
 {
     Reply {
         marks: Marks::from_vec(Vec::new(alloc)),
         shown: Text::from_vec(Vec::new(alloc)),
         passed: Passeds::from_vec(Vec::new(alloc)),
-        rows: Rows::from_vec(Vec::new(alloc)),
+        rows,
         end,
     }
 }

@@ -5,7 +5,7 @@ ghost use Rattle.grid_model.specs.Runs.{Request};
 ghost use Rattle.grid_deed.specs.Safe.{KeepWhole};
 ghost use Rattle.cmd_run.specs.Around.{around};
 ghost use Rattle.cmd_run.specs.Keeps.{IsChange};
-ghost use Rattle.cmd_run.specs.Passes.{AreReady, Passes};
+ghost use Rattle.cmd_run.specs.Passes.{AreReady, CallsPass};
 
 use crate::answers::{end_text, put_text, well};
 use crate::{Ending, Server};
@@ -15,8 +15,8 @@ use std::alloc::Global;
 
 impl Server {
     ghost use Rattle.cmd_run.specs.declared.server.Server.{Server};
-    ghost use Rattle.cmd_run.specs.Fits.{state_of, Fits};
-    ghost use Rattle.cmd_run.specs.Obeys.{Obeys, Changes, IsWorn};
+    ghost use Rattle.cmd_run.specs.Fits.{state_of, FitsMain};
+    ghost use Rattle.cmd_run.specs.Obeys.{Obeys, ChangesGrid, IsWorn, Remembers};
 
     /// Keeps changes of the rows, and answers ok.
     pub(crate) fn change<D: Disk, K: Sink, A: Ambient, P: Plugin>(
@@ -27,17 +27,20 @@ impl Server {
         number: u64,
         deltas: Deltas,
     ) -> Result<(), Ending>
-        requires fits { Fits (D.disk outside.old.main) self.old }
+        requires fits { FitsMain (D.disk outside.old.main) self.old }
         requires change { (after : Cat) × IsChange self.old.store.cat deltas after }
         requires ready { AreReady D.disk P.plugin K.sink 5 (record { outside = outside.old; sink = sink.old }) }
         ensures obeys { (source : SourceState) (request : Request) (after : Cat) → IsChange self.old.store.cat deltas after →
-            Changes (state_of self.old) self.old.store.cat request after →
-            Obeys (around D.disk A.ambient P.plugin outside.old (K.sink sink.old) source) (around D.disk A.ambient P.plugin outside.new (K.sink sink.new) source)
+            ChangesGrid (state_of self.old) self.old.store.cat request after →
+            Obeys (around D.disk A.ambient P.plugin outside.old (K.sink sink.old) source)
+            (around D.disk A.ambient P.plugin outside.new (K.sink sink.new) source)
             self.old number request result self.new }
-        ensures worn { (source : SourceState) (request : Request) → IsWorn (around D.disk A.ambient P.plugin outside.new (K.sink sink.new) source) self.old request result }
+        ensures worn { (source : SourceState) (request : Request)
+            → IsWorn (around D.disk A.ambient P.plugin outside.new (K.sink sink.new) source) self.old request result }
+        ensures remembers { Remembers self.old.store.cat outside.old.moments (D.disk outside.old.main) (D.disk outside.new.main) }
         ensures whole { KeepWhole P.plugin outside.old.moments self.old.store.cat
             (D.disk outside.old.main) (D.disk outside.new.main) outside.old.stores.items outside.new.stores.items }
-        ensures passes { Passes D.disk P.plugin K.sink (IsErrOf result Ending.Disk) (IsErrOf result Ending.Sink)
+        ensures passes { CallsPass D.disk P.plugin K.sink (IsErrOf result Ending.Disk) (IsErrOf result Ending.Sink)
             (record { outside = outside.old; sink = sink.old }) (record { outside = outside.new; sink = sink.new }) }
         ensures drawn { outside.new.moments ≤ outside.old.moments + 5 }
     {

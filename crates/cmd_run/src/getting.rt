@@ -8,7 +8,7 @@ ghost use Rattle.grid_model.specs.Writable.{is_word};
 ghost use Rattle.grid_deed.specs.Safe.{KeepWhole};
 ghost use Rattle.cmd_run.specs.Around.{around};
 ghost use Rattle.cmd_run.specs.Gets.{Drawn, Fetches, whole_text, damaged_text, text_behind};
-ghost use Rattle.cmd_run.specs.Passes.{AreReady, Passes};
+ghost use Rattle.cmd_run.specs.Passes.{AreReady, CallsPass};
 
 use crate::answers::{mark_and_end, put_text};
 use crate::{Ending, Server};
@@ -20,9 +20,9 @@ use std::alloc::{AllocError, Global};
 
 impl Server {
     ghost use Rattle.cmd_run.specs.declared.server.Server.{Server};
-    ghost use Rattle.cmd_run.specs.Fits.{Fits};
+    ghost use Rattle.cmd_run.specs.Fits.{state_of, FitsMain};
     ghost use Rattle.cmd_run.specs.Gets.{AsksToGet, get_request};
-    ghost use Rattle.cmd_run.specs.Obeys.{Obeys, IsWorn};
+    ghost use Rattle.cmd_run.specs.Obeys.{IsRefusedAtOnce, Obeys, IsWorn, Remembers};
 
     /// Gets a file: its bytes are written as they are read, the command is kept, and then the mark and the end of the reply
     /// are written. Draws at most 2^72 moments. `Disk` comes only where main failed, and `Sink` only where the sink did.
@@ -34,7 +34,7 @@ impl Server {
         number: u64,
         file: OldFile,
     ) -> Result<(), Ending>
-        requires fits { Fits (D.disk outside.old.main) self.old }
+        requires fits { FitsMain (D.disk outside.old.main) self.old }
         requires slot { file.slot < vec_len outside.old.stores }
         requires ready { AreReady D.disk P.plugin K.sink (2 ^ 72) (record { outside = outside.old; sink = sink.old }) }
         ensures obeys { (source : SourceState) (request : Request) → AsksToGet self.old file request →
@@ -43,9 +43,10 @@ impl Server {
             self.old number request result self.new }
         ensures worn { (source : SourceState) (request : Request) →
             IsWorn (around D.disk A.ambient P.plugin outside.new (K.sink sink.new) source) self.old request result }
+        ensures remembers { Remembers self.old.store.cat outside.old.moments (D.disk outside.old.main) (D.disk outside.new.main) }
         ensures whole { KeepWhole P.plugin outside.old.moments self.old.store.cat
             (D.disk outside.old.main) (D.disk outside.new.main) outside.old.stores.items outside.new.stores.items }
-        ensures passes { Passes D.disk P.plugin K.sink (IsErrOf result Ending.Disk) (IsErrOf result Ending.Sink)
+        ensures passes { CallsPass D.disk P.plugin K.sink (IsErrOf result Ending.Disk) (IsErrOf result Ending.Sink)
             (record { outside = outside.old; sink = sink.old }) (record { outside = outside.new; sink = sink.new }) }
         ensures drawn { outside.new.moments ≤ outside.old.moments + 2 ^ 72 }
     {
@@ -71,7 +72,7 @@ impl Server {
         path: &Path,
         asked: Option<&Text>,
     ) -> Result<(), Ending>
-        requires fits { Fits (D.disk outside.old.main) self.old }
+        requires fits { FitsMain (D.disk outside.old.main) self.old }
         requires session { session < 64 }
         requires stores { self.old.store.cat.stores ≡ vec_len outside.old.stores }
         requires ready { AreReady D.disk P.plugin K.sink (2 ^ 72) (record { outside = outside.old; sink = sink.old }) }
@@ -81,10 +82,13 @@ impl Server {
             self.old number request result self.new }
         ensures worn { (source : SourceState) (request : Request) →
             IsWorn (around D.disk A.ambient P.plugin outside.new (K.sink sink.new) source) self.old request result }
+        ensures remembers { Remembers self.old.store.cat outside.old.moments (D.disk outside.old.main) (D.disk outside.new.main) }
         ensures whole { KeepWhole P.plugin outside.old.moments self.old.store.cat
             (D.disk outside.old.main) (D.disk outside.new.main) outside.old.stores.items outside.new.stores.items }
-        ensures passes { Passes D.disk P.plugin K.sink (IsErrOf result Ending.Disk) (IsErrOf result Ending.Sink)
+        ensures passes { CallsPass D.disk P.plugin K.sink (IsErrOf result Ending.Disk) (IsErrOf result Ending.Sink)
             (record { outside = outside.old; sink = sink.old }) (record { outside = outside.new; sink = sink.new }) }
+        ensures idle { (request : Request) → request ≡ get_request session path.now (option_copied asked.entry) → IsRefusedAtOnce (state_of self.old) request →
+            (outside.new.main ≡ outside.old.main) × (outside.new.stores ≡ outside.old.stores) }
         ensures drawn { outside.new.moments ≤ outside.old.moments + 2 ^ 72 }
     {
         match self.sessions.user(session) {
@@ -116,7 +120,7 @@ fn fetch<D: Disk, K: Sink, A: Ambient, P: Plugin>(
     requires ready { AreReady D.disk P.plugin K.sink (2 ^ 72) (record { outside = outside.old; sink = sink.old }) }
     ensures fetches { Fetches A.ambient P.plugin K.sink file.now number result
         (record { outside = outside.old; sink = sink.old }) (record { outside = outside.new; sink = sink.new }) }
-    ensures passes { Passes D.disk P.plugin K.sink (IsErrOf result Ending.Disk) (IsErrOf result Ending.Sink)
+    ensures passes { CallsPass D.disk P.plugin K.sink (IsErrOf result Ending.Disk) (IsErrOf result Ending.Sink)
         (record { outside = outside.old; sink = sink.old }) (record { outside = outside.new; sink = sink.new }) }
     ensures main { outside.new.main ≡ outside.old.main }
     ensures drawn { outside.new.moments ≤ outside.old.moments + 2 ^ 48 }

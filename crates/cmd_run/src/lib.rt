@@ -2,15 +2,19 @@
 #![tactic(auto)]
 
 mod answers;
+mod asking;
 mod changing;
 mod getting;
 mod keeping;
+mod listing;
 mod logins;
 mod obeying;
+mod operations;
 mod putting;
 mod saying;
 mod server;
 mod working;
 mod writing;
 
+pub use asking::ends_input;
 pub use server::{Ending, Server};

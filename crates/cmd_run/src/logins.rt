@@ -5,7 +5,7 @@ ghost use Rattle.grid_model.specs.Orders.{logs_in, logs_out};
 ghost use Rattle.grid_model.specs.Runs.{Request as RequestOf};
 ghost use Rattle.grid_deed.specs.Safe.{KeepWhole};
 ghost use Rattle.cmd_run.specs.Around.{around};
-ghost use Rattle.cmd_run.specs.Passes.{AreReady, Passes};
+ghost use Rattle.cmd_run.specs.Passes.{AreReady, CallsPass};
 ghost use Rattle.cmd_run.specs.Logins.{FindsPerson};
 
 use crate::answers::well;
@@ -17,8 +17,8 @@ use std::alloc::Global;
 
 impl Server {
     ghost use Rattle.cmd_run.specs.declared.server.Server.{Server};
-    ghost use Rattle.cmd_run.specs.Fits.{Fits};
-    ghost use Rattle.cmd_run.specs.Obeys.{Obeys, IsWorn};
+    ghost use Rattle.cmd_run.specs.Fits.{FitsMain};
+    ghost use Rattle.cmd_run.specs.Obeys.{Obeys, IsWorn, Remembers};
 
     /// The session is this user's from now on, who is no group.
     pub(crate) fn login<D: Disk, K: Sink, A: Ambient, P: Plugin>(
@@ -30,18 +30,22 @@ impl Server {
         session: u8,
         user: &Text,
     ) -> Result<(), Ending>
-        requires fits { Fits (D.disk outside.old.main) self.old }
+        requires fits { FitsMain (D.disk outside.old.main) self.old }
         requires session { session < 64 }
         requires ready { AreReady D.disk P.plugin K.sink (1) (record { outside = outside.old; sink = sink.old }) }
         ensures obeys { (source : SourceState) (request : RequestOf) → request ≡ Ok (session, logs_in user.now) →
-            Obeys (around D.disk A.ambient P.plugin outside.old (K.sink sink.old) source) (around D.disk A.ambient P.plugin outside.new (K.sink sink.new) source)
+            Obeys (around D.disk A.ambient P.plugin outside.old (K.sink sink.old) source)
+            (around D.disk A.ambient P.plugin outside.new (K.sink sink.new) source)
             self.old number request result self.new }
         ensures worn { (source : SourceState) (request : RequestOf) → request ≡ Ok (session, logs_in user.now) →
             IsWorn (around D.disk A.ambient P.plugin outside.new (K.sink sink.new) source) self.old request result }
+        ensures remembers { Remembers self.old.store.cat outside.old.moments (D.disk outside.old.main) (D.disk outside.new.main) }
         ensures whole { KeepWhole P.plugin outside.old.moments self.old.store.cat
             (D.disk outside.old.main) (D.disk outside.new.main) outside.old.stores.items outside.new.stores.items }
-        ensures passes { Passes D.disk P.plugin K.sink (IsErrOf result Ending.Disk) (IsErrOf result Ending.Sink)
+        ensures passes { CallsPass D.disk P.plugin K.sink (IsErrOf result Ending.Disk) (IsErrOf result Ending.Sink)
             (record { outside = outside.old; sink = sink.old }) (record { outside = outside.new; sink = sink.new }) }
+        ensures rows { outside.new.main ≡ outside.old.main }
+        ensures stores { outside.new.stores ≡ outside.old.stores }
         ensures drawn { outside.new.moments ≤ outside.old.moments + 1 }
     {
         match person_named(self.store.tables(), user) {
@@ -62,18 +66,22 @@ impl Server {
         number: u64,
         session: u8,
     ) -> Result<(), Ending>
-        requires fits { Fits (D.disk outside.old.main) self.old }
+        requires fits { FitsMain (D.disk outside.old.main) self.old }
         requires session { session < 64 }
         requires ready { AreReady D.disk P.plugin K.sink (1) (record { outside = outside.old; sink = sink.old }) }
         ensures obeys { (source : SourceState) (request : RequestOf) → request ≡ Ok (session, logs_out) →
-            Obeys (around D.disk A.ambient P.plugin outside.old (K.sink sink.old) source) (around D.disk A.ambient P.plugin outside.new (K.sink sink.new) source)
+            Obeys (around D.disk A.ambient P.plugin outside.old (K.sink sink.old) source)
+            (around D.disk A.ambient P.plugin outside.new (K.sink sink.new) source)
             self.old number request result self.new }
         ensures worn { (source : SourceState) (request : RequestOf) → request ≡ Ok (session, logs_out) →
             IsWorn (around D.disk A.ambient P.plugin outside.new (K.sink sink.new) source) self.old request result }
+        ensures remembers { Remembers self.old.store.cat outside.old.moments (D.disk outside.old.main) (D.disk outside.new.main) }
         ensures whole { KeepWhole P.plugin outside.old.moments self.old.store.cat
             (D.disk outside.old.main) (D.disk outside.new.main) outside.old.stores.items outside.new.stores.items }
-        ensures passes { Passes D.disk P.plugin K.sink (IsErrOf result Ending.Disk) (IsErrOf result Ending.Sink)
+        ensures passes { CallsPass D.disk P.plugin K.sink (IsErrOf result Ending.Disk) (IsErrOf result Ending.Sink)
             (record { outside = outside.old; sink = sink.old }) (record { outside = outside.new; sink = sink.new }) }
+        ensures rows { outside.new.main ≡ outside.old.main }
+        ensures stores { outside.new.stores ≡ outside.old.stores }
         ensures drawn { outside.new.moments ≤ outside.old.moments + 1 }
     {
         match self.sessions.user(session) {

@@ -1,23 +1,23 @@
-ghost use Rattle.std.specs.Prelude.{◌≡◌, ◌+◌, ◌≤◌, ◌^◌, IsErrOf, length, vec_len};
+ghost use Rattle.std.specs.Prelude.{◌≡◌, ℕ, ◌+◌, ◌≤◌, ◌^◌, Err, IsErrOf, length, vec_len};
 ghost use Rattle.grid_outside.specs.Source.{SourceState};
 ghost use Rattle.grid_model.specs.Limits.{object_size};
 ghost use Rattle.grid_model.specs.Runs.{Request as RequestOf};
 ghost use Rattle.grid_deed.specs.Safe.{KeepWhole};
 ghost use Rattle.cmd_run.specs.Around.{around};
-ghost use Rattle.cmd_run.specs.Asking.{AsksFor, IsForm};
-ghost use Rattle.cmd_run.specs.Passes.{AreReady, Passes};
+ghost use Rattle.cmd_run.specs.Asking.{AsksForRequest, IsForm};
+ghost use Rattle.cmd_run.specs.Passes.{AreReady, CallsPass};
 
 use crate::answers::well;
 use crate::working::PutLine;
 use crate::{Ending, Server};
 use grid_model::{Bytes, End, Mode, Refusal, Request, Verb};
-use grid_outside::{Ambient, Disk, Outside, Plugin, Sink};
+use grid_outside::{Ambient, Disk, Outside, Plugin, Sink, Wear};
 use std::alloc::Global;
 
 impl Server {
     ghost use Rattle.cmd_run.specs.declared.server.Server.{Server};
-    ghost use Rattle.cmd_run.specs.Fits.{Fits};
-    ghost use Rattle.cmd_run.specs.Obeys.{Obeys, IsWorn};
+    ghost use Rattle.cmd_run.specs.Fits.{state_of, FitsMain};
+    ghost use Rattle.cmd_run.specs.Obeys.{IsRefusedAtOnce, Obeys, IsWorn, Remembers};
 
     /// Handles the request of this number: it is decided over the rows, done, kept and answered. Where its words were
     /// refused, that is answered. `body` is the request's body, and empty where its verb has none or promised more bytes
@@ -32,20 +32,27 @@ impl Server {
         asked: Result<Request, Refusal>,
         body: Bytes,
     ) -> Result<(), Ending>
-        requires fits { Fits (D.disk outside.old.main) self.old }
+        requires fits { FitsMain (D.disk outside.old.main) self.old }
         requires form { IsForm asked }
         requires small { length body ≤ object_size }
         requires slots { self.old.store.cat.stores ≡ vec_len outside.old.stores }
         requires ready { AreReady D.disk P.plugin K.sink (2 ^ 72) (record { outside = outside.old; sink = sink.old }) }
-        ensures obeys { (source : SourceState) (request : RequestOf) → AsksFor asked body request →
-            Obeys (around D.disk A.ambient P.plugin outside.old (K.sink sink.old) source) (around D.disk A.ambient P.plugin outside.new (K.sink sink.new) source)
+        ensures obeys { (source : SourceState) (request : RequestOf) → AsksForRequest (state_of self.old) asked body request →
+            Obeys (around D.disk A.ambient P.plugin outside.old (K.sink sink.old) source)
+            (around D.disk A.ambient P.plugin outside.new (K.sink sink.new) source)
             self.old number request result self.new }
-        ensures worn { (source : SourceState) (request : RequestOf) → AsksFor asked body request →
+        ensures worn { (source : SourceState) (request : RequestOf) → AsksForRequest (state_of self.old) asked body request →
             IsWorn (around D.disk A.ambient P.plugin outside.new (K.sink sink.new) source) self.old request result }
+        ensures remembers { Remembers self.old.store.cat outside.old.moments (D.disk outside.old.main) (D.disk outside.new.main) }
         ensures whole { KeepWhole P.plugin outside.old.moments self.old.store.cat
             (D.disk outside.old.main) (D.disk outside.new.main) outside.old.stores.items outside.new.stores.items }
-        ensures passes { Passes D.disk P.plugin K.sink (IsErrOf result Ending.Disk) (IsErrOf result Ending.Sink)
+        ensures passes { CallsPass D.disk P.plugin K.sink (IsErrOf result Ending.Disk) (IsErrOf result Ending.Sink)
             (record { outside = outside.old; sink = sink.old }) (record { outside = outside.new; sink = sink.new }) }
+        // Where the numbers of vault files have run out no device was asked for anything.
+        ensures untouched { (place : ℕ) → result ≡ Err (Ending.Worn Wear.Vaults place) → (outside.new ≡ outside.old) × (sink.new ≡ sink.old) }
+        // Where a request is refused without a mark nothing is called but the sink.
+        ensures idle { (request : RequestOf) → AsksForRequest (state_of self.old) asked body request → IsRefusedAtOnce (state_of self.old) request →
+            (outside.new.main ≡ outside.old.main) × (outside.new.stores ≡ outside.old.stores) }
         ensures drawn { outside.new.moments ≤ outside.old.moments + 2 ^ 72 }
     {
         let request = match asked {
@@ -59,7 +66,6 @@ impl Server {
             Verb::Login { user } => self.login(alloc, outside, sink, number, session, &user),
             Verb::Logout => self.logout(alloc, outside, sink, number, session),
             Verb::Quit => self.say(alloc, outside, sink, number, well(alloc)),
-            Verb::MkDir { path } => self.mkdir(alloc, outside, sink, number, session, &path),
             Verb::Put {
                 path,
                 resource,
@@ -80,6 +86,7 @@ impl Server {
                     self.say(alloc, outside, sink, number, end)
                 }
             },
+            Verb::Ls { path } => self.list(alloc, outside, sink, number, session, &path),
             Verb::Get { path, resource } => {
                 self.get_for(
                     alloc,
@@ -91,13 +98,7 @@ impl Server {
                     resource.as_ref(),
                 )
             }
-            _ => self.say(
-                alloc,
-                outside,
-                sink,
-                number,
-                End::Refused(Refusal::UnknownCommand),
-            ),
+            other => self.works(alloc, outside, sink, number, session, &other),
         }
     }
 }

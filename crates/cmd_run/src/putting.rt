@@ -1,4 +1,4 @@
-ghost use Rattle.std.specs.Prelude.{◌≡◌, ℕ, ◌+◌, ◌-◌, ◌<◌, ◌≤◌, ◌^◌, ◌++◌, [], List, IsTrue, IsErrOf, IfOk, vec_len, length, nat_le};
+ghost use Rattle.std.specs.Prelude.{◌≡◌, ℕ, ◌+◌, ◌-◌, ◌<◌, ◌≤◌, ◌^◌, ◌++◌, [], List, Err, IsTrue, IsErrOf, IfOk, vec_len, length, nat_le};
 ghost use Rattle.grid_outside.specs.Source.{SourceState};
 ghost use Rattle.grid_model.specs.Applying.{IsMade, is_user};
 ghost use Rattle.grid_model.specs.Limits.{object_size};
@@ -7,7 +7,7 @@ ghost use Rattle.grid_model.specs.Runs.{Request};
 ghost use Rattle.grid_deed.specs.Safe.{KeepWhole};
 ghost use Rattle.plan_object.specs.Writing.{GoesTo, FindsTargets};
 ghost use Rattle.cmd_run.specs.Around.{around};
-ghost use Rattle.cmd_run.specs.Passes.{AreReady, Passes};
+ghost use Rattle.cmd_run.specs.Passes.{AreReady, CallsPass};
 ghost use Rattle.grid_model.specs.Replies.{mark_line, end_line};
 ghost use Rattle.grid_model.specs.Working.{well};
 ghost use Rattle.cmd_run.specs.Puts.{AsksToPut, IsNamedPlan, PlansPut, wanted};
@@ -41,8 +41,8 @@ pub(crate) struct Putting {
 
 impl Server {
     ghost use Rattle.cmd_run.specs.declared.server.Server.{Server};
-    ghost use Rattle.cmd_run.specs.Fits.{state_of, Fits};
-    ghost use Rattle.cmd_run.specs.Obeys.{Obeys, IsWorn};
+    ghost use Rattle.cmd_run.specs.Fits.{state_of, FitsMain};
+    ghost use Rattle.cmd_run.specs.Obeys.{IsRefusedAtOnce, Obeys, IsWorn, Remembers};
 
     /// Puts a body as a new object on the targets of a resource: its files are written, its object kept, and then the reply is written.
     pub(crate) fn put<D: Disk, K: Sink, A: Ambient, P: Plugin>(
@@ -53,20 +53,26 @@ impl Server {
         number: u64,
         putting: Putting,
     ) -> Result<(), Ending>
-        requires fits { Fits (D.disk outside.old.main) self.old }
+        requires fits { FitsMain (D.disk outside.old.main) self.old }
         requires user { IsTrue (is_user self.old.store.cat putting.user) }
         requires small { length putting.body ≤ object_size }
         requires slots { self.old.store.cat.stores ≡ vec_len outside.old.stores }
         requires ready { AreReady D.disk P.plugin K.sink (2 ^ 50) (record { outside = outside.old; sink = sink.old }) }
         ensures obeys { (source : SourceState) (request : Request) → AsksToPut self.old putting request →
-            Obeys (around D.disk A.ambient P.plugin outside.old (K.sink sink.old) source) (around D.disk A.ambient P.plugin outside.new (K.sink sink.new) source)
+            Obeys (around D.disk A.ambient P.plugin outside.old (K.sink sink.old) source)
+            (around D.disk A.ambient P.plugin outside.new (K.sink sink.new) source)
             self.old number request result self.new }
         ensures worn { (source : SourceState) (request : Request) → AsksToPut self.old putting request →
             IsWorn (around D.disk A.ambient P.plugin outside.new (K.sink sink.new) source) self.old request result }
+        ensures remembers { Remembers self.old.store.cat outside.old.moments (D.disk outside.old.main) (D.disk outside.new.main) }
         ensures whole { KeepWhole P.plugin outside.old.moments self.old.store.cat
             (D.disk outside.old.main) (D.disk outside.new.main) outside.old.stores.items outside.new.stores.items }
-        ensures passes { Passes D.disk P.plugin K.sink (IsErrOf result Ending.Disk) (IsErrOf result Ending.Sink)
+        ensures passes { CallsPass D.disk P.plugin K.sink (IsErrOf result Ending.Disk) (IsErrOf result Ending.Sink)
             (record { outside = outside.old; sink = sink.old }) (record { outside = outside.new; sink = sink.new }) }
+        // Where the numbers of vault files have run out no device was asked for anything.
+        ensures untouched { (place : ℕ) → result ≡ Err (Ending.Worn Wear.Vaults place) → (outside.new ≡ outside.old) × (sink.new ≡ sink.old) }
+        ensures idle { (request : Request) → AsksToPut self.old putting request → IsRefusedAtOnce (state_of self.old) request →
+            (outside.new.main ≡ outside.old.main) × (outside.new.stores ≡ outside.old.stores) }
         ensures drawn { outside.new.moments ≤ outside.old.moments + 2 ^ 50 }
     {
         let next = self.store.tables().numbers().next_vault;
@@ -154,7 +160,7 @@ impl Server {
         number: u64,
         putting: Putting,
     ) -> Result<(), Ending>
-        requires fits { Fits (D.disk outside.old.main) self.old }
+        requires fits { FitsMain (D.disk outside.old.main) self.old }
         requires user { IsTrue (is_user self.old.store.cat putting.user) }
         requires small { length putting.body ≤ object_size }
         requires vault { self.old.store.cat.numbers.next_vault ≤ 2 ^ 64 - 2 ^ 33 }
@@ -162,14 +168,17 @@ impl Server {
         requires slots { self.old.store.cat.stores ≡ vec_len outside.old.stores }
         requires ready { AreReady D.disk P.plugin K.sink (2 ^ 50) (record { outside = outside.old; sink = sink.old }) }
         ensures obeys { (source : SourceState) (request : Request) → AsksToPut self.old putting request →
-            Obeys (around D.disk A.ambient P.plugin outside.old (K.sink sink.old) source) (around D.disk A.ambient P.plugin outside.new (K.sink sink.new) source)
+            Obeys (around D.disk A.ambient P.plugin outside.old (K.sink sink.old) source)
+            (around D.disk A.ambient P.plugin outside.new (K.sink sink.new) source)
             self.old number request result self.new }
         ensures worn { (source : SourceState) (request : Request) → AsksToPut self.old putting request →
             IsWorn (around D.disk A.ambient P.plugin outside.new (K.sink sink.new) source) self.old request result }
+        ensures remembers { Remembers self.old.store.cat outside.old.moments (D.disk outside.old.main) (D.disk outside.new.main) }
         ensures whole { KeepWhole P.plugin outside.old.moments self.old.store.cat
             (D.disk outside.old.main) (D.disk outside.new.main) outside.old.stores.items outside.new.stores.items }
-        ensures passes { Passes D.disk P.plugin K.sink (IsErrOf result Ending.Disk) (IsErrOf result Ending.Sink)
+        ensures passes { CallsPass D.disk P.plugin K.sink (IsErrOf result Ending.Disk) (IsErrOf result Ending.Sink)
             (record { outside = outside.old; sink = sink.old }) (record { outside = outside.new; sink = sink.new }) }
+        ensures log_only { (place : ℕ) → result ≡ Err (Ending.Worn Wear.Vaults place) → ⊥ }
         ensures drawn { outside.new.moments ≤ outside.old.moments + 2 ^ 50 }
     {
         let word = outside.ambient.word();

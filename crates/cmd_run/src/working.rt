@@ -1,18 +1,15 @@
-ghost use Rattle.std.specs.Prelude.{◌≡◌, ◌+◌, ◌≤◌, ◌<◌, ◌^◌, IsErrOf, Ok, length, vec_len};
+ghost use Rattle.std.specs.Prelude.{◌≡◌, ℕ, ◌+◌, ◌≤◌, ◌<◌, ◌^◌, Err, IsErrOf, length, vec_len};
 ghost use Rattle.grid_outside.specs.Source.{SourceState};
 ghost use Rattle.grid_model.specs.Limits.{object_size};
-ghost use Rattle.grid_model.specs.Orders.{works};
-ghost use Rattle.grid_model.specs.Operations.Table.{mkdir};
 ghost use Rattle.grid_model.specs.Runs.{Request as RequestOf};
 ghost use Rattle.grid_deed.specs.Safe.{KeepWhole};
 ghost use Rattle.cmd_run.specs.Around.{around};
-ghost use Rattle.cmd_run.specs.Passes.{AreReady, Passes};
+ghost use Rattle.cmd_run.specs.Passes.{AreReady, CallsPass};
 
 use crate::putting::Putting;
 use crate::{Ending, Server};
-use grid_model::{Bytes, End, Path, PlanError, Refusal, Text};
-use grid_outside::{Ambient, Disk, Outside, Plugin, Sink};
-use plan_coll::plan_mkdir;
+use grid_model::{Bytes, End, Path, Refusal, Text};
+use grid_outside::{Ambient, Disk, Outside, Plugin, Sink, Wear};
 use std::alloc::Global;
 
 /// How many bytes an object may have.
@@ -32,44 +29,8 @@ pub(crate) struct PutLine {
 impl Server {
     ghost use Rattle.cmd_run.specs.declared.server.Server.{Server};
     ghost use Rattle.cmd_run.specs.Asking.{PutOf};
-    ghost use Rattle.cmd_run.specs.Fits.{Fits};
-    ghost use Rattle.cmd_run.specs.Obeys.{Obeys, IsWorn};
-
-    /// Makes a collection.
-    pub(crate) fn mkdir<D: Disk, K: Sink, A: Ambient, P: Plugin>(
-        &mut self,
-        alloc: Global,
-        outside: &mut Outside<D, A, P>,
-        sink: &mut K,
-        number: u64,
-        session: u8,
-        path: &Path,
-    ) -> Result<(), Ending>
-        requires fits { Fits (D.disk outside.old.main) self.old }
-        requires session { session < 64 }
-        requires ready { AreReady D.disk P.plugin K.sink (5) (record { outside = outside.old; sink = sink.old }) }
-        ensures obeys { (source : SourceState) (request : RequestOf) → request ≡ Ok (session, works (mkdir path.now) 0) →
-            Obeys (around D.disk A.ambient P.plugin outside.old (K.sink sink.old) source) (around D.disk A.ambient P.plugin outside.new (K.sink sink.new) source)
-            self.old number request result self.new }
-        ensures worn { (source : SourceState) (request : RequestOf) → request ≡ Ok (session, works (mkdir path.now) 0) →
-            IsWorn (around D.disk A.ambient P.plugin outside.new (K.sink sink.new) source) self.old request result }
-        ensures whole { KeepWhole P.plugin outside.old.moments self.old.store.cat
-            (D.disk outside.old.main) (D.disk outside.new.main) outside.old.stores.items outside.new.stores.items }
-        ensures passes { Passes D.disk P.plugin K.sink (IsErrOf result Ending.Disk) (IsErrOf result Ending.Sink)
-            (record { outside = outside.old; sink = sink.old }) (record { outside = outside.new; sink = sink.new }) }
-        ensures drawn { outside.new.moments ≤ outside.old.moments + 5 }
-    {
-        let Some(user) = self.sessions.user(session) else {
-            return self.say(alloc, outside, sink, number, End::Refused(Refusal::NoLogin));
-        };
-        match plan_mkdir(alloc, self.store.tables(), user, path) {
-            Ok(deltas) => self.change(alloc, outside, sink, number, deltas),
-            Err(PlanError::Refused(refusal)) => {
-                self.say(alloc, outside, sink, number, End::Refused(refusal))
-            }
-            Err(PlanError::Memory) => Err(Ending::Memory),
-        }
-    }
+    ghost use Rattle.cmd_run.specs.Fits.{state_of, FitsMain};
+    ghost use Rattle.cmd_run.specs.Obeys.{IsRefusedAtOnce, Obeys, IsWorn, Remembers};
 
     /// Puts a body as a new object.
     pub(crate) fn put_line<D: Disk, K: Sink, A: Ambient, P: Plugin>(
@@ -81,20 +42,26 @@ impl Server {
         session: u8,
         line: PutLine,
     ) -> Result<(), Ending>
-        requires fits { Fits (D.disk outside.old.main) self.old }
+        requires fits { FitsMain (D.disk outside.old.main) self.old }
         requires session { session < 64 }
         requires small { length line.body ≤ object_size }
         requires slots { self.old.store.cat.stores ≡ vec_len outside.old.stores }
         requires ready { AreReady D.disk P.plugin K.sink (2 ^ 50) (record { outside = outside.old; sink = sink.old }) }
         ensures obeys { (source : SourceState) (request : RequestOf) → PutOf session line request →
-            Obeys (around D.disk A.ambient P.plugin outside.old (K.sink sink.old) source) (around D.disk A.ambient P.plugin outside.new (K.sink sink.new) source)
+            Obeys (around D.disk A.ambient P.plugin outside.old (K.sink sink.old) source)
+            (around D.disk A.ambient P.plugin outside.new (K.sink sink.new) source)
             self.old number request result self.new }
         ensures worn { (source : SourceState) (request : RequestOf) → PutOf session line request →
             IsWorn (around D.disk A.ambient P.plugin outside.new (K.sink sink.new) source) self.old request result }
+        ensures remembers { Remembers self.old.store.cat outside.old.moments (D.disk outside.old.main) (D.disk outside.new.main) }
         ensures whole { KeepWhole P.plugin outside.old.moments self.old.store.cat
             (D.disk outside.old.main) (D.disk outside.new.main) outside.old.stores.items outside.new.stores.items }
-        ensures passes { Passes D.disk P.plugin K.sink (IsErrOf result Ending.Disk) (IsErrOf result Ending.Sink)
+        ensures passes { CallsPass D.disk P.plugin K.sink (IsErrOf result Ending.Disk) (IsErrOf result Ending.Sink)
             (record { outside = outside.old; sink = sink.old }) (record { outside = outside.new; sink = sink.new }) }
+        // Where the numbers of vault files have run out no device was asked for anything.
+        ensures untouched { (place : ℕ) → result ≡ Err (Ending.Worn Wear.Vaults place) → (outside.new ≡ outside.old) × (sink.new ≡ sink.old) }
+        ensures idle { (request : RequestOf) → PutOf session line request → IsRefusedAtOnce (state_of self.old) request →
+            (outside.new.main ≡ outside.old.main) × (outside.new.stores ≡ outside.old.stores) }
         ensures drawn { outside.new.moments ≤ outside.old.moments + 2 ^ 50 }
     {
         let Some(user) = self.sessions.user(session) else {

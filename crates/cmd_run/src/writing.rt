@@ -28,8 +28,16 @@ impl Server {
         requires plan { IsPlan self.old.store.cat self.old.store.cat (vec_len outside.old.stores) plan body.now }
         requires ready { IsReady D.disk P.plugin (moments_for plan.files body.now + 4) outside.old }
         ensures written { (p : IsPlan self.old.store.cat self.old.store.cat (vec_len outside.old.stores) plan body.now) →
-            IsWritten P.plugin (record { before = self.old.store.cat; mid = p.mid; end = p.end; number = number; files = plan.files; from = outside.old.moments })
-            (record { main = D.disk outside.old.main; stores = outside.old.stores.items }) (record { main = D.disk outside.new.main; stores = outside.new.stores.items }) result self.new }
+            IsWritten P.plugin (record {
+              before = self.old.store.cat;
+              mid = p.mid;
+              end = p.end;
+              number = number;
+              files = plan.files;
+              from = outside.old.moments;
+            })
+            (record { main = D.disk outside.old.main; stores = outside.old.stores.items })
+            (record { main = D.disk outside.new.main; stores = outside.new.stores.items }) result self.new }
         ensures whole { KeepWhole P.plugin outside.old.moments self.old.store.cat
             (D.disk outside.old.main) (D.disk outside.new.main) outside.old.stores.items outside.new.stores.items }
         ensures frame { Frame D.disk P.plugin (IsErrOf result Ending.Disk) outside.old outside.new }

@@ -1,6 +1,7 @@
 -- A run that did nothing, for want of memory, is one of those that are meant: its clauses hold together.
 use Rattle.std.proofs.Common.{arith, append-nil, ◌≡◌, ℕ, List, [], None, refl, sym, ◌∙◌, ap, subst, inl}
 use Rattle.std.specs.Prelude.{◌<◌, Ok}
+use Rattle.grid_outside.specs.Device.{IsSettled}
 use Rattle.grid_model.specs.Names.{Text}
 use Rattle.grid_model.specs.Rows.{Cat}
 use Rattle.grid_model.specs.RowGrids.{grid_of}
@@ -9,13 +10,13 @@ use Rattle.grid_model.specs.Inputs.{none_taken}
 use Rattle.grid_model.specs.Beginning.{begins}
 use Rattle.grid_model.specs.Runs as runs
 use Rattle.grid_journal.specs.Stands.{Stands}
-use Rattle.grid_headline.specs.Worlds.{World, IsInOrder, Image, Leaves, LeavesDisks}
+use Rattle.grid_headline.specs.Worlds.{World, IsInOrder, DevicesImage, LeavesImage, LeavesDisks}
 use Rattle.grid_headline.specs.Reads.{HasRules}
 use Rattle.grid_headline.specs.Served.{Run}
 use Rattle.grid_headline.specs.Stops.{OneImage}
-use Rattle.grid_headline.specs.Files.{IsKnown, AreSettled, DisksAreSettled, WereWhole, StayWhole, AreWhole}
+use Rattle.grid_headline.specs.Files.{IsKnown, AreSettled, DisksAreSettled, KeepsNamed, WereWhole, AllStayWhole, AllAreWhole, StayNamed}
 use Rattle.grid_headline.specs.Silence.{IsBetween, IsOfDisks, NoneIsSilent, AddsBeforeRun}
-use Rattle.grid_headline.specs.Draws.{Draws, AreSomeOf, no_words, none_left}
+use Rattle.grid_headline.specs.Draws.{DrawsMarks, AreSomeOf, no_words, none_left}
 use Rattle.grid_headline.specs.Draws as draws
 use Rattle.grid_headline.specs.Ends.{no_memory}
 use Rattle.grid_headline.specs.Headline.{BeginsOn, Shows, Serves, ServesTidily}
@@ -36,7 +37,7 @@ module _ {B : Type 0} (old : World B) (c : Cat) (rules : List Rule) where
     rules_are = has;
     begun = [];
     first = inl (old.source.left, none_taken);
-    quit_last = tt;
+    end_last = tt;
     done = [];
     end = begins (grid_of found) rules;
     after = runs.none;
@@ -53,7 +54,7 @@ module _ {B : Type 0} (old : World B) (c : Cat) (rules : List Rule) where
         let k : spare ≡ old.spare.holds = settled.of_spare t spare (omega (arith, order.spare_last, later)) left.of_spare in
         subst (λ m. Stands m spare (Ok found)) (sym e) (subst (λ s. Stands old.main.holds s (Ok found)) (sym k) begin.stands)
 
-    one_image : AreSettled old → (t : ℕ) (i : Image) → old.moments < t → Leaves old t i → OneImage (nothing has) old.sink.holds i
+    one_image : AreSettled old → (t : ℕ) (i : DevicesImage) → old.moments < t → LeavesImage old t i → OneImage (nothing has) old.sink.holds i
     one_image settled t i later left = record {
       cat = found;
       stands = stays t i.main i.spare settled.disks later left.disks;
@@ -71,7 +72,7 @@ module _ {B : Type 0} (old : World B) (c : Cat) (rules : List Rule) where
     is_found : AreSettled old → (d : Cat) → IsOfDisks (nothing has) old old d → d ≡ found
     is_found settled d of = the_catalogue of.main of.spare found d (stays of.moment of.main of.spare settled.disks of.in_run of.leaves) of.stands
 
-    never : AreSettled old → (n : ℕ) (i : Image) (d : Cat) → IsBetween (nothing has) old old n i d → ⊥
+    never : AreSettled old → (n : ℕ) (i : DevicesImage) (d : Cat) → IsBetween (nothing has) old old n i d → ⊥
     never settled n i d b =
         let e : d ≡ found = the_catalogue i.main i.spare found d (stays b.moment i.main i.spare settled.disks b.in_run b.leaves.disks) b.stands in
         let k : d.numbers.run ≡ found.numbers.run = ap (λ (x : Cat). x.numbers.run) e in
@@ -87,9 +88,15 @@ module _ {B : Type 0} (old : World B) (c : Cat) (rules : List Rule) where
       opened = λ i d b. absurd (never settled 0 i d b);
     }
 
-    stay_whole : DisksAreSettled old → WereWhole old old.moments found → StayWhole old old.moments
+    stay_whole : DisksAreSettled old → WereWhole old old.moments found → AllStayWhole old old.moments
     stay_whole settled whole t main spare d later left s =
-        subst (AreWhole old t) (sym (the_catalogue main spare found d (stays t main spare settled later left) s)) (whole t later)
+        subst (AllAreWhole old t) (sym (the_catalogue main spare found d (stays t main spare settled later left) s)) (whole t later)
+
+    stay_named : IsSettled old.main → StayNamed old old.moments found
+    stay_named settled t main d later left s =
+        let e : main ≡ old.main.holds = settled t main (omega (arith, order.main_last, later)) left in
+        let stood = subst (λ m. Stands m old.spare.holds (Ok found)) (sym e) begin.stands in
+        subst (KeepsNamed found) (sym (the_catalogue main old.spare.holds found d stood (s old.spare.holds))) (λ slot name is. is)
 
     shows : Shows old old (nothing has)
     shows = record {
@@ -119,6 +126,7 @@ module _ {B : Type 0} (old : World B) (c : Cat) (rules : List Rule) where
       says = tt;
       images = λ tells settled t i later left. one_image settled t i later left;
       whole = stay_whole;
+      named = stay_named;
       caused = record { counted = λ slot less. omega arith; there = λ slot less. absurd (omega (arith, less)) };
       completes = λ tells failed all settled whole fits. record { good_end = tt; clean = tt; by_rows = tt };
     }

@@ -8,7 +8,7 @@ use Rattle.grid_model.specs.Rows.{Cat}
 use Rattle.grid_model.specs.Runs.{Marked}
 use Rattle.grid_model.specs.declared.deltas.Pending.{Pending}
 use Rattle.grid_journal.specs.Stands.{Stands}
-use Rattle.grid_headline.specs.Worlds.{World, Image, Leaves}
+use Rattle.grid_headline.specs.Worlds.{World, DevicesImage, LeavesImage}
 use Rattle.grid_headline.specs.Numbers.{AddsFew}
 use Rattle.grid_headline.specs.Served.{reached}
 use Rattle.grid_headline.specs.Silence.{IsBetween, IsOfDisks, NoneIsSilent}
@@ -56,9 +56,9 @@ module _ (known : ℕ → Type 0) where
   rests c sink n (put e s) none = e
   rests c sink n (answered e s) none = e
 
-  module _ {B : Type 0} (old new : World B) (empty : old.sink.holds ≡ []) (meant : (t : ℕ) (i : Image) (c : Cat) → old.moments < t → Leaves new t i
+  module _ {B : Type 0} (old new : World B) (empty : old.sink.holds ≡ []) (meant : (t : ℕ) (i : DevicesImage) (c : Cat) → old.moments < t → LeavesImage new t i
       → Stands i.main i.spare (Ok c) → (n : ℕ) × IsMeant c i.sink n) where
-    between : (n : ℕ) (i : Image) (c : Cat) → IsBetween (run known) old new n i c → at_rest n c
+    between : (n : ℕ) (i : DevicesImage) (c : Cat) → IsBetween (run known) old new n i c → at_rest n c
     between n i c b =
         let m = meant b.moment i c b.in_run b.leaves b.stands in
         let e : i.sink ≡ b.part = b.sink ∙ ap (λ t. t ++ b.part) empty in

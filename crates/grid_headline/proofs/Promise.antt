@@ -14,13 +14,13 @@ use Rattle.grid_model.specs.Reopening.{reopened, reopened_by}
 use Rattle.grid_model.specs.declared.deltas.Pending.{Pending}
 use Rattle.grid_model.specs.declared.marks.Mark.{Mark}
 use Rattle.grid_model.specs.declared.marks.Mark.TheVariants.{Stop}
-use Rattle.grid_headline.specs.Worlds.{World, Image, LeavesDisks, LeavesFiles}
-use Rattle.grid_headline.specs.Files.{StayWhole, WereWhole}
+use Rattle.grid_headline.specs.Worlds.{World, DevicesImage, LeavesDisks, LeavesFiles}
+use Rattle.grid_headline.specs.Files.{AllStayWhole, WereWhole}
 use Rattle.grid_outside.specs.Files.{Files}
 use Rattle.grid_journal.specs.Stands.{Stands}
-use Rattle.grid_headline.specs.Reads.{Means, HasRules}
+use Rattle.grid_headline.specs.Reads.{MeansRequest, HasRules}
 use Rattle.grid_headline.specs.Served.{Run, state_at, acknowledged, reached}
-use Rattle.grid_headline.specs.Stops.{OneImage, IsBeforeRun, IsInRun, IsSame, IsAt}
+use Rattle.grid_headline.specs.Stops.{OneImage, IsBeforeRun, IsInRun, IsSame, IsAtState}
 use Rattle.grid_headline.proofs.Interrupted.{same_as_reopened}
 
 -- what opening again gives is as it was, with some marks behind those that were kept
@@ -42,7 +42,7 @@ module _ {known : ℕ → Type 0} {found : Cat} {input : Text} (run : Run known 
     pub is_next : slice_get run.begun n ≡ Some next
     pub session : ℕ
     pub order : Order
-    pub asks : Means (state_at run n) next.asked (Ok (session, order))
+    pub asks : MeansRequest (state_at run n) next.asked (Ok (session, order))
     pub kept : List Mark
     pub rest : List Mark
     pub are_kept : next.marks ≡ kept ++ rest
@@ -69,7 +69,7 @@ module _ {known : ℕ → Type 0} {found : Cat} {input : Text} (run : Run known 
   as_found c None (Some now) e k never = absurd never
   as_found c (Some was) None e k never = absurd never
 
-  in_run : (c : Cat) (count : ℕ) (now : Option Pending) → c.pending ≡ now → IsAt run c (reached run c count) now → IsPrefix c count
+  in_run : (c : Cat) (count : ℕ) (now : Option Pending) → c.pending ≡ now → IsAtState run c (reached run c count) now → IsPrefix c count
   in_run c count None k grid = record {
     n = reached run c count;
     holds = omega arith;
@@ -91,7 +91,7 @@ module _ {known : ℕ → Type 0} {found : Cat} {input : Text} (run : Run known 
     });
   }
 
-  pub headline : (old_sink : Text) (i : Image) (one : OneImage run old_sink i) → IsAsBefore found one.cat ⊎ IsPrefix one.cat (length one.part)
+  pub headline : (old_sink : Text) (i : DevicesImage) (one : OneImage run old_sink i) → IsAsBefore found one.cat ⊎ IsPrefix one.cat (length one.part)
   headline old_sink i one = by one.on_the_way
     where
       by : IsBeforeRun run one.cat (length one.part) ⊎ IsInRun run one.cat (length one.part)
@@ -100,7 +100,7 @@ module _ {known : ℕ → Type 0} {found : Cat} {input : Text} (run : Run known 
       by (inr r) = inr (in_run one.cat (length one.part) one.cat.pending refl r.at)
 
   -- and the next run has rules to begin with
-  pub rules_of : (old_sink : Text) (i : Image) (one : OneImage run old_sink i) → (rules : List Rule) × HasRules one.cat rules
+  pub rules_of : (old_sink : Text) (i : DevicesImage) (one : OneImage run old_sink i) → (rules : List Rule) × HasRules one.cat rules
   rules_of old_sink i one = by one.on_the_way
     where
       by : IsBeforeRun run one.cat (length one.part) ⊎ IsInRun run one.cat (length one.part) → (rules : List Rule) × HasRules one.cat rules
@@ -110,7 +110,7 @@ module _ {known : ℕ → Type 0} {found : Cat} {input : Text} (run : Run known 
 -- ---- the next run
 
 -- It finds all whole by what it finds on the disks, where its stores leave nothing but what the stop left of them.
-pub next_whole : {B : Type 0} (new next : World B) (from t : ℕ) (main spare : Text) (c : Cat) → StayWhole new from → from < t
+pub next_whole : {B : Type 0} (new next : World B) (from t : ℕ) (main spare : Text) (c : Cat) → AllStayWhole new from → from < t
     → LeavesDisks new t main spare
     → Stands main spare (Ok c) → ((s slot : ℕ) (files : Files) → next.moments < s → LeavesFiles next s slot files → LeavesFiles new t slot files)
     → WereWhole next next.moments c

@@ -49,9 +49,9 @@ no_login_quits at v made means =
     let m : orders.Means texts at (verb.Login made.0) [] quits = subst P (sym made.2) means in
     absurd (cc m)
 
-pub no_quit : (at : State) (session : ℕ) → Asks texts at login_line [] (Ok (session, quits)) → ⊥
+pub none_end : (at : State) (session : ℕ) → Asks texts at login_line [] (Ok (session, quits)) → ⊥
 unfolding digits number_of
-no_quit at session (asks_for {words = words} request le spells reads same enough built means) =
+none_end at session (asks_for {words = words} request le spells reads same enough built means) =
     let e : words ≡ login_text = SpellsLine-unique login_line words login_text spells login_words in
     let P : List Text → Type 0 = λ ws. Reads ws (Ok request) in
     let r : Reads login_text (Ok request) = subst P e reads in
@@ -86,7 +86,7 @@ module _ (known : ℕ → Type 0) where
     rules_are = has_no_rules;
     begun = logs_in_first ∷ puts_then ∷ [];
     first = inr are_requests;
-    quit_last = ((λ q. no_quit q.at q.session q.quits), tt);
+    end_last = ((λ q. none_end q.at q.session q.quits), tt);
     done = login_done ∷ put_done ∷ [];
     end = put_done.state;
     after = after;

@@ -49,7 +49,7 @@ module _ (known : ℕ → Type 0) where
     rules_are = refl;
     begun = [];
     first = inl ([], none_taken);
-    quit_last = tt;
+    end_last = tt;
     done = [];
     end = begins (grid_of found) (a_copy ∷ []);
     after = runs.none;
@@ -185,7 +185,7 @@ module _ (known : ℕ → Type 0) where
     rules_are = refl;
     begun = [];
     first = inl ([], none_taken);
-    quit_last = tt;
+    end_last = tt;
     done = [];
     end = begins left.grid (a_copy ∷ []);
     after = runs.none;

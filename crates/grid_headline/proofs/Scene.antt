@@ -27,7 +27,7 @@ use Rattle.cmd_read.specs.Table.{number_of}
 use Rattle.cmd_read.specs.Orders.{asks_for}
 use Rattle.grid_model.specs.declared.requests.Verb.TheVariants as verb
 use Rattle.req_words.proofs.OneReading.{SpellsLine-unique}
-use Rattle.grid_headline.specs.Reads.{Means, HasRules}
+use Rattle.grid_headline.specs.Reads.{MeansRequest, HasRules}
 
 -- ---- the grid
 
@@ -126,14 +126,14 @@ put_words = word {s = codes "0"} {t = codes " put /tempZone/home/rods/f d0 new 3
     (space (word {s = codes "new"} {t = codes " 3"} refl (bare refl) refl
     (space (word {s = codes "3"} {t = []} refl (bare refl) tt line_end))))))))))
 
-pub means_login : (at : State) → Means at asks_login (Ok (0, logs_in rods))
+pub means_login : (at : State) → MeansRequest at asks_login (Ok (0, logs_in rods))
 unfolding digits number_of
 means_login at = asks_for (record {
   session = 0;
   verb = verb.Login rods;
 }) (omega arith) login_words (refl, (rods, refl, refl)) refl (omega arith) refl refl
 
-pub means_put : (at : State) → Means at asks_put (Ok (0, puts))
+pub means_put : (at : State) → MeansRequest at asks_put (Ok (0, puts))
 unfolding digits number_of
 means_put at = asks_for (record { session = 0; verb = verb.Put f (codes "d0") New 3 }) (omega arith) put_words
     (refl, (f, record { names = refl; text_is = refl }, (codes "d0", refl, (New, refl, (3, refl, refl))))) refl (omega arith) refl refl
@@ -207,5 +207,5 @@ are_requests = record {
 
 -- ---- the run
 
-pub after : After Means first (logs_in_first ∷ puts_then ∷ []) (login_done ∷ put_done ∷ []) put_done.state
+pub after : After MeansRequest first (logs_in_first ∷ puts_then ∷ []) (login_done ∷ put_done ∷ []) put_done.state
 after = next (Ok (0, logs_in rods)) (means_login first) refl refl (next (Ok (0, puts)) (means_put logged) refl refl none)

@@ -31,14 +31,14 @@ use Rattle.grid_model.specs.declared.marks.Mark.{Mark}
 use Rattle.grid_model.specs.declared.marks.Mark.TheVariants.{Ran, Stop}
 use Rattle.rule_parse.specs.Printed.{print_rules}
 use Rattle.grid_journal.specs.Stands.{Stands}
-use Rattle.grid_headline.specs.Reads.{Means}
+use Rattle.grid_headline.specs.Reads.{MeansRequest}
 use Rattle.grid_headline.specs.Numbers.{KeepsNumbers}
 use Rattle.grid_headline.specs.Served.{Run, reached, text_of}
 use Rattle.grid_headline.specs.Stops.{OneImage, IsInterrupted, IsTold, AreFirst}
 use Rattle.grid_headline.proofs.Scene.{rods, login_line, put_line, abc, asks_login, asks_put, f, puts}
 use Rattle.grid_headline.proofs.Scene.{ran, done_or, nothing_done, means_login, means_put, are_requests, input, logs_in_first}
 use Rattle.grid_headline.proofs.Scene as scene
-use Rattle.grid_headline.proofs.PutStops.{no_quit, the_only, the_catalogue}
+use Rattle.grid_headline.proofs.PutStops.{none_end, the_only, the_catalogue}
 
 -- ---- the rule: behind a put the object is copied to d1, which is taken back where it fails
 
@@ -80,7 +80,7 @@ login_done = done_or (nothing_done first) (command first 0 (logs_in rods) [])
 abbrev pub put_done : Done
 put_done = done_or (nothing_done login_done.state) (command login_done.state 0 puts (ran ∷ ran_later ∷ []))
 
-pub after : After Means first (logs_in_first ∷ puts_and_copies ∷ []) (login_done ∷ put_done ∷ []) put_done.state
+pub after : After MeansRequest first (logs_in_first ∷ puts_and_copies ∷ []) (login_done ∷ put_done ∷ []) put_done.state
 after = runs.next (Ok (0, logs_in rods)) (means_login first) refl refl (runs.next (Ok (0, puts)) (means_put login_done.state) refl refl runs.none)
 
 pub is_no_stop : (word now : ℕ) (bad : List BadReplica) → Ran word now bad ≢ Stop
@@ -102,7 +102,7 @@ module _ (known : ℕ → Type 0) where
     rules_are = refl;
     begun = logs_in_first ∷ puts_and_copies ∷ [];
     first = inr are_requests;
-    quit_last = ((λ q. no_quit q.at q.session q.quits), tt);
+    end_last = ((λ q. none_end q.at q.session q.quits), tt);
     done = login_done ∷ put_done ∷ [];
     end = put_done.state;
     after = after;

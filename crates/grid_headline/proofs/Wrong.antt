@@ -24,8 +24,8 @@ use Rattle.cmd_read.specs.Orders.{Asks, asks_for}
 use Rattle.grid_model.specs.declared.requests.Verb.{Verb}
 use Rattle.grid_model.specs.declared.requests.Verb.TheVariants as verb
 use Rattle.req_words.proofs.OneReading.{SpellsLine-unique}
-use Rattle.grid_headline.specs.Worlds.{World, Image, faults_of}
-use Rattle.grid_headline.specs.Reads.{texts, Means}
+use Rattle.grid_headline.specs.Worlds.{World, DevicesImage, faults_of}
+use Rattle.grid_headline.specs.Reads.{texts, MeansRequest}
 use Rattle.grid_headline.specs.Silence.{IsSilent, IsLoud, IsBetween, NoneIsSilent}
 use Rattle.grid_headline.specs.Causes.{AreCaused}
 use Rattle.grid_headline.specs.Draws.{no_words, add_words}
@@ -80,7 +80,7 @@ no_silent_put at session order (asks_for {words = words} request le spells reads
 
 puts_loud : (known : ℕ → Type 0) {B : Type 0} (old new : World B) → IsLoud (run known) old new 1
 puts_loud known old new next session order is means =
-    let P : Asked → Type 0 = λ a. Means logged a (Ok (session, order)) in
+    let P : Asked → Type 0 = λ a. MeansRequest logged a (Ok (session, order)) in
     no_silent_put logged session order (subst P (ap (λ (m : Option Marked). asked_of_next m) (sym is)) means)
   where
     asked_of_next : Option Marked → Asked
@@ -88,7 +88,7 @@ puts_loud known old new next session order is means =
     asked_of_next (Some m) = m.asked
 
 -- then rows are the same
-rows_in_silence : (known : ℕ → Type 0) {B : Type 0} (old new : World B) (i j : Image) → NoneIsSilent (run known) old new
+rows_in_silence : (known : ℕ → Type 0) {B : Type 0} (old new : World B) (i j : DevicesImage) → NoneIsSilent (run known) old new
     → IsBetween (run known) old new 1 i (before known) → ¬ IsBetween (run known) old new 1 j (silent known)
 rows_in_silence known old new i j none b k =
     let e : before known ≡ silent known = none.one_catalogue 1 i j (before known) (silent known) (omega arith) (puts_loud known old new) b k in

@@ -3,7 +3,7 @@ use Rattle.std.specs.Prelude.{ℕ, ◌+◌, ◌-◌, ◌^◌, ◌<◌, ◌≤◌
 use Rattle.grid_outside.specs.Fault.{Rose}
 use Rattle.grid_model.specs.declared.marks.Mark.{Mark}
 use Rattle.grid_model.specs.declared.marks.Mark.TheVariants as mark
-use Rattle.grid_headline.specs.Worlds.{World, Tells, faults_of}
+use Rattle.grid_headline.specs.Worlds.{World, StoreTells, faults_of}
 
 -- how many faults of this slot a mark tells
 abbrev pub told_by : ℕ → Mark → ℕ
@@ -32,4 +32,4 @@ module _ {B : Type 0} (old new : World B) where
 
 -- each store tells its files
 abbrev pub AllTell : {B : Type 0} → World B → Type 0
-AllTell w = (slot : ℕ) → slot < length w.stores → Tells w slot
+AllTell w = (slot : ℕ) → slot < length w.stores → StoreTells w slot

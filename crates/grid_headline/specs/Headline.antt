@@ -1,17 +1,18 @@
 -- What a run of `serve` over a catalogue is, whatever disks and stores refuse and wherever the server stops.
 use Rattle.std.specs.Prelude.{◌≡◌, ℕ, ◌+◌, ◌^◌, ◌<◌, ◌≤◌, ◌++◌, Ok, length, take, IsTrue}
+use Rattle.grid_outside.specs.Device.{IsSettled}
 use Rattle.grid_model.specs.Names.{Text}
 use Rattle.grid_model.specs.Rows.{Cat}
 use Rattle.grid_model.specs.Completing.{AreClean, AllEndByRows}
 use Rattle.grid_journal.specs.Stands.{Stands}
-use Rattle.grid_headline.specs.Worlds.{World, Image, Leaves}
+use Rattle.grid_headline.specs.Worlds.{World, DevicesImage, LeavesImage}
 use Rattle.grid_headline.specs.Served.{Run, report_of, text_of, acknowledged, marks_of}
 use Rattle.grid_headline.specs.Stops.{OneImage}
-use Rattle.grid_headline.specs.Files.{IsKnown, DisksAreSettled, AreSettled, WereWhole, StayWhole}
+use Rattle.grid_headline.specs.Files.{IsKnown, DisksAreSettled, AreSettled, WereWhole, AllStayWhole, StayNamed}
 use Rattle.grid_headline.specs.Silence.{NoneIsSilent}
 use Rattle.grid_headline.specs.Causes.{AreCaused, NoneFailed, AllTell}
-use Rattle.grid_headline.specs.Draws.{Draws, shown_marks}
-use Rattle.grid_headline.specs.Ends.{RunEnd, read_all, no_memory, worn, Says, HadNumbers, LeavesFewOrphans}
+use Rattle.grid_headline.specs.Draws.{DrawsMarks, shown_marks}
+use Rattle.grid_headline.specs.Ends.{RunEnd, read_all, no_memory, worn, SaysOfEnd, HadNumbers, LeavesFewOrphans}
 
 -- The run begins on this catalogue, of as many stores as there are: main, spare and source tell.
 pub record BeginsOn {B : Type 0} (old : World B) (found : Cat) : Type 0 where
@@ -39,7 +40,7 @@ module _ {B : Type 0} {found : Cat} (old new : World B) (run : Run (IsKnown old 
     pub report_first : 0 < length run.begun → length (report_of run) ≤ length part
     pub all_but_one : length run.begun ≤ acknowledged run (length part) + 1
     -- times and words were given by the ambient
-    pub drawn : IsTrue new.ambient.tells → Draws run (length part) old.ambient new.ambient
+    pub drawn : IsTrue new.ambient.tells → DrawsMarks run (length part) old.ambient new.ambient
 
   -- Where no device failed, each mark that is shown is clean, and what is not answered ok is so by a rule of its row or of a step.
   pub record Completes (shows : Shows) (end : RunEnd) : Type 0 where
@@ -51,11 +52,13 @@ module _ {B : Type 0} {found : Cat} (old new : World B) (run : Run (IsKnown old 
 pub record Serves {B : Type 0} (old new : World B) (found : Cat) (end : RunEnd) : Type 0 where
   pub run : Run (IsKnown old found) found old.source.left
   pub shown : IsTrue old.sink.tells → Shows old new run
-  pub says : Says run old new end
+  pub says : SaysOfEnd run old new end
   -- whatever a stop at any moment leaves of the disks and the sink
-  pub images : IsTrue old.sink.tells → AreSettled old → (t : ℕ) (i : Image) → old.moments < t → Leaves new t i → OneImage run old.sink.holds i
+  pub images : IsTrue old.sink.tells → AreSettled old → (t : ℕ) (i : DevicesImage) → old.moments < t → LeavesImage new t i → OneImage run old.sink.holds i
   -- the files of stores that tell stay whole
-  pub whole : DisksAreSettled old → WereWhole old old.moments found → StayWhole new old.moments
+  pub whole : DisksAreSettled old → WereWhole old old.moments found → AllStayWhole new old.moments
+  -- no file is lost track of, on stores that tell nothing too: no request that is built has a file removed
+  pub named : IsSettled old.main → StayNamed new old.moments found
   -- each fault that is told was counted
   pub caused : AreCaused old new (run.report ++ marks_of run.begun)
   pub completes : (tells : IsTrue old.sink.tells) → NoneFailed old new → AllTell old → DisksAreSettled old → WereWhole old old.moments found

@@ -18,7 +18,17 @@ abbrev pub is_built : Verb → Bool
 is_built (verb.Login user) = true
 is_built verb.Logout = true
 is_built verb.Quit = true
+is_built (verb.MkUser name kind) = true
+is_built (verb.MkGroup name) = true
+is_built (verb.AddMember group user) = true
+is_built (verb.RmMember group user) = true
 is_built (verb.MkDir path) = true
+is_built (verb.RmDir path) = true
+is_built (verb.Mv from to) = true
+is_built (verb.Ls path) = true
+is_built (verb.ChMod level name path) = true
+is_built (verb.Inherit path) = true
+is_built (verb.NoInherit path) = true
 is_built (verb.Put path resource New count) = true
 is_built (verb.Get path resource) = true
 is_built other = false
@@ -28,21 +38,21 @@ abbrev pub texts : Texts
 texts = record { rules = ReadsRules; call = ReadsCall; printed = print_rules; built = is_built }
 
 -- a request as it was read asks for this, where the state is so
-abbrev pub Means : State → Asked → Request → Type 0
-Means at a request = Asks texts at a.line a.body request
+abbrev pub MeansRequest : State → Asked → Request → Type 0
+MeansRequest at a request = Asks texts at a.line a.body request
 
 -- the catalogue has the text of these rules, as they are printed
 abbrev pub HasRules : Cat → List Rule → Type 0
 HasRules c rules = c.rules ≡ print_rules rules
 
 -- the request ends the input
-pub record IsQuit (a : Asked) : Type 0 where
+pub record EndsInput (a : Asked) : Type 0 where
   pub at : State
   pub session : ℕ
-  pub quits : Means at a (Ok (session, quits))
+  pub quits : MeansRequest at a (Ok (session, quits))
 
 -- none of them but the last one does
-abbrev pub QuitLast : List Asked → Type 0
-QuitLast [] = Unit {0}
-QuitLast (a ∷ []) = Unit {0}
-QuitLast (a ∷ b ∷ more) = ¬ IsQuit a × QuitLast (b ∷ more)
+abbrev pub EndsInputLast : List Asked → Type 0
+EndsInputLast [] = Unit {0}
+EndsInputLast (a ∷ []) = Unit {0}
+EndsInputLast (a ∷ b ∷ more) = ¬ EndsInput a × EndsInputLast (b ∷ more)

@@ -11,10 +11,12 @@ use Rattle.grid_model.specs.Doing.{Course}
 use Rattle.grid_model.specs.Operations.Common.{is_person}
 use Rattle.grid_model.specs.Operations.Table.{Operation}
 use Rattle.grid_model.specs.Sessions.{Session, State}
-use Rattle.grid_model.specs.Orders.{Order, logs_in, logs_out, quits, works}
+use Rattle.grid_model.specs.Orders.{Order, lists, logs_in, logs_out, quits, works}
 use Rattle.grid_model.specs.Working.{Done, answered, refused_at_once, well, begun, work, running, operate}
 use Rattle.grid_model.specs.Uploading.{has_upload, with_session, log_in, log_out, is_uploading}
-use Rattle.grid_model.specs.Obeying.{do_works, logged_in, not_logged_in}
+use Rattle.grid_model.specs.Listings.{ls_rows}
+use Rattle.grid_model.specs.Refusing.{Or}
+use Rattle.grid_model.specs.Obeying.{do_works, listing, logged_in, not_logged_in}
 use Rattle.grid_model.specs.Runs.{Request, does}
 use Rattle.grid_model.specs.declared.marks.Mark.{Mark}
 use Rattle.grid_model.specs.declared.requests.Verb.{Verb}
@@ -24,7 +26,7 @@ use Rattle.grid_model.proofs.MeaningLemmas.{gives_is, mapped_gives}
 use Rattle.grid_model.proofs.WithoutRules.{operate_alone, answers}
 use Rattle.cmd_read.specs.Orders.{Asks, asks_for, not_built, cut_short, wrong_words, no_words as line_refused, too_long}
 use Rattle.cmd_read.specs.Orders as orders
-use Rattle.grid_headline.specs.Reads.{Means, texts, is_built}
+use Rattle.grid_headline.specs.Reads.{MeansRequest, texts, is_built}
 use Rattle.grid_headline.specs.Draws.{AreSomeOf, skip, keep, words_of, Words, request_words}
 
 -- the order is one of those that are built
@@ -32,6 +34,7 @@ abbrev pub IsBuilt : Order → Type 0
 IsBuilt (logs_in user) = Unit {0}
 IsBuilt logs_out = Unit {0}
 IsBuilt quits = Unit {0}
+IsBuilt (lists path) = Unit {0}
 IsBuilt (works op count) = Unit {0}
 IsBuilt other = ⊥
 
@@ -43,7 +46,17 @@ built_verb : (at : State) (v : Verb) (body : Text) (order : Order) → is_built 
 built_verb at (verb.Login user) body order built means = subst IsBuilt (sym means) tt
 built_verb at verb.Logout body order built means = subst IsBuilt (sym means) tt
 built_verb at verb.Quit body order built means = subst IsBuilt (sym means) tt
+built_verb at (verb.MkUser name kind) body order built means = subst IsBuilt (sym means) tt
+built_verb at (verb.MkGroup name) body order built means = subst IsBuilt (sym means) tt
+built_verb at (verb.RmDir path) body order built means = subst IsBuilt (sym means) tt
+built_verb at (verb.AddMember group user) body order built means = subst IsBuilt (sym means) tt
+built_verb at (verb.RmMember group user) body order built means = subst IsBuilt (sym means) tt
 built_verb at (verb.MkDir path) body order built means = subst IsBuilt (sym means) tt
+built_verb at (verb.Mv from to) body order built means = subst IsBuilt (sym means) tt
+built_verb at (verb.Ls path) body order built means = subst IsBuilt (sym means) tt
+built_verb at (verb.ChMod level name path) body order built means = subst IsBuilt (sym means) tt
+built_verb at (verb.Inherit path) body order built means = subst IsBuilt (sym means) tt
+built_verb at (verb.NoInherit path) body order built means = subst IsBuilt (sym means) tt
 built_verb at (verb.Put path resource mode count) body order built means = subst IsBuilt (sym means) tt
 built_verb at (verb.Get path resource) body order built means = subst IsBuilt (sym means) tt
 built_verb at other body order built means = absurd (both_ways false refl built)
@@ -78,6 +91,10 @@ log_out-rules at n x s = by (is_uploading x)
     by true = refl
     by false = refl
 
+listing-rules : (at : State) (rows : Or (List (List Text))) (s : Course) → (listing at rows s).state.rules ≡ at.rules
+listing-rules at (Ok rows) s = refl
+listing-rules at (Err r) s = refl
+
 -- whatever is given keeps the rules
 abbrev AllKeep : State → Meaning Done → Type 0
 AllKeep at m = (d : Done) → m ≡ gives d → d.state.rules ≡ at.rules
@@ -102,6 +119,8 @@ obey-rules at n logs_out s is none None = given-keeps at (refused_at_once at s r
 obey-rules at n logs_out s is none (Some x) = given-keeps at (log_out at n x s) (log_out-rules at n x s)
 obey-rules at n quits s is none None = given-keeps at (answered at s well) refl
 obey-rules at n quits s is none (Some x) = given-keeps at (answered at s well) refl
+obey-rules at n (lists path) s is none None = given-keeps at (refused_at_once at s refusal.NoLogin) refl
+obey-rules at n (lists path) s is none (Some x) = given-keeps at (listing at (ls_rows s.grid x.user path) s) (listing-rules at (ls_rows s.grid x.user path) s)
 obey-rules at n (works op count) s is none None = given-keeps at (refused_at_once at s refusal.NoLogin) refl
 obey-rules at n (works op count) s is none (Some x) = works-rules at x op count s none
 obey-rules at n other s is none o = absurd is
@@ -127,11 +146,12 @@ words_by at (Err r) marks ok w all is some = some-behind (words_of marks) some
 words_by at (Ok (n, logs_in user)) marks ok w all is some = some-front (words_of marks) some
 words_by at (Ok (n, logs_out)) marks ok w all is some = some-front (words_of marks) some
 words_by at (Ok (n, quits)) marks ok w all is some = some-front (words_of marks) some
+words_by at (Ok (n, lists path)) marks ok w all is some = some-front (words_of marks) some
 words_by at (Ok (n, works op count)) marks ok w all is some = some-front (words_of marks) some
 words_by at (Ok (n, other)) marks ok w all is some = absurd is
 
 -- the words of a request and of those behind it are some of those of its marks, and of all
-pub words_in : (at : State) (asked : Asked) (request : Request) (marks : List Mark) (ok : Bool) (w : Words) (all : List ℕ) → Means at asked request
+pub words_in : (at : State) (asked : Asked) (request : Request) (marks : List Mark) (ok : Bool) (w : Words) (all : List ℕ) → MeansRequest at asked request
     → AreSomeOf w.words all
     → AreSomeOf (request_words at request marks ok w).words (words_of marks ++ all)
 words_in at asked request marks ok w all means some = words_by at request marks ok w all (built means) some

@@ -9,7 +9,7 @@ use Rattle.grid_model.specs.Uploads.{is_well}
 use Rattle.grid_model.specs.Working.{Done}
 use Rattle.grid_model.specs.Runs.{Request, Marked, After, none as nothing_done, next as next_done}
 use Rattle.grid_model.specs.declared.marks.Mark.{Mark}
-use Rattle.grid_headline.specs.Reads.{Means}
+use Rattle.grid_headline.specs.Reads.{MeansRequest}
 use Rattle.grid_headline.specs.Served.{marks_of}
 use Rattle.grid_headline.specs.Draws.{AreSomeOf, none, skip, keep, word_of, time_of, words_of, with_marks, Words, no_words, HaveWords, none_left, next, request_words}
 use Rattle.run_laws.specs.Steps.{Gave}
@@ -113,7 +113,7 @@ pub record WordsIn (at : State) (ms : List Marked) (ds : List Done) (all : List 
   pub have : HaveWords at ms ds words
   pub in_all : AreSomeOf words.words all
 
-words-next : (at : State) (m : Marked) (ms : List Marked) (d : Done) (ds : List Done) (request : Request) → Means at m.asked request
+words-next : (at : State) (m : Marked) (ms : List Marked) (d : Done) (ds : List Done) (request : Request) → MeansRequest at m.asked request
     → WordsIn d.state ms ds (words_of (marks_of ms))
     → WordsIn at (m ∷ ms) (d ∷ ds) (words_of (marks_of (m ∷ ms)))
 words-next at m ms d ds request means more = record {
@@ -123,7 +123,7 @@ words-next at m ms d ds request means more = record {
       (words_in at m.asked request m.marks (is_well d.reply.end) more.words (words_of (marks_of ms)) means more.in_all);
 }
 
-pub words-shown : {at end : State} {ms : List Marked} {ds : List Done} (told : List Mark) (n : ℕ) → After Means at ms ds end → AreFirstAt told (slice_get ms n)
+pub words-shown : {at end : State} {ms : List Marked} {ds : List Done} (told : List Mark) (n : ℕ) → After MeansRequest at ms ds end → AreFirstAt told (slice_get ms n)
     → WordsIn at (shown ms told n) ds (words_of (marks_of (shown ms told n)))
 words-shown told zero nothing_done first = record { words = no_words; have = none_left; in_all = none }
 words-shown told (suc n) nothing_done first = record { words = no_words; have = none_left; in_all = none }

@@ -11,8 +11,8 @@ use Rattle.grid_model.specs.Names.{Text}
 use Rattle.grid_model.specs.Rows.{Cat}
 use Rattle.grid_deed.specs.Frame.{Goes}
 use Rattle.grid_journal.specs.Stands.{StandsFor}
-use Rattle.grid_headline.specs.Worlds.{World, LeavesFiles, LeavesDisks, Tells, faults_of}
-use Rattle.grid_headline.specs.Files.{DisksAreSettled, WereWhole, StayWhole, AreWhole, IsKnown}
+use Rattle.grid_headline.specs.Worlds.{World, LeavesFiles, LeavesDisks, StoreTells, faults_of}
+use Rattle.grid_headline.specs.Files.{DisksAreSettled, WereWhole, AllStayWhole, AllAreWhole, IsKnown}
 use Rattle.grid_headline.proofs.PutStops.{the_catalogue}
 use Rattle.run_laws.specs.Sofar.{KeepsWhole}
 use Rattle.run_laws.specs.Went.{StoresRest, Rests, Went, AreInOrder}
@@ -57,7 +57,7 @@ module _ {B : Type 0} (old mid : World B) (first : Went old mid) where
           omega (arith, counted, (first.stores slot before a.0 e a.1).goes.faults)
 
   -- a store that tells told before, and the other way round
-  pub tells-after : (slot : ℕ) → Tells old slot → Tells mid slot
+  pub tells-after : (slot : ℕ) → StoreTells old slot → StoreTells mid slot
   tells-after slot t =
       let a = store-after slot t.store t.is in
       record { store = a.0; is = a.1; tells = subst IsTrue (sym (first.stores slot t.store a.0 t.is a.1).goes.tells) t.tells }
@@ -78,7 +78,7 @@ module _ {B : Type 0} (old mid : World B) (first : Went old mid) where
 
   module _ (main_tells : IsTrue old.main.tells) (spare_tells : IsTrue old.spare.tells) (order : AreInOrder mid) where
     -- where all stays whole it is so by the catalogue that main stands for
-    pub whole-now : (c : Cat) (since : ℕ) → since ≤ mid.moments → StandsFor mid.main.holds c → StayWhole mid since → WereWhole mid mid.moments c
+    pub whole-now : (c : Cat) (since : ℕ) → since ≤ mid.moments → StandsFor mid.main.holds c → AllStayWhole mid since → WereWhole mid mid.moments c
     whole-now c since le stands stay t late = stay t mid.main.holds mid.spare.holds c (omega (arith, le, late))
         (record {
           of_main = mid.main.now (subst IsTrue (sym first.main.tells) main_tells) t (omega (arith, order.main_last, late));
@@ -88,7 +88,7 @@ module _ {B : Type 0} (old mid : World B) (first : Went old mid) where
 
     -- the files that were known are known by what came of them
     pub known-now : (found c : Cat) → (IsSettled old.main → IsSettled mid.main) → StandsFor mid.main.holds c
-        → (DisksAreSettled old → WereWhole old old.moments found → StayWhole mid old.moments) → (slot : ℕ) → IsKnown old found slot → IsKnown mid c slot
+        → (DisksAreSettled old → WereWhole old old.moments found → AllStayWhole mid old.moments) → (slot : ℕ) → IsKnown old found slot → IsKnown mid c slot
     known-now found c main stands stay slot known = record {
       settled = disks-settled spare_tells main known.settled;
       whole = whole-now c old.moments first.drawn stands (stay known.settled known.whole);
@@ -111,11 +111,11 @@ went-then old mid new first then = record {
 }
 
 -- all stays whole where it did, and does from there on
-pub whole-then : {B : Type 0} (old mid new : World B) → Went old mid → Went mid new → StayWhole mid old.moments → StayWhole new mid.moments
-    → StayWhole new old.moments
+pub whole-then : {B : Type 0} (old mid new : World B) → Went old mid → Went mid new → AllStayWhole mid old.moments → AllStayWhole new mid.moments
+    → AllStayWhole new old.moments
 whole-then old mid new first then before stay t main spare c late left its = by_time t late left (cases_lt mid.moments t)
   where
-    by_time : (t : ℕ) → old.moments < t → LeavesDisks new t main spare → (mid.moments < t) ⊎ (t ≤ mid.moments) → AreWhole new t c
+    by_time : (t : ℕ) → old.moments < t → LeavesDisks new t main spare → (mid.moments < t) ⊎ (t ≤ mid.moments) → AllAreWhole new t c
     by_time t late left (inl later) = stay t main spare c later left its
     by_time t late left (inr early) =
         let was = before t main spare c late (disks-before mid new then t main spare early left) its in
@@ -128,12 +128,3 @@ files-rest old new went rest t slot files left =
     let b = store-before old new went slot left.store left.is in
     let r = rest slot b.0 left.store b.1 left.is in
     record { store = b.0; is = b.1; tells = subst IsTrue r.tells left.tells; of_store = r.left t files left.of_store }
-
--- and all stays whole where neither a disk nor a store was called
-pub whole-rest : {B : Type 0} (mid new : World B) (c : Cat) → AreInOrder mid → StandsFor mid.main.holds c → Went mid new → Rests mid.main new.main → StoresRest mid new
-    → KeepsWhole mid new c
-whole-rest mid new c order holds went rests rest settled whole t main spare d late left its =
-    let same : main ≡ mid.main.holds = settled.of_main t main (omega (arith, order.main_last, late)) (rests.left t main left.of_main) in
-    let is : d ≡ c = the_catalogue main spare c d (subst (λ (m : Text). StandsFor m c) (sym same) holds spare) its in
-    let was = whole t late in
-    subst (AreWhole new t) (sym is) (record { rows = was.rows; call = was.call; files = λ slot files its. was.files slot files (files-rest mid new went rest t slot files its) })

@@ -23,7 +23,7 @@ use Rattle.grid_journal.specs.Stands.{StandsFor}
 use Rattle.grid_headline.specs.Served.{joined, whole_in}
 use Rattle.grid_headline.specs.Numbers.{KeepsNumbers}
 use Rattle.run_laws.specs.Handled.{Handled, with_one, replies_of, first_of, told_of, reached, state_at, IsOfRun, IsBehindSome, OneOfRun, not_begun, in_run, ShowsMost}
-use Rattle.run_laws.specs.Steps.{IsLike, IsBehind, Follows, kept, nothing, IsUntold, OneOf, not_kept, kept_so}
+use Rattle.run_laws.specs.Steps.{IsLike, IsLeftBehind, ComesAfter, kept, nothing, IsUntold, OneOf, not_kept, kept_so}
 use Rattle.run_laws.proofs.Lists.{get-front, get-last, state-more, state-last}
 use Rattle.run_laws.proofs.Texts.{HaveBytes, joined-push, whole-none, whole-behind, whole-more, whole-most, whole-all, whole-less}
 
@@ -55,7 +55,7 @@ like-of found c e its like = record {
   stores = like.stores ∙ its.stores;
 }
 
-pub behind-of : (found c : Cat) (n : ℕ) (d : Done) (e : Cat) → IsOfRun found c → IsBehind c n d e → IsOfRun found e
+pub behind-of : (found c : Cat) (n : ℕ) (d : Done) (e : Cat) → IsOfRun found c → IsLeftBehind c n d e → IsOfRun found e
 behind-of found c n d e its behind = record {
   number = behind.run ∙ its.number;
   rules = behind.rules ∙ its.rules;
@@ -198,7 +198,7 @@ module _ (found : Cat) (h : Handled) (m : Marked) (d : Done) (ts : List Text) (t
           (like.grid ∙ grid) (λ l. told_next k ∙ ap (λ i. take i m.marks) none)
 
       -- it was kept
-      changed : (e : Cat) (k : ℕ) → IsBehind c n d e → (k < length t) ⊎ (length t ≡ k) → IsBehindSome found more e (bytes + k)
+      changed : (e : Cat) (k : ℕ) → IsLeftBehind c n d e → (k < length t) ⊎ (length t ≡ k) → IsBehindSome found more e (bytes + k)
       changed e k behind (inl less) =
           made e k size (suc size) (behind-of found c n d e its behind) (whole_cut k less) (omega (arith, behind.last, n_is)) (omega arith) (omega (arith, behind.last, n_is)) d.state at_next none_next
           behind.grid (λ l. absurd (omega (arith, l, behind.last, n_is)))
@@ -215,7 +215,7 @@ module _ (found : Cat) (h : Handled) (m : Marked) (d : Done) (ts : List Text) (t
           made c k (suc size) (suc size) its (whole_full k all) (omega (arith, last)) (omega arith) (omega (arith, last)) d.state at_next none_next
           (sym same) (λ l. told_past k)
 
-      follows : (e : Cat) (k : ℕ) → Follows c n d e → (k < length t) ⊎ (length t ≡ k) → IsBehindSome found more e (bytes + k)
+      follows : (e : Cat) (k : ℕ) → ComesAfter c n d e → (k < length t) ⊎ (length t ≡ k) → IsBehindSome found more e (bytes + k)
       follows e k (kept behind) most = changed e k behind most
       follows e k (nothing same no_marks grid_same) most =
           subst (λ (x : Cat). IsBehindSome found more x (bytes + k)) (sym same) (no_change k (sym marks_are ∙ no_marks) grid_same most)

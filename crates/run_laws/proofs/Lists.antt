@@ -12,7 +12,7 @@ use Rattle.grid_model.specs.ReplyTexts.{ArePieces, reply_text}
 use Rattle.grid_model.specs.Runs.{Request, Marked, After, none, next, does, state_after}
 use Rattle.grid_model.specs.Completing.{AreClean, EndsByRows}
 use Rattle.grid_model.specs.declared.marks.Mark.{Mark}
-use Rattle.grid_headline.specs.Reads.{Means}
+use Rattle.grid_headline.specs.Reads.{MeansRequest}
 use Rattle.grid_headline.specs.Served.{AllPieces, reply_texts, marks_of, asked_of}
 use Rattle.run_laws.specs.Sofar.{AllByRows}
 
@@ -48,18 +48,18 @@ asked-length (m ∷ ms) = ap suc (asked-length ms)
 
 -- ---- what they did
 
-pub after-length : {s end : State} {ms : List Marked} {ds : List Done} → After Means s ms ds end → length ds ≡ length ms
+pub after-length : {s end : State} {ms : List Marked} {ds : List Done} → After MeansRequest s ms ds end → length ds ≡ length ms
 after-length none = refl
 after-length (next request means did left more) = ap suc (after-length more)
 
-pub after-push : {s end : State} {ms : List Marked} {ds : List Done} (m : Marked) (d : Done) (request : Request) → After Means s ms ds end
-    → Means end m.asked request
-    → does end request m.marks ≡ gives d → d.left ≡ [] → After Means s (ms ++ m ∷ []) (ds ++ d ∷ []) d.state
+pub after-push : {s end : State} {ms : List Marked} {ds : List Done} (m : Marked) (d : Done) (request : Request) → After MeansRequest s ms ds end
+    → MeansRequest end m.asked request
+    → does end request m.marks ≡ gives d → d.left ≡ [] → After MeansRequest s (ms ++ m ∷ []) (ds ++ d ∷ []) d.state
 after-push m d request none means did left = next request means did left none
 after-push m d request (next first means_first did_first left_first more) means did left =
     next first means_first did_first left_first (after-push m d request more means did left)
 
-pub by_rows-push : {s end : State} {ms : List Marked} {ds : List Done} (m : Marked) (d : Done) → After Means s ms ds end → AllByRows ms ds
+pub by_rows-push : {s end : State} {ms : List Marked} {ds : List Done} (m : Marked) (d : Done) → After MeansRequest s ms ds end → AllByRows ms ds
     → (AreClean m.marks → EndsByRows d.reply.end)
     → AllByRows (ms ++ m ∷ []) (ds ++ d ∷ [])
 by_rows-push m d none rows row = (row, tt)
@@ -67,7 +67,7 @@ by_rows-push m d (next request means did left more) rows row = (rows.0, by_rows-
 
 -- ---- states in between
 
-pub state-all : {s end : State} {ms : List Marked} {ds : List Done} → After Means s ms ds end → state_after s ds (length ds) ≡ end
+pub state-all : {s end : State} {ms : List Marked} {ds : List Done} → After MeansRequest s ms ds end → state_after s ds (length ds) ≡ end
 state-all none = refl
 state-all (next request means did left more) = state-all more
 

@@ -2,6 +2,7 @@
 use Rattle.std.proofs.Common.{◌≡◌, ◌⊎◌, inl, inr, ℕ, ◌+◌, ◌<◌, ◌≤◌, List, [], ◌∷◌, ◌++◌, length, IsTrue, refl, sym, ap, ◌∙◌, subst, append_assoc, length-append, arith}
 use Rattle.std.specs.List.{AllByRecursion}
 use Rattle.std.proofs.lemmas.Bool.{cases_lt}
+use Rattle.grid_outside.specs.Device.{IsSettled}
 use Rattle.grid_model.specs.Names.{Text}
 use Rattle.grid_model.specs.Rows.{Cat}
 use Rattle.grid_model.specs.Inputs.{Asked}
@@ -12,14 +13,14 @@ use Rattle.grid_model.specs.declared.marks.Mark.{Mark}
 use Rattle.grid_model.specs.Replies.{rest_lines}
 use Rattle.grid_journal.specs.Stands.{StandsFor}
 use Rattle.grid_headline.specs.Worlds.{World}
-use Rattle.grid_headline.specs.Reads.{Means, IsQuit}
+use Rattle.grid_headline.specs.Reads.{MeansRequest, EndsInput}
 use Rattle.grid_headline.specs.Served.{joined, marks_of}
-use Rattle.grid_headline.specs.Files.{IsKnown, AreSettled, DisksAreSettled, WereWhole, StayWhole}
+use Rattle.grid_headline.specs.Files.{IsKnown, AreSettled, DisksAreSettled, KeepsNamed, WereWhole, AllStayWhole, StayNamed}
 use Rattle.grid_headline.specs.Causes.{AreCaused}
 use Rattle.grid_headline.specs.Headline.{BeginsOn}
 use Rattle.run_laws.specs.Handled.{Handled, with_one, replies_of, IsOfRun, state_at, OneOfRun}
-use Rattle.run_laws.specs.Steps.{Gave, IsToldOf, Follows, kept, nothing, Step, IsWhole}
-use Rattle.run_laws.specs.Sofar.{Ran, Sofar, KeepsWhole}
+use Rattle.run_laws.specs.Steps.{Gave, IsToldOf, ComesAfter, kept, nothing, RequestStep, IsHandledWhole}
+use Rattle.run_laws.specs.Sofar.{Ran, Sofar, KeepsWhole, KeepsNames}
 use Rattle.run_laws.specs.Went.{Went, AreInOrder}
 use Rattle.run_laws.proofs.Texts.{joined-push}
 use Rattle.run_laws.proofs.Lists.{all-append, all-map, marks-push, asked-push, asked-length, after-length, after-push, by_rows-push, state-all, pieces-length, pieces-push, replies-length, replies-push}
@@ -54,18 +55,35 @@ module _ {B : Type 0} (old mid : World B) (found c : Cat) (at : State) (asked : 
     known-so = known-now old mid so.ran.went begin.main_tells begin.spare_tells order found c so.main_settled so.stands so.ran.whole
 
     -- all stays whole, where it does from here on
-    pub whole-so : (new : World B) → Went mid new → KeepsWhole mid new c → DisksAreSettled old → WereWhole old old.moments found → StayWhole new old.moments
+    pub whole-so : (new : World B) → Went mid new → KeepsWhole mid new c → DisksAreSettled old → WereWhole old old.moments found → AllStayWhole new old.moments
     whole-so new then stay settled whole =
         let so_far = so.ran.whole settled whole in
         whole-then old mid new so.ran.went then so_far
         (stay (disks-settled old mid so.ran.went begin.spare_tells so.main_settled settled)
         (whole-now old mid so.ran.went begin.main_tells begin.spare_tells order c old.moments so.ran.went.drawn so.stands so_far))
 
+    -- all stays named, where it does from here on
+    pub named-so : (new : World B) → Went mid new → KeepsNames mid new c → IsSettled old.main → StayNamed new old.moments found
+    named-so new then stay settled t main d late left stands = by (cases_lt mid.moments t)
+      where
+        mid_tells : IsTrue mid.main.tells
+        mid_tells = subst IsTrue (sym so.ran.went.main.tells) begin.main_tells
+
+        u : ℕ
+        u = mid.moments + 1
+
+        now : KeepsNamed found c
+        now = so.ran.named settled u mid.main.holds c (omega (arith, so.ran.went.drawn)) (mid.main.now mid_tells u (omega (arith, order.main_last))) so.stands
+
+        by : (mid.moments < t) ⊎ (t ≤ mid.moments) → KeepsNamed found d
+        by (inl later) = λ slot name is. stay mid_tells (so.main_settled settled) t main d later left stands slot name (now slot name is)
+        by (inr early) = so.ran.named settled t main d late (then.main.earlier t main early left) stands
+
 -- ---- one more
 
 module _ {B : Type 0} (old mid new : World B) (found c : Cat) (at : State) (asked : List Asked) (begin : BeginsOn old found) (order : AreInOrder mid)
     (so : Sofar old mid found c at asked) (then : Went mid new)
-    (stay : KeepsWhole mid new c) (a : Asked) (request : Request) (means : Means at a request) (step : Step mid new at c (length asked + 1) request) where
+    (stay : KeepsWhole mid new c) (names : KeepsNames mid new c) (a : Asked) (request : Request) (means : MeansRequest at a request) (step : RequestStep mid new at c (length asked + 1) request) where
   abbrev h : Handled
   h = so.ran.handled
 
@@ -144,10 +162,11 @@ module _ {B : Type 0} (old mid new : World B) (found c : Cat) (at : State) (aske
     gave = λ tells. (let P : List Mark → Type 0 = λ ms. Gave ms old.ambient new.ambient in
         subst P (sym (marks-push h.begun m)) (gave-then (marks_of h.begun) step.marks old.ambient mid.ambient new.ambient so.ran.gave step.gave tells));
     whole = whole-so old mid found c at asked so begin order new then stay;
+    named = named-so old mid found c at asked so begin order new then names;
     images = images-more;
   }
 
-  module _ (after : Cat) (end : State) (whole : IsWhole mid new at c (length asked + 1) request step after end) where
+  module _ (after : Cat) (end : State) (whole : IsHandledWhole mid new at c (length asked + 1) request step after end) where
     -- all replies are shown
     pub text-more : IsTrue old.sink.tells → new.sink.holds ≡ old.sink.holds ++ joined (replies_of more)
     text-more tells =
@@ -158,14 +177,14 @@ module _ {B : Type 0} (old mid new : World B) (found c : Cat) (at : State) (aske
     pub of-run-more : IsOfRun found after
     of-run-more = by whole.follows
       where
-        by : Follows c (length asked + 1) step.d after → IsOfRun found after
+        by : ComesAfter c (length asked + 1) step.d after → IsOfRun found after
         by (kept behind) = behind-of found c (length asked + 1) step.d after so.of_run behind
         by (nothing same no_marks grid) = subst (IsOfRun found) (sym same) so.of_run
 
     last_more : after.numbers.last ≤ length (asked ++ a ∷ [])
     last_more = by whole.follows
       where
-        by : Follows c (length asked + 1) step.d after → after.numbers.last ≤ length (asked ++ a ∷ [])
+        by : ComesAfter c (length asked + 1) step.d after → after.numbers.last ≤ length (asked ++ a ∷ [])
         by (kept behind) = omega (arith, behind.last, length-append asked (a ∷ []))
         by (nothing same no_marks grid) = omega (arith, ap (λ (x : Cat). x.numbers.last) same, so.last, length-append asked (a ∷ []))
 
@@ -173,10 +192,10 @@ module _ {B : Type 0} (old mid new : World B) (found c : Cat) (at : State) (aske
     stands-more = whole.stands (subst IsTrue (sym so.ran.went.main.tells) begin.main_tells)
 
     -- it was handled whole, and the run goes on
-    sofar_did : ¬ IsQuit a → Sofar old new found after step.d.state (asked ++ a ∷ [])
+    sofar_did : ¬ EndsInput a → Sofar old new found after step.d.state (asked ++ a ∷ [])
     sofar_did goes_on = record {
       ran = ran-more;
-      no_quit = all-append (λ (x : Asked). ¬ IsQuit x) asked (a ∷ []) so.no_quit (goes_on, tt);
+      none_end = all-append (λ (x : Asked). ¬ EndsInput x) asked (a ∷ []) so.none_end (goes_on, tt);
       text = text-more;
       of_run = of-run-more;
       last = last_more;
@@ -187,5 +206,5 @@ module _ {B : Type 0} (old mid new : World B) (found c : Cat) (at : State) (aske
       sink_settled = λ tells settled. whole.sink_settled (sink-mid tells) (so.sink_settled tells settled);
     }
 
-    pub sofar-more : ¬ IsQuit a → Sofar old new found after end (asked ++ a ∷ [])
+    pub sofar-more : ¬ EndsInput a → Sofar old new found after end (asked ++ a ∷ [])
     sofar-more goes_on = subst (λ (s : State). Sofar old new found after s (asked ++ a ∷ [])) whole.state (sofar_did goes_on)

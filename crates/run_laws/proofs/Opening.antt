@@ -9,12 +9,12 @@ use Rattle.grid_model.specs.Rows.{Cat}
 use Rattle.grid_model.specs.RowGrids.{grid_of}
 use Rattle.grid_model.specs.Beginning.{begins}
 use Rattle.grid_model.specs.Runs as runs
-use Rattle.grid_model.specs.Whole.{IsLikeObject, HasGoodRows, IsWhole, Names, Naming, by_replica, by_orphan}
+use Rattle.grid_model.specs.Whole.{IsLikeObject, HasGoodRows, IsNamed, IsWhole, Names, Naming, by_replica, by_orphan}
 use Rattle.grid_model.specs.declared.deltas.ReplicaRow.{ReplicaRow}
 use Rattle.tables_laws.proofs.Grids.{grid-same}
 use Rattle.grid_journal.specs.Stands.{Stands, stands as made_of, StandsFor, StandsEither}
 use Rattle.grid_headline.specs.Worlds.{World}
-use Rattle.grid_headline.specs.Files.{AreWhole, AreSettled, DisksAreSettled, WereWhole, StayWhole}
+use Rattle.grid_headline.specs.Files.{AllAreWhole, AreSettled, DisksAreSettled, KeepsNamed, WereWhole, AllStayWhole, StayNamed}
 use Rattle.grid_headline.specs.Numbers.{KeepsNumbers}
 use Rattle.grid_headline.specs.Headline.{BeginsOn}
 use Rattle.grid_headline.proofs.PutStops.{the_catalogue}
@@ -51,12 +51,13 @@ module _ (found : Cat) where
   rows_begun rows = all-map (λ (r : ReplicaRow). IsTrue r.good → IsLikeObject found r) (λ (r : ReplicaRow). IsTrue r.good → IsLikeObject (begun found) r)
       (λ r is good. let like = is good in record { row = like.row; there = like.there; size = like.size; digest = like.digest }) found.replicas rows
 
+  named_begun : KeepsNamed found (begun found)
+  named_begun slot name one = record { row = one.row; names = names_begun slot name one.row one.names; only = λ other its. one.only other (names_same slot name other its) }
+
   files_begun : (slot : ℕ) (files : Files) → IsWhole found slot files → IsWhole (begun found) slot files
   files_begun slot files whole = record {
     good = whole.good;
-    accounted = λ name file is.
-        let one = whole.accounted name file is in
-        record { row = one.row; names = names_begun slot name one.row one.names; only = λ other its. one.only other (names_same slot name other its) };
+    accounted = λ name file is. named_begun slot name (whole.accounted name file is);
   }
 
   grid-begun : grid_of (begun found) ≡ grid_of found
@@ -70,22 +71,30 @@ module _ (found : Cat) where
 module _ {B : Type 0} (old now : World B) (found : Cat) (begin : BeginsOn old found) (order : AreInOrder old) (pending : found.pending ≡ None)
     (rules : found.rules ≡ [])
     (opens : Opens old now found) where
-  whole_found : (t : ℕ) → AreWhole old t found → AreWhole now t found
+  whole_found : (t : ℕ) → AllAreWhole old t found → AllAreWhole now t found
   whole_found t whole = record { rows = whole.rows; call = whole.call; files = λ slot files left. whole.files slot files (files-rest old now opens.went opens.stores t slot files left) }
 
-  whole_begun : (t : ℕ) → AreWhole old t found → AreWhole now t (begun found)
+  whole_begun : (t : ℕ) → AllAreWhole old t found → AllAreWhole now t (begun found)
   whole_begun t whole = record {
     rows = rows_begun found whole.rows;
     call = whole.call;
     files = λ slot files left. files_begun found slot files (whole.files slot files (files-rest old now opens.went opens.stores t slot files left));
   }
 
-  pub stay-whole : DisksAreSettled old → WereWhole old old.moments found → StayWhole now old.moments
+  pub stay-whole : DisksAreSettled old → WereWhole old old.moments found → AllStayWhole now old.moments
   stay-whole settled whole t main spare c late left its = by (opens.images settled.of_main t main late left.of_main)
     where
-      by : StandsEither found (begun found) main → AreWhole now t c
-      by (inl is) = subst (AreWhole now t) (sym (the_catalogue main spare found c (is spare) its)) (whole_found t (whole t late))
-      by (inr is) = subst (AreWhole now t) (sym (the_catalogue main spare (begun found) c (is spare) its)) (whole_begun t (whole t late))
+      by : StandsEither found (begun found) main → AllAreWhole now t c
+      by (inl is) = subst (AllAreWhole now t) (sym (the_catalogue main spare found c (is spare) its)) (whole_found t (whole t late))
+      by (inr is) = subst (AllAreWhole now t) (sym (the_catalogue main spare (begun found) c (is spare) its)) (whole_begun t (whole t late))
+
+  pub stay-named : IsSettled old.main → StayNamed now old.moments found
+  stay-named settled t main c late left stands = by (opens.images settled t main late left)
+    where
+      by : StandsEither found (begun found) main → KeepsNamed found c
+      by (inl is) slot name one = let P : Cat → Type 0 = λ d. IsNamed d slot name in subst P (sym (the_catalogue main [] found c (is []) (stands []))) one
+      by (inr is) slot name one = let P : Cat → Type 0 = λ d. IsNamed d slot name in
+          subst P (sym (the_catalogue main [] (begun found) c (is []) (stands []))) (named_begun found slot name one)
 
   pub images-none : IsTrue old.sink.tells → AreSettled old → (t : ℕ) (main sink : Text) → old.moments < t → now.main.left t main → now.sink.left t sink
       → OneOfRun found none_handled old.sink.holds main sink
@@ -119,6 +128,7 @@ module _ {B : Type 0} (old now : World B) (found : Cat) (begin : BeginsOn old fo
     caused = caused-none old now opens.went;
     gave = λ tells. (let P : AmbientState → Type 0 = λ s. IsTrue s.tells → Gave [] old.ambient s in subst P (sym opens.ambient) (gave-none old.ambient) tells);
     whole = stay-whole;
+    named = stay-named;
     images = images-none;
   }
 
@@ -128,7 +138,7 @@ pub sofar-none : {B : Type 0} (old now : World B) (found : Cat) → BeginsOn old
     → Sofar old now found (begun found) (begins (grid_of found) []) []
 sofar-none old now found begin order pending rules opened = record {
   ran = ran-none old now found begin order pending rules opened.opens;
-  no_quit = tt;
+  none_end = tt;
   text = λ tells. opened.opens.sink.holds tells ∙ sym (append-nil old.sink.holds);
   of_run = of-run-begun found pending rules;
   last = omega arith;

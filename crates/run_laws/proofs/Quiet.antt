@@ -17,18 +17,18 @@ use Rattle.grid_headline.specs.Served.{joined, whole_in, marks_of}
 use Rattle.grid_headline.specs.Headline.{BeginsOn}
 use Rattle.run_laws.specs.Handled.{Handled, replies_of, first_of, reached, state_at, IsBehindSome, OneOfRun, in_run}
 use Rattle.run_laws.specs.Steps.{IsLike, Gave, IsQuiet}
-use Rattle.run_laws.specs.Sofar.{Ran, Sofar, KeepsWhole}
+use Rattle.run_laws.specs.Sofar.{Ran, Sofar, KeepsWhole, KeepsNames}
 use Rattle.run_laws.specs.Went.{Went, AreInOrder}
 use Rattle.run_laws.proofs.Texts.{whole-all}
 use Rattle.run_laws.proofs.Goings.{went-then}
 use Rattle.run_laws.proofs.Causes.{caused-on}
 use Rattle.run_laws.proofs.Draws.{gave-then}
 use Rattle.run_laws.proofs.Images.{like-of, shows-all}
-use Rattle.run_laws.proofs.More.{begun-many, replies-many, state-now, whole-so}
+use Rattle.run_laws.proofs.More.{begun-many, replies-many, state-now, whole-so, named-so}
 
 module _ {B : Type 0} (old mid new : World B) (found c : Cat) (at : State) (asked : List Asked) (begin : BeginsOn old found) (order : AreInOrder mid)
     (so : Sofar old mid found c at asked) (then : Went mid new)
-    (stay : KeepsWhole mid new c) (quiet : IsQuiet mid new c) where
+    (stay : KeepsWhole mid new c) (names : KeepsNames mid new c) (quiet : IsQuiet mid new c) where
   abbrev h : Handled
   h = so.ran.handled
 
@@ -84,6 +84,7 @@ module _ {B : Type 0} (old mid new : World B) (found c : Cat) (at : State) (aske
     gave = λ tells. (let P : List Mark → Type 0 = λ ms. Gave ms old.ambient new.ambient in
         subst P (append-nil (marks_of h.begun)) (gave-then (marks_of h.begun) [] old.ambient mid.ambient new.ambient so.ran.gave quiet.gave tells));
     whole = whole-so old mid found c at asked so begin order new then stay;
+    named = named-so old mid found c at asked so begin order new then names;
     images = images-quiet;
   }
 
@@ -111,6 +112,7 @@ module _ {B : Type 0} (old now : World B) (source : SourceState) where
     whole = λ settled whole t main spare c late left stands.
         let was = ran.whole settled whole t main spare c late (record { of_main = left.of_main; of_spare = left.of_spare }) stands in
         record { rows = was.rows; call = was.call; files = λ slot files its. was.files slot files (record { store = its.store; is = its.is; tells = its.tells; of_store = its.of_store }) };
+    named = ran.named;
     images = ran.images;
   }
 
@@ -118,7 +120,7 @@ module _ {B : Type 0} (old now : World B) (source : SourceState) where
   unfolding ran-read
   sofar-read found c at asked so = record {
     ran = ran-read found at asked so.ran;
-    no_quit = so.no_quit;
+    none_end = so.none_end;
     text = so.text;
     of_run = so.of_run;
     last = so.last;

@@ -9,14 +9,14 @@ use Rattle.grid_model.specs.Inputs.{Asked, none_taken}
 use Rattle.grid_model.specs.Sessions.{State}
 use Rattle.grid_model.specs.Runs.{Request}
 use Rattle.grid_headline.specs.Worlds.{World}
-use Rattle.grid_headline.specs.Reads.{Means, IsQuit, QuitLast}
-use Rattle.grid_headline.specs.Served.{BeginsWith}
+use Rattle.grid_headline.specs.Reads.{MeansRequest, EndsInput, EndsInputLast}
+use Rattle.grid_headline.specs.Served.{BeginsWithRequests}
 use Rattle.grid_headline.specs.Ends.{RunEnd}
 use Rattle.grid_headline.specs.Headline.{Serves}
 use Rattle.run_laws.specs.Ends.{ReadsSo, StopsSo, IsGoodIfNoneFailed}
 use Rattle.run_laws.specs.Opening.{Opens, Opened}
-use Rattle.run_laws.specs.Sofar.{begun, BeginsPlainly, GoesOn, Sofar}
-use Rattle.run_laws.specs.Steps.{Step, IsWhole, IsQuiet}
+use Rattle.run_laws.specs.Sofar.{begun, BeginsPlainly, CallsGoOn, Sofar}
+use Rattle.run_laws.specs.Steps.{RequestStep, IsHandledWhole, IsQuiet}
 use Rattle.run_laws.specs.Went.{AreInOrder}
 use Rattle.run_laws.proofs.More.{ran-more, no-rules, text-more, of-run-more, stands-more, sofar-more}
 use Rattle.run_laws.proofs.Opening.{ran-none, sofar-none}
@@ -38,24 +38,24 @@ read_on {old = old} {now = now} {found = found} {c = c} {at = at} {asked = asked
 -- one more request was handled whole, which does not end the input
 pub one_more : {B : Type 0} {old mid new : World B} {found c after : Cat} {at end : State} {asked : List Asked} {a : Asked} {request : Request}
     → BeginsPlainly old found
-    → Sofar old mid found c at asked → GoesOn mid new c → Means at a request → ¬ IsQuit a → (step : Step mid new at c (length asked + 1) request)
-    → IsWhole mid new at c (length asked + 1) request step after end → Sofar old new found after end (asked ++ a ∷ [])
+    → Sofar old mid found c at asked → CallsGoOn mid new c → MeansRequest at a request → ¬ EndsInput a → (step : RequestStep mid new at c (length asked + 1) request)
+    → IsHandledWhole mid new at c (length asked + 1) request step after end → Sofar old new found after end (asked ++ a ∷ [])
 one_more {old = old} {mid = mid} {new = new} {found = found} {c = c} {after = after} {at = at} {end = end} {asked = asked} {a = a} {request = request} plain so goes means more step whole =
-    sofar-more old mid new found c at asked plain.begin goes.order so goes.went goes.whole a request means step after end whole more
+    sofar-more old mid new found c at asked plain.begin goes.order so goes.went goes.whole goes.names a request means step after end whole more
 
 -- ---- how it ends
 
 -- none of them ended the input
-quit-last : (asked : List Asked) → AllByRecursion (λ a. ¬ IsQuit a) asked → QuitLast asked
-quit-last [] none = tt
-quit-last (a ∷ []) none = tt
-quit-last (a ∷ b ∷ more) none = (none.0, quit-last (b ∷ more) none.1)
+end-last : (asked : List Asked) → AllByRecursion (λ a. ¬ EndsInput a) asked → EndsInputLast asked
+end-last [] none = tt
+end-last (a ∷ []) none = tt
+end-last (a ∷ b ∷ more) none = (none.0, end-last (b ∷ more) none.1)
 
 -- and the one behind them may
-quit-behind : (asked : List Asked) (a : Asked) → AllByRecursion (λ x. ¬ IsQuit x) asked → QuitLast (asked ++ a ∷ [])
-quit-behind [] a none = tt
-quit-behind (x ∷ []) a none = (none.0, tt)
-quit-behind (x ∷ y ∷ more) a none = (none.0, quit-behind (y ∷ more) a none.1)
+end-behind : (asked : List Asked) (a : Asked) → AllByRecursion (λ x. ¬ EndsInput x) asked → EndsInputLast (asked ++ a ∷ [])
+end-behind [] a none = tt
+end-behind (x ∷ []) a none = (none.0, tt)
+end-behind (x ∷ y ∷ more) a none = (none.0, end-behind (y ∷ more) a none.1)
 
 -- nothing was asked of it, and maybe it is not begun
 pub ends_before : {B : Type 0} {old now : World B} {found : Cat} {end : RunEnd} → BeginsPlainly old found → AreInOrder old → Opens old now found
@@ -67,50 +67,50 @@ ends_before {old = old} {now = now} {found = found} {end = end} plain order open
 -- the input was read, and all is answered
 pub ends_well : {B : Type 0} {old now : World B} {found c : Cat} {at : State} {asked : List Asked} {end : RunEnd} → BeginsPlainly old found
     → Sofar old now found c at asked
-    → BeginsWith old.source.left asked → ReadsSo asked old.source now.source end → IsGoodIfNoneFailed old now end → Serves old now found end
+    → BeginsWithRequests old.source.left asked → ReadsSo asked old.source now.source end → IsGoodIfNoneFailed old now end → Serves old now found end
 ends_well {old = old} {now = now} {found = found} {c = c} {at = at} {asked = asked} {end = end} plain so first reads good =
-    serves old now found at asked plain.pending plain.rules so.ran first (quit-last asked so.no_quit) end
+    serves old now found at asked plain.pending plain.rules so.ran first (end-last asked so.none_end) end
     (inl (record { text = so.text; cat = c; stands = so.stands; of_run = so.of_run; grid = so.grid; no_rules = so.no_rules }, reads)) good
 
 -- something ran out before anything was done for another request
 pub ends_idle : {B : Type 0} {old now : World B} {found c : Cat} {at : State} {asked : List Asked} {end : RunEnd} → BeginsPlainly old found
-    → Sofar old now found c at asked → BeginsWith old.source.left asked → StopsSo old now found at asked end → IsGoodIfNoneFailed old now end → Serves old now found end
+    → Sofar old now found c at asked → BeginsWithRequests old.source.left asked → StopsSo old now found at asked end → IsGoodIfNoneFailed old now end → Serves old now found end
 ends_idle {old = old} {now = now} {found = found} {at = at} {asked = asked} {end = end} plain so first stops good =
-    serves old now found at asked plain.pending plain.rules so.ran first (quit-last asked so.no_quit) end (inr stops) good
+    serves old now found at asked plain.pending plain.rules so.ran first (end-last asked so.none_end) end (inr stops) good
 
 -- something ran out or failed, and nothing is seen of what was done for it
 pub ends_quiet : {B : Type 0} {old mid new : World B} {found c : Cat} {at : State} {asked : List Asked} {end : RunEnd} → BeginsPlainly old found
-    → Sofar old mid found c at asked → GoesOn mid new c → IsQuiet mid new c → BeginsWith old.source.left asked → StopsSo old new found at asked end
+    → Sofar old mid found c at asked → CallsGoOn mid new c → IsQuiet mid new c → BeginsWithRequests old.source.left asked → StopsSo old new found at asked end
     → IsGoodIfNoneFailed old new end → Serves old new found end
 ends_quiet {old = old} {mid = mid} {new = new} {found = found} {c = c} {at = at} {asked = asked} {end = end} plain so goes quiet first stops good =
-    serves old new found at asked plain.pending plain.rules (ran-quiet old mid new found c at asked plain.begin goes.order so goes.went goes.whole quiet) first
-    (quit-last asked so.no_quit) end (inr stops) good
+    serves old new found at asked plain.pending plain.rules (ran-quiet old mid new found c at asked plain.begin goes.order so goes.went goes.whole goes.names quiet) first
+    (end-last asked so.none_end) end (inr stops) good
 
 module _ {B : Type 0} {old mid new : World B} {found c : Cat} {at : State} {asked : List Asked} {a : Asked} {request : Request} {end : RunEnd}
     (plain : BeginsPlainly old found)
-    (so : Sofar old mid found c at asked) (goes : GoesOn mid new c) (means : Means at a request) (step : Step mid new at c (length asked + 1) request)
-    (first : BeginsWith old.source.left (asked ++ a ∷ [])) where
+    (so : Sofar old mid found c at asked) (goes : CallsGoOn mid new c) (means : MeansRequest at a request) (step : RequestStep mid new at c (length asked + 1) request)
+    (first : BeginsWithRequests old.source.left (asked ++ a ∷ [])) where
   -- something ran out or failed in a request, which was begun and may not be shown whole
   pub ends_within : StopsSo old new found step.d.state (asked ++ a ∷ []) end → IsGoodIfNoneFailed old new end → Serves old new found end
   ends_within stops good =
       serves old new found step.d.state (asked ++ a ∷ []) plain.pending plain.rules
-      (ran-more old mid new found c at asked plain.begin goes.order so goes.went goes.whole a request means step) first (quit-behind asked a so.no_quit) end (inr stops) good
+      (ran-more old mid new found c at asked plain.begin goes.order so goes.went goes.whole goes.names a request means step) first (end-behind asked a so.none_end) end (inr stops) good
 
   -- the input ended with a request, which was handled whole
-  pub ends_with : {after : Cat} {left : State} → IsWhole mid new at c (length asked + 1) request step after left
+  pub ends_with : {after : Cat} {left : State} → IsHandledWhole mid new at c (length asked + 1) request step after left
       → ReadsSo (asked ++ a ∷ []) old.source new.source end
       → IsGoodIfNoneFailed old new end → Serves old new found end
   ends_with {after = after} {left = left} whole reads good =
       serves old new found step.d.state (asked ++ a ∷ []) plain.pending plain.rules
-      (ran-more old mid new found c at asked plain.begin goes.order so goes.went goes.whole a request means step) first (quit-behind asked a so.no_quit) end
+      (ran-more old mid new found c at asked plain.begin goes.order so goes.went goes.whole goes.names a request means step) first (end-behind asked a so.none_end) end
       (inl (
         record {
-          text = text-more old mid new found c at asked plain.begin goes.order so goes.went goes.whole a request means step after left whole;
+          text = text-more old mid new found c at asked plain.begin goes.order so goes.went goes.whole goes.names a request means step after left whole;
           cat = after;
-          stands = stands-more old mid new found c at asked plain.begin goes.order so goes.went goes.whole a request means step after left whole;
-          of_run = of-run-more old mid new found c at asked plain.begin goes.order so goes.went goes.whole a request means step after left whole;
+          stands = stands-more old mid new found c at asked plain.begin goes.order so goes.went goes.whole goes.names a request means step after left whole;
+          of_run = of-run-more old mid new found c at asked plain.begin goes.order so goes.went goes.whole goes.names a request means step after left whole;
           grid = whole.grid ∙ ap (λ (s : State). s.grid) (sym whole.state);
-          no_rules = no-rules old mid new found c at asked plain.begin goes.order so goes.went goes.whole a request means step;
+          no_rules = no-rules old mid new found c at asked plain.begin goes.order so goes.went goes.whole goes.names a request means step;
         },
         reads,
       )) good

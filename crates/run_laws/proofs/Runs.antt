@@ -15,15 +15,15 @@ use Rattle.grid_model.specs.Runs.{Marked}
 use Rattle.grid_model.specs.declared.marks.Mark.{Mark}
 use Rattle.grid_model.specs.declared.marks.Mark.TheVariants.{Stop}
 use Rattle.rule_parse.specs.Printed.{print_rules}
-use Rattle.grid_headline.specs.Worlds.{World, Image}
-use Rattle.grid_headline.specs.Reads.{Means, QuitLast}
-use Rattle.grid_headline.specs.Served.{Run, BeginsWith, joined, asked_of, marks_of, whole_in, text_of, acknowledged, told_marks, first_marks, state_at}
+use Rattle.grid_headline.specs.Worlds.{World, DevicesImage}
+use Rattle.grid_headline.specs.Reads.{MeansRequest, EndsInputLast}
+use Rattle.grid_headline.specs.Served.{Run, BeginsWithRequests, joined, asked_of, marks_of, whole_in, text_of, acknowledged, told_marks, first_marks, state_at}
 use Rattle.grid_headline.specs.Served as served
-use Rattle.grid_headline.specs.Stops.{OneImage, IsAt, KeepsTold, KeepsReport}
+use Rattle.grid_headline.specs.Stops.{OneImage, IsAtState, KeepsTold, KeepsReport}
 use Rattle.grid_headline.specs.Files.{IsKnown, DisksAreSettled, WereWhole}
 use Rattle.grid_headline.specs.Causes.{NoneFailed, AllTell}
-use Rattle.grid_headline.specs.Draws.{Draws, word_of, time_of}
-use Rattle.grid_headline.specs.Ends.{RunEnd, read_all, source_failed, too_long, worn, no_memory, disk_failed, sink_failed, Says, AnswersAll, Needs, MakesFiles}
+use Rattle.grid_headline.specs.Draws.{DrawsMarks, word_of, time_of}
+use Rattle.grid_headline.specs.Ends.{RunEnd, read_all, source_failed, too_long, worn, no_memory, disk_failed, sink_failed, SaysOfEnd, AnswersAll, Needs, MakesFiles}
 use Rattle.grid_headline.specs.Headline.{Shows, Completes, Serves, IsGoodEnd}
 use Rattle.run_laws.specs.Handled.{replies_of, OneOfRun, not_begun, in_run}
 use Rattle.run_laws.specs.Handled as handled
@@ -51,7 +51,7 @@ module _ {B : Type 0} (old new : World B) (base : Cat) (at : State) (asked : Lis
   abbrev found : Cat
   found = record base { pending = None; rules = [] }
 
-  module _ (ran : Ran old new found at asked) (first : BeginsWith old.source.left asked) (quit_last : QuitLast asked) where
+  module _ (ran : Ran old new found at asked) (first : BeginsWithRequests old.source.left asked) (end_last : EndsInputLast asked) where
     abbrev run : Run (IsKnown old found) found old.source.left
     run = record {
       report = [];
@@ -61,8 +61,8 @@ module _ {B : Type 0} (old new : World B) (base : Cat) (at : State) (asked : Lis
       rules = [];
       rules_are = refl;
       begun = ran.handled.begun;
-      first = subst (BeginsWith old.source.left) (sym ran.asked_are) first;
-      quit_last = subst QuitLast (sym ran.asked_are) quit_last;
+      first = subst (BeginsWithRequests old.source.left) (sym ran.asked_are) first;
+      end_last = subst EndsInputLast (sym ran.asked_are) end_last;
       done = ran.handled.done;
       end = at;
       after = ran.after;
@@ -89,7 +89,7 @@ module _ {B : Type 0} (old new : World B) (base : Cat) (at : State) (asked : Lis
       first_told : AreFirstAt (told_marks run n count) (slice_get ran.handled.begun n)
       first_told = first_at (slice_get ran.handled.begun n) (slice_get ran.handled.pieces n) (count - length (served.text_before run n))
 
-      draws : IsTrue new.ambient.tells → Draws run count old.ambient new.ambient
+      draws : IsTrue new.ambient.tells → DrawsMarks run count old.ambient new.ambient
       draws tells =
           let g = ran.gave tells in
           let front = front-shown ran.handled.begun (told_marks run n count) n first_told in
@@ -145,7 +145,7 @@ module _ {B : Type 0} (old new : World B) (base : Cat) (at : State) (asked : Lis
     same_told : (k count : ℕ) → told_marks run k count ≡ handled.told_of ran.handled k count
     same_told k count = same_first (slice_get ran.handled.begun k) (slice_get ran.handled.pieces k) (count - length (served.text_before run k))
 
-    image : (i : Image) → OneOfRun found ran.handled old.sink.holds i.main i.sink → OneImage run old.sink.holds i
+    image : (i : DevicesImage) → OneOfRun found ran.handled old.sink.holds i.main i.sink → OneImage run old.sink.holds i
     image i (not_begun stands is) = record {
       cat = found;
       stands = stands i.spare;
@@ -175,7 +175,7 @@ module _ {B : Type 0} (old new : World B) (base : Cat) (at : State) (asked : Lis
             within = omega (arith, b.within, r);
             near = omega (arith, b.near, a);
             rules = b.of_run.rules ∙ sym (ap (λ (x : State). print_rules x.rules) s ∙ ap print_rules b.no_rules);
-            at = subst (IsAt run c (served.reached run c count)) (sym b.of_run.none) (b.grid ∙ ap (λ (x : State). x.grid) (sym s));
+            at = subst (IsAtState run c (served.reached run c count)) (sym b.of_run.none) (b.grid ∙ ap (λ (x : State). x.grid) (sym s));
           });
           told = record {
             of_request = λ e. subst (KeepsTold run (told_marks run (n count) count) (n count) c.numbers.last) (sym b.of_run.none)
@@ -211,10 +211,10 @@ module _ {B : Type 0} (old new : World B) (base : Cat) (at : State) (asked : Lis
             at_least = omega (arith, many);
             at_most = omega (arith, many);
             asked = next.next;
-            first = subst (λ (l : List Asked). BeginsWith old.source.left (l ++ next.next ∷ [])) (sym front) next.first;
+            first = subst (λ (l : List Asked). BeginsWithRequests old.source.left (l ++ next.next ∷ [])) (sym front) next.first;
             session = next.session;
             order = next.order;
-            asks = subst (λ (x : State). Means x next.next (Ok (next.session, next.order))) (sym now) next.asks;
+            asks = subst (λ (x : State). MeansRequest x next.next (Ok (next.session, next.order))) (sym now) next.asks;
             makes = inl (makes_files run old new next.order next.makes);
           },
         )
@@ -223,13 +223,13 @@ module _ {B : Type 0} (old new : World B) (base : Cat) (at : State) (asked : Lis
     reads : (end : RunEnd) → ReadsSo asked old.source new.source end → ReadsSo (asked_of ran.handled.begun) old.source new.source end
     reads end so = subst (λ (l : List Asked). ReadsSo l old.source new.source end) (sym ran.asked_are) so
 
-    says_read : (end : RunEnd) → IsAnswered old new found at ran.handled → ReadsSo (asked_of ran.handled.begun) old.source new.source end → Says run old new end
+    says_read : (end : RunEnd) → IsAnswered old new found at ran.handled → ReadsSo (asked_of ran.handled.begun) old.source new.source end → SaysOfEnd run old new end
     says_read read_all all so = (answers all, so)
     says_read source_failed all so = (answers all, so)
     says_read (too_long taken) all so = (answers all, so.0, so.1)
     says_read other all so = absurd so
 
-    says_stopped : (end : RunEnd) → StopsSo old new found at asked end → Says run old new end
+    says_stopped : (end : RunEnd) → StopsSo old new found at asked end → SaysOfEnd run old new end
     says_stopped (worn what place) so = (so.0, needs what so.1)
     says_stopped no_memory so = tt
     says_stopped disk_failed so = tt
@@ -237,7 +237,7 @@ module _ {B : Type 0} (old new : World B) (base : Cat) (at : State) (asked : Lis
     says_stopped other so = absurd so
 
     says : (end : RunEnd) → (IsAnswered old new found at ran.handled × ReadsSo asked old.source new.source end) ⊎ StopsSo old new found at asked end
-        → Says run old new end
+        → SaysOfEnd run old new end
     says end (inl so) = says_read end so.0 (reads end so.1)
     says end (inr so) = says_stopped end so
 
@@ -249,6 +249,7 @@ module _ {B : Type 0} (old new : World B) (base : Cat) (at : State) (asked : Lis
       says = says end so;
       images = λ tells settled t i late leaves. image i (ran.images tells settled t i.main i.sink late leaves.disks.of_main leaves.of_sink);
       whole = ran.whole;
+      named = ran.named;
       caused = ran.caused;
       completes = λ tells none tell settled whole fits. completes tells end none tell settled whole (good none fits);
     }
@@ -256,13 +257,13 @@ module _ {B : Type 0} (old new : World B) (base : Cat) (at : State) (asked : Lis
 -- All that is promised of a run.
 pub serves : {B : Type 0} (old new : World B) (found : Cat) (at : State) (asked : List Asked) → found.pending ≡ None → found.rules ≡ []
     → (ran : Ran old new found at asked)
-    → BeginsWith old.source.left asked → QuitLast asked → (end : RunEnd)
+    → BeginsWithRequests old.source.left asked → EndsInputLast asked → (end : RunEnd)
     → (IsAnswered old new found at ran.handled × ReadsSo asked old.source new.source end) ⊎ StopsSo old new found at asked end
     → IsGoodIfNoneFailed old new end → Serves old new found end
-serves {B = B} old new found at asked pending rules = subst Promised same (λ ran first quit_last. serves_base old new found at asked ran first quit_last)
+serves {B = B} old new found at asked pending rules = subst Promised same (λ ran first end_last. serves_base old new found at asked ran first end_last)
   where
     Promised : Cat → Type 0
-    Promised f = (ran : Ran old new f at asked) → BeginsWith old.source.left asked → QuitLast asked → (end : RunEnd)
+    Promised f = (ran : Ran old new f at asked) → BeginsWithRequests old.source.left asked → EndsInputLast asked → (end : RunEnd)
         → (IsAnswered old new f at ran.handled × ReadsSo asked old.source new.source end) ⊎ StopsSo old new f at asked end
         → IsGoodIfNoneFailed old new end → Serves old new f end
 

@@ -12,11 +12,11 @@ use Rattle.grid_model.specs.Operations.Table.{put, repl}
 use Rattle.grid_model.specs.Sessions.{State}
 use Rattle.grid_journal.specs.Stands.{StandsFor}
 use Rattle.grid_headline.specs.Worlds.{World}
-use Rattle.grid_headline.specs.Reads.{Means}
+use Rattle.grid_headline.specs.Reads.{MeansRequest}
 use Rattle.grid_headline.specs.Causes.{NoneFailed}
-use Rattle.grid_headline.specs.Served.{BeginsWith, joined}
+use Rattle.grid_headline.specs.Served.{BeginsWithRequests, joined}
 use Rattle.grid_headline.specs.Ends.{RunEnd, read_all, source_failed, too_long, worn, no_memory, disk_failed, sink_failed}
-use Rattle.grid_headline.specs.Ends.{EndsInQuit, EndsAtEnd, ReadsPart, ReadsMost, HasRunOut}
+use Rattle.grid_headline.specs.Ends.{EndsInRequest, EndsAtEnd, ReadsPart, ReadsMost, HasRunOut}
 use Rattle.grid_headline.specs.Headline.{IsGoodEnd}
 use Rattle.run_laws.specs.Handled.{Handled, replies_of, IsOfRun}
 
@@ -24,7 +24,7 @@ use Rattle.run_laws.specs.Handled.{Handled, replies_of, IsOfRun}
 
 -- how far it was read where all that was asked is answered
 abbrev pub ReadsSo : List Asked → SourceState → SourceState → RunEnd → Type 0
-ReadsSo asked from to read_all = EndsAtEnd asked from to ⊎ EndsInQuit asked from to
+ReadsSo asked from to read_all = EndsAtEnd asked from to ⊎ EndsInRequest asked from to
 ReadsSo asked from to source_failed = ReadsPart asked from to
 ReadsSo asked from to (too_long taken) = ReadsMost asked from to × (taken ≡ 2 ^ 48 + 1)
 ReadsSo asked from to other = ⊥
@@ -50,10 +50,10 @@ MakesFile other = ⊥
 -- the request behind those that were handled makes a file
 pub record NextMakesFile (input : Text) (at : State) (asked : List Asked) : Type 0 where
   pub next : Asked
-  pub first : BeginsWith input (asked ++ next ∷ [])
+  pub first : BeginsWithRequests input (asked ++ next ∷ [])
   pub session : ℕ
   pub order : Order
-  pub asks : Means at next (Ok (session, order))
+  pub asks : MeansRequest at next (Ok (session, order))
   pub makes : MakesFile order
 
 -- why the run needed what had run out

@@ -13,9 +13,9 @@ use Rattle.grid_model.specs.Runs.{Marked, After}
 use Rattle.grid_model.specs.Completing.{AreClean, EndsByRows}
 use Rattle.grid_journal.specs.Stands.{StandsFor}
 use Rattle.grid_headline.specs.Worlds.{World}
-use Rattle.grid_headline.specs.Reads.{Means, IsQuit}
+use Rattle.grid_headline.specs.Reads.{MeansRequest, EndsInput}
 use Rattle.grid_headline.specs.Served.{AllPieces, joined, marks_of, asked_of}
-use Rattle.grid_headline.specs.Files.{IsKnown, AreSettled, DisksAreSettled, WereWhole, StayWhole}
+use Rattle.grid_headline.specs.Files.{IsKnown, AreSettled, DisksAreSettled, WereWhole, AllStayWhole, StayNamed}
 use Rattle.grid_headline.specs.Causes.{AreCaused}
 use Rattle.grid_headline.specs.Headline.{BeginsOn}
 use Rattle.run_laws.specs.Handled.{Handled, replies_of, IsOfRun, OneOfRun, ShowsMost}
@@ -33,13 +33,18 @@ AllByRows ms ds = Unit {0}
 
 -- Where nothing was pending on the disks and all was whole by this catalogue, it stays so from there on.
 abbrev pub KeepsWhole : {B : Type 0} → World B → World B → Cat → Type 0
-KeepsWhole mid new c = DisksAreSettled mid → WereWhole mid mid.moments c → StayWhole new mid.moments
+KeepsWhole mid new c = DisksAreSettled mid → WereWhole mid mid.moments c → AllStayWhole new mid.moments
 
--- Calls go on from a world in order, and the files that were whole by this catalogue stay so.
-pub record GoesOn {B : Type 0} (mid new : World B) (c : Cat) : Type 0 where
+-- Where nothing was pending on main, what one row of this catalogue named is named by one from there on.
+abbrev pub KeepsNames : {B : Type 0} → World B → World B → Cat → Type 0
+KeepsNames mid new c = IsTrue mid.main.tells → IsSettled mid.main → StayNamed new mid.moments c
+
+-- Calls go on from a world in order, and the files that were whole by this catalogue stay so, and those that were named.
+pub record CallsGoOn {B : Type 0} (mid new : World B) (c : Cat) : Type 0 where
   pub order : AreInOrder mid
   pub went : Went mid new
   pub whole : KeepsWhole mid new c
+  pub names : KeepsNames mid new c
 
 -- The run begins on a catalogue without a pending command or rules.
 pub record BeginsPlainly {B : Type 0} (old : World B) (found : Cat) : Type 0 where
@@ -52,7 +57,7 @@ pub record BeginsPlainly {B : Type 0} (old : World B) (found : Cat) : Type 0 whe
 pub record Ran {B : Type 0} (old now : World B) (found : Cat) (at : State) (asked : List Asked) : Type 0 where
   pub handled : Handled
   pub asked_are : asked_of handled.begun ≡ asked
-  pub after : After Means (begins (grid_of found) []) handled.begun handled.done at
+  pub after : After MeansRequest (begins (grid_of found) []) handled.begun handled.done at
   pub pieces_are : AllPieces (IsKnown old found) 1 handled.done handled.pieces
   pub told_of : AllByRecursion (IsToldOf (IsKnown old found) (length old.stores)) (marks_of handled.begun)
   pub by_rows : AllByRows handled.begun handled.done
@@ -60,14 +65,15 @@ pub record Ran {B : Type 0} (old now : World B) (found : Cat) (at : State) (aske
   pub shown : IsTrue old.sink.tells → ShowsMost handled old.sink.holds now.sink.holds
   pub caused : AreCaused old now (marks_of handled.begun)
   pub gave : IsTrue now.ambient.tells → Gave (marks_of handled.begun) old.ambient now.ambient
-  pub whole : DisksAreSettled old → WereWhole old old.moments found → StayWhole now old.moments
+  pub whole : DisksAreSettled old → WereWhole old old.moments found → AllStayWhole now old.moments
+  pub named : IsSettled old.main → StayNamed now old.moments found
   pub images : IsTrue old.sink.tells → AreSettled old → (t : ℕ) (main sink : Text) → old.moments < t → now.main.left t main → now.sink.left t sink
       → OneOfRun found handled old.sink.holds main sink
 
 -- The same where each was handled whole, and none of them ended the input: the catalogue now, and the state.
 pub record Sofar {B : Type 0} (old now : World B) (found c : Cat) (at : State) (asked : List Asked) : Type 0 where
   pub ran : Ran old now found at asked
-  pub no_quit : AllByRecursion (λ a. ¬ IsQuit a) asked
+  pub none_end : AllByRecursion (λ a. ¬ EndsInput a) asked
   pub text : IsTrue old.sink.tells → now.sink.holds ≡ old.sink.holds ++ joined (replies_of ran.handled)
   -- the catalogue
   pub of_run : IsOfRun found c

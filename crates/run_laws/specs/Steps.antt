@@ -35,7 +35,7 @@ pub record IsLike (before c : Cat) : Type 0 where
   pub keeps : KeepsNumbers before c
 
 -- it is that behind the request of this number, which did this
-pub record IsBehind (before : Cat) (n : ℕ) (d : Done) (c : Cat) : Type 0 where
+pub record IsLeftBehind (before : Cat) (n : ℕ) (d : Done) (c : Cat) : Type 0 where
   pub grid : grid_of c ≡ d.state.grid
   pub run : c.numbers.run ≡ before.numbers.run
   pub last : c.numbers.last ≡ n
@@ -45,9 +45,9 @@ pub record IsBehind (before : Cat) (n : ℕ) (d : Done) (c : Cat) : Type 0 where
   pub keeps : KeepsNumbers before c
 
 -- the request was kept, or there was nothing to keep: it told no mark and changed nothing
-pub data Follows (before : Cat) (n : ℕ) (d : Done) : Cat → Type 0 where
-  kept : {c : Cat} → IsBehind before n d c → Follows before n d c
-  nothing : {c : Cat} → c ≡ before → d.reply.marks ≡ [] → d.state.grid ≡ grid_of before → Follows before n d c
+pub data ComesAfter (before : Cat) (n : ℕ) (d : Done) : Cat → Type 0 where
+  kept : {c : Cat} → IsLeftBehind before n d c → ComesAfter before n d c
+  nothing : {c : Cat} → c ≡ before → d.reply.marks ≡ [] → d.state.grid ≡ grid_of before → ComesAfter before n d c
 
 -- ---- images
 
@@ -61,7 +61,7 @@ IsUntold (piece ∷ pieces) count = count < length piece
 pub data OneOf (before : Cat) (n : ℕ) (d : Done) (pieces : List Text) (shown main sink : Text) : Type 0 where
   not_kept : (c : Cat) → IsLike before c → StandsFor main c → (part : AddsPart (reply_text n d.reply pieces) shown sink)
       → IsUntold pieces part.count → OneOf before n d pieces shown main sink
-  kept_so : (c : Cat) → Follows before n d c → StandsFor main c → AddsPart (reply_text n d.reply pieces) shown sink
+  kept_so : (c : Cat) → ComesAfter before n d c → StandsFor main c → AddsPart (reply_text n d.reply pieces) shown sink
       → OneOf before n d pieces shown main sink
 
 -- ---- marks
@@ -87,7 +87,7 @@ pub record Gave (marks : List Mark) (old new : AmbientState) : Type 0 where
 -- ---- one request
 
 -- The request of this number was handled or how far that came, from the state and the catalogue before it.
-pub record Step {B : Type 0} (old new : World B) (at : State) (before : Cat) (n : ℕ) (request : Request) : Type 0 where
+pub record RequestStep {B : Type 0} (old new : World B) (at : State) (before : Cat) (n : ℕ) (request : Request) : Type 0 where
   pub marks : List Mark
   pub d : Done
   pub does_so : does at request marks ≡ gives d
@@ -104,11 +104,12 @@ pub record Step {B : Type 0} (old new : World B) (at : State) (before : Cat) (n 
       → old.moments < t → new.main.left t main → new.sink.left t sink → OneOf before n d pieces old.sink.holds main sink
 
 -- It was handled whole: this is the catalogue behind it, and this the state.
-pub record IsWhole {B : Type 0} (old new : World B) (at : State) (before : Cat) (n : ℕ) (request : Request) (step : Step old new at before n request)
+pub record IsHandledWhole {B : Type 0} (old new : World B) (at : State) (before : Cat) (n : ℕ) (request : Request)
+    (step : RequestStep old new at before n request)
     (after : Cat) (end : State) : Type 0 where
   pub state : step.d.state ≡ end
   pub grid : grid_of after ≡ end.grid
-  pub follows : Follows before n step.d after
+  pub follows : ComesAfter before n step.d after
   pub stands : IsTrue old.main.tells → StandsFor new.main.holds after
   pub text : IsTrue old.sink.tells → new.sink.holds ≡ old.sink.holds ++ reply_text n step.d.reply step.pieces
   pub main_settled : IsTrue old.main.tells → IsSettled old.main → IsSettled new.main

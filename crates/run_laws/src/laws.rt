@@ -7,12 +7,12 @@ ghost use Rattle.grid_model.specs.Runs.{Request};
 ghost use Rattle.grid_model.specs.Sessions.{State};
 ghost use Rattle.grid_headline.specs.Ends.{RunEnd};
 ghost use Rattle.grid_headline.specs.Headline.{Serves};
-ghost use Rattle.grid_headline.specs.Reads.{IsQuit, Means};
-ghost use Rattle.grid_headline.specs.Served.{BeginsWith};
+ghost use Rattle.grid_headline.specs.Reads.{EndsInput, MeansRequest};
+ghost use Rattle.grid_headline.specs.Served.{BeginsWithRequests};
 ghost use Rattle.run_laws.specs.Ends.{IsGoodIfNoneFailed, ReadsSo, StopsSo};
 ghost use Rattle.run_laws.specs.Opening.{Opened};
-ghost use Rattle.run_laws.specs.Sofar.{BeginsPlainly, GoesOn, Sofar, begun};
-ghost use Rattle.run_laws.specs.Steps.{IsQuiet, IsWhole, Step};
+ghost use Rattle.run_laws.specs.Sofar.{BeginsPlainly, CallsGoOn, Sofar, begun};
+ghost use Rattle.run_laws.specs.Steps.{IsQuiet, IsHandledWhole, RequestStep};
 ghost use Rattle.run_laws.specs.Surrounding.{world};
 ghost use Rattle.run_laws.specs.Went.{AreInOrder};
 
@@ -38,8 +38,9 @@ pub fn a_run_goes_on<D: Disk, S: Source, K: Sink, A: Ambient, P: Plugin>(
     ensures { let from = world D.disk S.source K.sink A.ambient P.plugin old.now in let by = world D.disk S.source K.sink A.ambient P.plugin mid.now in
         let to = world D.disk S.source K.sink A.ambient P.plugin new.now in
         (found c after : Cat) (at end : State) (asked : List Asked) (a : Asked) (request : Request) → BeginsPlainly from found →
-        Sofar from by found c at asked → GoesOn by to c → Means at a request → ¬ IsQuit a → (step : Step by to at c (length asked + 1) request) →
-        IsWhole by to at c (length asked + 1) request step after end → Sofar from to found after end (asked ++ a ∷ []) }
+        Sofar from by found c at asked → CallsGoOn by to c → MeansRequest at a request → ¬ EndsInput a
+        → (step : RequestStep by to at c (length asked + 1) request) →
+        IsHandledWhole by to at c (length asked + 1) request step after end → Sofar from to found after end (asked ++ a ∷ []) }
 {}
 
 /// Where the input was read so far and all that was handled is answered, all holds that is promised of a run.
@@ -49,7 +50,7 @@ pub fn a_run_ends_answered<D: Disk, S: Source, K: Sink, A: Ambient, P: Plugin>(
 )
     ensures { let from = world D.disk S.source K.sink A.ambient P.plugin old.now in let to = world D.disk S.source K.sink A.ambient P.plugin now.now in
         (found c : Cat) (at : State) (asked : List Asked) (end : RunEnd) → BeginsPlainly from found → Sofar from to found c at asked →
-        BeginsWith from.source.left asked → ReadsSo asked from.source to.source end → IsGoodIfNoneFailed from to end → Serves from to found end }
+        BeginsWithRequests from.source.left asked → ReadsSo asked from.source to.source end → IsGoodIfNoneFailed from to end → Serves from to found end }
 {}
 
 /// Where something ran out or failed, and nothing is seen of what was done for it, all holds that is promised of a run.
@@ -60,7 +61,7 @@ pub fn a_run_ends_early<D: Disk, S: Source, K: Sink, A: Ambient, P: Plugin>(
 )
     ensures { let from = world D.disk S.source K.sink A.ambient P.plugin old.now in let by = world D.disk S.source K.sink A.ambient P.plugin mid.now in
         let to = world D.disk S.source K.sink A.ambient P.plugin new.now in
-        (found c : Cat) (at : State) (asked : List Asked) (end : RunEnd) → BeginsPlainly from found → Sofar from by found c at asked → GoesOn by to c →
-        IsQuiet by to c → BeginsWith from.source.left asked → StopsSo from to found at asked end → IsGoodIfNoneFailed from to end →
+        (found c : Cat) (at : State) (asked : List Asked) (end : RunEnd) → BeginsPlainly from found → Sofar from by found c at asked → CallsGoOn by to c →
+        IsQuiet by to c → BeginsWithRequests from.source.left asked → StopsSo from to found at asked end → IsGoodIfNoneFailed from to end →
         Serves from to found end }
 {}

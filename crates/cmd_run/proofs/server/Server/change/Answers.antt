@@ -4,6 +4,8 @@ use Rattle.grid_model.specs.Working.{well}
 use Rattle.cmd_run.proofs.ChangeEnds.{cut_in_keeping, said_then}
 use Rattle.cmd_run.proofs.KeepLemmas.{keep_still}
 use Rattle.cmd_run.proofs.SayLemmas.{unsaid}
+use Rattle.cmd_run.specs.Keeps.{named}
+use Rattle.cmd_run.proofs.Remembering.{still_remembers, kept_remembers, keeps_numbered}
 use Rattle.cmd_run.proofs.server.Server.change.Goals as goal
 
 pub returns-in_default-clause-obeys : goal.returns-in_default-clause-obeys
@@ -25,3 +27,24 @@ pub returns-clause-obeys : goal.returns-clause-obeys
 returns-clause-obeys g c = λ source request after change s.
     cut_in_keeping g.D.Disk.disk g.A.Ambient.ambient g.P.Plugin.plugin source c.args.outside.now c.keep.new.outside (g.K.Sink.sink c.args.sink.now) (g.K.Sink.sink c.args.sink.now) c.args.self.now c.keep.new.self c.args.number request c.args.deltas after
     c.in-Err.ensures.frame.ambient c.in-Err.ensures.stores c.requires.fits c.requires.ready.sink_last c.in-Err.ensures.sessions change s c.in-Err.ending (c.in-Err.ensures.kept after change)
+
+pub returns-in_default-clause-remembers : goal.returns-in_default-clause-remembers
+returns-in_default-clause-remembers g c =
+    let main = c.args.outside.now.main in
+    still_remembers g.D.Disk.disk main main c.args.self.now.store c.args.outside.now.moments refl c.requires.ready.outside.main_last c.requires.fits.held c.requires.fits.pending
+
+pub returns-in-Ok-keep-clause-remembers : goal.returns-in-Ok-keep-clause-remembers
+returns-in-Ok-keep-clause-remembers g c =
+    let none = c.requires.fits.pending in
+    let after = c.requires.change.0 in
+    let change = c.requires.change.1 in
+    kept_remembers c.args.self.now.store.cat (named c.args.number after) c.args.outside.now.moments (g.D.Disk.disk c.args.outside.now.main) (g.D.Disk.disk c.keep.new.outside.main) _ c.keep.new.self
+    none (change.pending ∙ none) (keeps_numbered c.args.number c.args.self.now.store.cat after change.turns.named) (c.in-Ok-keep.ensures.kept after change)
+
+pub returns-clause-remembers : goal.returns-clause-remembers
+returns-clause-remembers g c =
+    let none = c.requires.fits.pending in
+    let after = c.requires.change.0 in
+    let change = c.requires.change.1 in
+    kept_remembers c.args.self.now.store.cat (named c.args.number after) c.args.outside.now.moments (g.D.Disk.disk c.args.outside.now.main) (g.D.Disk.disk c.keep.new.outside.main) _ c.keep.new.self
+    none (change.pending ∙ none) (keeps_numbered c.args.number c.args.self.now.store.cat after change.turns.named) (c.in-Err.ensures.kept after change)

@@ -1,8 +1,9 @@
 use Rattle.std.proofs.Common.{◌≡◌, true, Ok, Err, refl, sym, ap, subst, ◌∙◌, arith}
 use Rattle.std.specs.Prelude.{nat_le}
+use Rattle.grid_outside.specs.declared.outside.Wear.TheVariants.{Vaults}
 use Rattle.grid_model.specs.Limits.{object_size}
-use Rattle.grid_model.specs.Orders.{Order, logs_in, quits, works}
-use Rattle.grid_model.specs.Operations.Table.{mkdir, put, get}
+use Rattle.grid_model.specs.Orders.{Order, lists, logs_in, logs_out, quits, works}
+use Rattle.grid_model.specs.Operations.Table.{put, get}
 use Rattle.grid_model.specs.Names.{Text, Path}
 use Rattle.grid_model.specs.Runs.{Request}
 use Rattle.grid_model.specs.Working.{well}
@@ -10,49 +11,45 @@ use Rattle.grid_model.specs.declared.replies.End.TheVariants as end
 use Rattle.grid_model.specs.declared.refusal.Refusal.TheVariants as refusal
 use Rattle.grid_model.specs.declared.grid.Mode.TheVariants.{New, Over}
 use Rattle.grid_model.specs.declared.requests.Verb.TheVariants as verb
-use Rattle.cmd_run.specs.Asking.{AsksFor, IsForm}
+use Rattle.cmd_run.specs.Asking.{AsksForRequest, IsForm}
 use Rattle.cmd_run.specs.Fits.{state_of}
 use Rattle.cmd_run.specs.Obeys.{SaysOnly}
+use Rattle.cmd_run.proofs.Remembering.{no_source}
 use Rattle.cmd_run.proofs.LoginLemmas.{says_refused, says_quit}
-use Rattle.cmd_run.proofs.WorkingLemmas.{verb_asks, unbuilt, unknown_asks}
+use Rattle.cmd_run.proofs.WorkingLemmas.{verb_asks, asks_other}
 use Rattle.cmd_run.proofs.server.Server.command.Goals as goal
 
 pub returns-in-Err-clause-obeys : goal.returns-in-Err-clause-obeys
 returns-in-Err-clause-obeys g c = λ source request asks.
     let s = c.args.self.now in
     let r = c.in-Err.refusal in
-    let A : _ → Type 0 = λ a. AsksFor a c.args.body request in
+    let A : _ → Type 0 = λ a. AsksForRequest (state_of s) a c.args.body request in
     let Q : Request → Type 0 = λ x. SaysOnly (state_of s) x (end.Refused r) (state_of s) in
     c.say.ensures.obeys source request s refl (subst Q (sym (subst A c.in-Err.is asks)) (says_refused s 0 r (subst IsForm c.in-Err.is c.requires.form)))
 
 pub returns-in-Login-clause-obeys : goal.returns-in-Login-clause-obeys
 returns-in-Login-clause-obeys g c = λ source request asks.
-    let its = verb_asks c.args.asked c.args.body request c.in-Ok.request (verb.Login c.in-Login.user) c.in-Ok.is c.in-Login.is asks in
-    c.login.ensures.obeys source request (its.1 ∙ ap (λ (o : Order). Ok (c.in-Ok.request.session, o)) its.2 ∙ ap (λ (u : Text). Ok (c.in-Ok.request.session, logs_in u)) (sym c.in-Login.user-is))
+    let its = verb_asks (state_of c.args.self.now) c.args.asked c.args.body request c.in-Ok.request (verb.Login c.in-Login.user) c.in-Ok.is c.in-Login.is asks in
+    c.login.ensures.obeys source request (its.1 ∙ ap (λ (o : Order). Ok (c.in-Ok.request.session, o)) its.2.1 ∙ ap (λ (u : Text). Ok (c.in-Ok.request.session, logs_in u)) (sym c.in-Login.user-is))
 
 pub returns-in-Logout-clause-obeys : goal.returns-in-Logout-clause-obeys
 returns-in-Logout-clause-obeys g c = λ source request asks.
-    let its = verb_asks c.args.asked c.args.body request c.in-Ok.request verb.Logout c.in-Ok.is c.in-Logout.is asks in
-    c.logout.ensures.obeys source request (its.1 ∙ ap (λ (o : Order). Ok (c.in-Ok.request.session, o)) its.2)
+    let its = verb_asks (state_of c.args.self.now) c.args.asked c.args.body request c.in-Ok.request verb.Logout c.in-Ok.is c.in-Logout.is asks in
+    c.logout.ensures.obeys source request (its.1 ∙ ap (λ (o : Order). Ok (c.in-Ok.request.session, o)) its.2.1)
 
 pub returns-in-Quit-clause-obeys : goal.returns-in-Quit-clause-obeys
 returns-in-Quit-clause-obeys g c = λ source request asks.
     let s = c.args.self.now in
-    let its = verb_asks c.args.asked c.args.body request c.in-Ok.request verb.Quit c.in-Ok.is c.in-Quit.is asks in
+    let its = verb_asks (state_of c.args.self.now) c.args.asked c.args.body request c.in-Ok.request verb.Quit c.in-Ok.is c.in-Quit.is asks in
     let Q : Request → Type 0 = λ x. SaysOnly (state_of s) x well (state_of s) in
     let E : _ → Type 0 = λ e. SaysOnly (state_of s) request e (state_of s) in
-    c.say-in-Quit.ensures.obeys source request s refl (subst E (sym c.well.ensures.is) (subst Q (sym (its.1 ∙ ap (λ (o : Order). Ok (c.in-Ok.request.session, o)) its.2)) (says_quit s c.in-Ok.request.session)))
-
-pub returns-in-MkDir-clause-obeys : goal.returns-in-MkDir-clause-obeys
-returns-in-MkDir-clause-obeys g c = λ source request asks.
-    let its = verb_asks c.args.asked c.args.body request c.in-Ok.request (verb.MkDir c.in-MkDir.path) c.in-Ok.is c.in-MkDir.is asks in
-    c.mkdir.ensures.obeys source request (its.1 ∙ ap (λ (o : Order). Ok (c.in-Ok.request.session, o)) its.2 ∙ ap (λ (p : Path). Ok (c.in-Ok.request.session, works (mkdir p) 0)) (sym c.in-MkDir.path-is))
+    c.say-in-Quit.ensures.obeys source request s refl (subst E (sym c.well.ensures.is) (subst Q (sym (its.1 ∙ ap (λ (o : Order). Ok (c.in-Ok.request.session, o)) its.2.1)) (says_quit s c.in-Ok.request.session)))
 
 pub returns-in-New-clause-obeys : goal.returns-in-New-clause-obeys
 returns-in-New-clause-obeys g c = λ source request asks.
     let p = c.in-Put in
     let is = p.is ∙ ap (λ m. verb.Put p.path p.resource m p.count) (sym p.mode-is ∙ c.in-New.is) in
-    let its = verb_asks c.args.asked c.args.body request c.in-Ok.request (verb.Put p.path p.resource New p.count) c.in-Ok.is is asks in
+    let its = verb_asks (state_of c.args.self.now) c.args.asked c.args.body request c.in-Ok.request (verb.Put p.path p.resource New p.count) c.in-Ok.is is asks in
     c.put_line.ensures.obeys source request (
       its.2.0,
       its.1 ∙ ap (λ (o : Order). Ok (c.in-Ok.request.session, o)) its.2.1
@@ -65,34 +62,100 @@ returns-in-Over-clause-obeys g c = λ source request asks.
     let s = c.args.self.now in
     let p = c.in-Put in
     let is = p.is ∙ ap (λ m. verb.Put p.path p.resource m p.count) (sym p.mode-is ∙ c.in-Over.is) in
-    let its = verb_asks c.args.asked c.args.body request c.in-Ok.request (verb.Put p.path p.resource Over p.count) c.in-Ok.is is asks in
+    let its = verb_asks (state_of c.args.self.now) c.args.asked c.args.body request c.in-Ok.request (verb.Put p.path p.resource Over p.count) c.in-Ok.is is asks in
     let Q : Request → Type 0 = λ x. SaysOnly (state_of s) x (end.Refused refusal.UnknownCommand) (state_of s) in
     c.say-in-Over.ensures.obeys source request s refl (subst Q (sym its) (says_refused s 0 refusal.UnknownCommand tt))
 
 pub returns-in-Get-clause-obeys : goal.returns-in-Get-clause-obeys
 returns-in-Get-clause-obeys g c = λ source request asks.
     let p = c.in-Get in
-    let its = verb_asks c.args.asked c.args.body request c.in-Ok.request (verb.Get p.path p.resource) c.in-Ok.is p.is asks in
+    let its = verb_asks (state_of c.args.self.now) c.args.asked c.args.body request c.in-Ok.request (verb.Get p.path p.resource) c.in-Ok.is p.is asks in
     let resource_is = sym (c.as_ref.ensures.value ∙ p.resource-is) in
     c.get_for.ensures.obeys source request (
-    its.1 ∙ ap (λ (o : Order). Ok (c.in-Ok.request.session, o)) its.2
+    its.1 ∙ ap (λ (o : Order). Ok (c.in-Ok.request.session, o)) its.2.1
     ∙ (λ i. Ok (c.in-Ok.request.session, works (get (sym p.path-is i) (resource_is i)) 0))
     )
 
+pub returns-in-Err-clause-untouched : goal.returns-in-Err-clause-untouched
+returns-in-Err-clause-untouched g c place is = absurd ((c.say.ensures.worn no_source (Ok (0, logs_out)) c.args.self.now Vaults place is).3)
+
+pub returns-in-Login-clause-untouched : goal.returns-in-Login-clause-untouched
+returns-in-Login-clause-untouched g c place is = absurd ((c.login.ensures.worn no_source _ refl Vaults place is).3)
+
+pub returns-in-Logout-clause-untouched : goal.returns-in-Logout-clause-untouched
+returns-in-Logout-clause-untouched g c place is = absurd ((c.logout.ensures.worn no_source (Ok (c.in-Ok.request.session, logs_out)) refl Vaults place is).3)
+
+pub returns-in-Quit-clause-untouched : goal.returns-in-Quit-clause-untouched
+returns-in-Quit-clause-untouched g c place is = absurd ((c.say-in-Quit.ensures.worn no_source (Ok (0, logs_out)) c.args.self.now Vaults place is).3)
+
+pub returns-in-Over-clause-untouched : goal.returns-in-Over-clause-untouched
+returns-in-Over-clause-untouched g c place is = absurd ((c.say-in-Over.ensures.worn no_source (Ok (0, logs_out)) c.args.self.now Vaults place is).3)
+
+pub returns-in-Get-clause-untouched : goal.returns-in-Get-clause-untouched
+returns-in-Get-clause-untouched g c place is = absurd ((c.get_for.ensures.worn no_source (Ok (0, logs_out)) Vaults place is).3)
+
+pub returns-in-Err-clause-idle : goal.returns-in-Err-clause-idle
+returns-in-Err-clause-idle g c = λ request asks refused. (c.say.ensures.rows, c.say.ensures.stores)
+
+pub returns-in-Login-clause-idle : goal.returns-in-Login-clause-idle
+returns-in-Login-clause-idle g c = λ request asks refused. (c.login.ensures.rows, c.login.ensures.stores)
+
+pub returns-in-Logout-clause-idle : goal.returns-in-Logout-clause-idle
+returns-in-Logout-clause-idle g c = λ request asks refused. (c.logout.ensures.rows, c.logout.ensures.stores)
+
+pub returns-in-Quit-clause-idle : goal.returns-in-Quit-clause-idle
+returns-in-Quit-clause-idle g c = λ request asks refused. (c.say-in-Quit.ensures.rows, c.say-in-Quit.ensures.stores)
+
+pub returns-in-Over-clause-idle : goal.returns-in-Over-clause-idle
+returns-in-Over-clause-idle g c = λ request asks refused. (c.say-in-Over.ensures.rows, c.say-in-Over.ensures.stores)
+
+pub returns-in-New-clause-idle : goal.returns-in-New-clause-idle
+returns-in-New-clause-idle g c = λ request asks.
+    let p = c.in-Put in
+    let is = p.is ∙ ap (λ m. verb.Put p.path p.resource m p.count) (sym p.mode-is ∙ c.in-New.is) in
+    let its = verb_asks (state_of c.args.self.now) c.args.asked c.args.body request c.in-Ok.request (verb.Put p.path p.resource New p.count) c.in-Ok.is is asks in
+    c.put_line.ensures.idle request (
+      its.2.0,
+      its.1 ∙ ap (λ (o : Order). Ok (c.in-Ok.request.session, o)) its.2.1
+          ∙ (λ i. Ok (c.in-Ok.request.session, works (put (sym p.path-is i) (sym p.resource-is i) New its.2.0) (sym p.count-is i))),
+      λ small. its.2.2 (subst (λ n. nat_le n object_size ≡ true) p.count-is small),
+    )
+
+pub returns-in-Get-clause-idle : goal.returns-in-Get-clause-idle
+returns-in-Get-clause-idle g c = λ request asks.
+    let p = c.in-Get in
+    let its = verb_asks (state_of c.args.self.now) c.args.asked c.args.body request c.in-Ok.request (verb.Get p.path p.resource) c.in-Ok.is p.is asks in
+    let resource_is = sym (c.as_ref.ensures.value ∙ p.resource-is) in
+    c.get_for.ensures.idle request (
+    its.1 ∙ ap (λ (o : Order). Ok (c.in-Ok.request.session, o)) its.2.1
+    ∙ (λ i. Ok (c.in-Ok.request.session, works (get (sym p.path-is i) (resource_is i)) 0))
+    )
+
+pub returns-in-Ls-clause-obeys : goal.returns-in-Ls-clause-obeys
+returns-in-Ls-clause-obeys g c = λ source request asks.
+    let its = verb_asks (state_of c.args.self.now) c.args.asked c.args.body request c.in-Ok.request (verb.Ls c.in-Ls.path) c.in-Ok.is c.in-Ls.is asks in
+    c.list.ensures.obeys source request (its.1 ∙ ap (λ (o : Order). Ok (c.in-Ok.request.session, o)) its.2.1 ∙ ap (λ (p : Path). Ok (c.in-Ok.request.session, lists p)) (sym c.in-Ls.path-is))
+
+pub returns-in-Ls-clause-idle : goal.returns-in-Ls-clause-idle
+returns-in-Ls-clause-idle g c = λ request asks refused. (c.list.ensures.rows, c.list.ensures.stores)
+
+pub returns-in-Ls-clause-untouched : goal.returns-in-Ls-clause-untouched
+returns-in-Ls-clause-untouched g c place is = absurd ((c.list.ensures.worn no_source (Ok (0, logs_out)) Vaults place is).3)
+
 pub returns-in_default : goal.returns-in_default
 returns-in_default g c =
-    let s = c.args.self.now in
     let n = c.in_default in
-    let r = c.in-Ok.request in
-    let unknown = unbuilt r.verb n.not-Login n.not-Logout n.not-Quit n.not-MkDir n.not-Put n.not-Get in
-    let said = c.say-in_default.ensures in
+    let w = c.works.ensures in
+    let other = asks_other (state_of c.args.self.now) c.args.asked c.args.body in
     record {
-      obeys = λ source request asks. (
-          let Q : Request → Type 0 = λ x. SaysOnly (state_of s) x (end.Refused refusal.UnknownCommand) (state_of s) in
-          said.obeys source request s refl (subst Q (sym (unknown_asks c.args.asked c.args.body request r c.in-Ok.is unknown asks)) (says_refused s 0 refusal.UnknownCommand tt))
-          );
-      worn = λ source request asks. said.worn source request s;
-      whole = said.whole;
-      passes = said.passes;
-      drawn = omega (arith, said.drawn);
+      obeys = λ source request asks. w.obeys source request
+          (other request c.in-Ok.request c.in-Ok.is n.not-Login n.not-Logout n.not-Quit n.not-Ls n.not-Put n.not-Get asks);
+      worn = λ source request asks. w.worn source request;
+      remembers = w.remembers;
+      whole = w.whole;
+      passes = w.passes;
+      idle = λ request asks. w.idle request
+          (other request c.in-Ok.request c.in-Ok.is n.not-Login n.not-Logout n.not-Quit n.not-Ls n.not-Put n.not-Get asks);
+      untouched = λ place is. absurd ((w.worn no_source (Ok (0, logs_out)) Vaults place is).3);
+      drawn = omega (arith, w.drawn);
     }

@@ -5,6 +5,7 @@ use Rattle.cmd_run.specs.Keeps.{named, IsChange}
 use Rattle.cmd_run.proofs.GetEnds.{fetch_failed, keep_failed, said_then, keep_looked, keep_then}
 use Rattle.cmd_run.proofs.KeptEnds.{not_sink, worn_kept, passes_kept}
 use Rattle.cmd_run.proofs.WriteLemmas.{no_change}
+use Rattle.cmd_run.proofs.Remembering.{still_remembers, later_remembers, kept_remembers, keeps_numbered}
 use Rattle.cmd_run.proofs.server.Server.get.Goals as goal
 
 pub returns-in-Err-clause-obeys : goal.returns-in-Err-clause-obeys
@@ -73,3 +74,32 @@ returns-clause-passes g c =
     let kept = c.in-Err-keep.ensures in
     passes_kept g.D.Disk.disk g.P.Plugin.plugin g.K.Sink.sink _ _ _ _ (record { outside = c.args.outside.now; sink = c.args.sink.now }) (record { outside = c.fetch.new.outside; sink = c.fetch.new.sink }) c.keep.new.outside
     (λ e. cc) (not_sink k (named c.args.number k) (g.D.Disk.disk c.fetch.new.outside.main) (g.D.Disk.disk c.keep.new.outside.main) c.keep.new.self c.in-Err-keep.ending (kept.kept k change).ends) c.in-Ok.ensures.passes kept.frame
+
+pub returns-in-Err-clause-remembers : goal.returns-in-Err-clause-remembers
+returns-in-Err-clause-remembers g c =
+    still_remembers g.D.Disk.disk c.args.outside.now.main c.fetch.new.outside.main c.args.self.now.store c.args.outside.now.moments c.fetch.ensures.main c.requires.ready.outside.main_last
+    c.requires.fits.held c.requires.fits.pending
+
+pub returns-in-Ok-keep-clause-remembers : goal.returns-in-Ok-keep-clause-remembers
+returns-in-Ok-keep-clause-remembers g c =
+    let k = c.args.self.now.store.cat in
+    let P : List Delta → Type 0 = λ ds. IsChange k ds k in
+    let change = subst P (sym (c.from_vec.ensures ∙ c.new.ensures.items)) (no_change k) in
+    let kept = c.in-Ok-keep.ensures in
+    let none = c.requires.fits.pending in
+    let disk = g.D.Disk.disk in
+    later_remembers disk c.args.outside.now.main c.fetch.new.outside.main (disk c.keep.new.outside.main) c.args.self.now.store c.args.outside.now.moments c.fetch.new.outside.moments c.fetch.ensures.main
+    c.fetch.ensures.passes.frame.drawn c.requires.ready.outside.main_last c.requires.fits.held none kept.frame.main
+    (kept_remembers k (named c.args.number k) c.fetch.new.outside.moments (disk c.fetch.new.outside.main) (disk c.keep.new.outside.main) _ c.keep.new.self none none (keeps_numbered c.args.number k k (λ slot name is. is)) (kept.kept k change))
+
+pub returns-clause-remembers : goal.returns-clause-remembers
+returns-clause-remembers g c =
+    let k = c.args.self.now.store.cat in
+    let P : List Delta → Type 0 = λ ds. IsChange k ds k in
+    let change = subst P (sym (c.from_vec.ensures ∙ c.new.ensures.items)) (no_change k) in
+    let kept = c.in-Err-keep.ensures in
+    let none = c.requires.fits.pending in
+    let disk = g.D.Disk.disk in
+    later_remembers disk c.args.outside.now.main c.fetch.new.outside.main (disk c.keep.new.outside.main) c.args.self.now.store c.args.outside.now.moments c.fetch.new.outside.moments c.fetch.ensures.main
+    c.fetch.ensures.passes.frame.drawn c.requires.ready.outside.main_last c.requires.fits.held none kept.frame.main
+    (kept_remembers k (named c.args.number k) c.fetch.new.outside.moments (disk c.fetch.new.outside.main) (disk c.keep.new.outside.main) _ c.keep.new.self none none (keeps_numbered c.args.number k k (λ slot name is. is)) (kept.kept k change))

@@ -1,4 +1,6 @@
 use Rattle.std.proofs.Common.{◌≡◌, Ok, Err, refl, sym, ap, ◌∙◌, subst, arith}
+use Rattle.grid_outside.specs.declared.outside.Wear.TheVariants.{Vaults}
+use Rattle.grid_model.specs.Orders.{logs_out}
 use Rattle.grid_model.specs.Rows.{Cat}
 use Rattle.grid_model.specs.RowGrids.{user_name}
 use Rattle.grid_model.specs.declared.deltas.Numbers.{Numbers}
@@ -11,6 +13,8 @@ use Rattle.cmd_run.specs.declared.server.Ending.TheVariants as ending
 use Rattle.cmd_run.proofs.KeepLemmas.{keep_still}
 use Rattle.cmd_run.proofs.PutEnds.{says_refused_put, worn_vaults}
 use Rattle.cmd_run.proofs.SayLemmas.{unsaid, unsaid_by}
+use Rattle.cmd_run.proofs.Remembering.{still_remembers, no_source}
+use Rattle.cmd_run.proofs.NotRefused.{put_not_refused}
 use Rattle.cmd_run.proofs.server.Server.put.Goals as goal
 
 pub returns-then-next-gt-LAST_VAULT-clause-obeys : goal.returns-then-next-gt-LAST_VAULT-clause-obeys
@@ -37,3 +41,29 @@ returns-clause-obeys g c = λ source request asks.
 
 pub returns-clause-whole : goal.returns-clause-whole
 returns-clause-whole g c = keep_still g.P.Plugin.plugin c.args.self.now.store.cat c.args.outside.now.moments (g.D.Disk.disk c.args.outside.now.main) c.args.self.now.store c.args.outside.now.stores.items c.requires.fits.held c.requires.ready.outside.main_last
+
+pub returns-then-next-gt-LAST_VAULT-clause-remembers : goal.returns-then-next-gt-LAST_VAULT-clause-remembers
+returns-then-next-gt-LAST_VAULT-clause-remembers g c =
+    let main = c.args.outside.now.main in
+    still_remembers g.D.Disk.disk main main c.args.self.now.store c.args.outside.now.moments refl c.requires.ready.outside.main_last c.requires.fits.held c.requires.fits.pending
+
+pub returns-clause-remembers : goal.returns-clause-remembers
+returns-clause-remembers g c =
+    let main = c.args.outside.now.main in
+    still_remembers g.D.Disk.disk main main c.args.self.now.store c.args.outside.now.moments refl c.requires.ready.outside.main_last c.requires.fits.held c.requires.fits.pending
+
+pub returns-in-Err-Refused-clause-untouched : goal.returns-in-Err-Refused-clause-untouched
+returns-in-Err-Refused-clause-untouched g c place is = absurd ((c.say.ensures.worn no_source (Ok (0, logs_out)) c.args.self.now Vaults place is).3)
+
+pub returns-in-Ok-clause-untouched : goal.returns-in-Ok-clause-untouched
+returns-in-Ok-clause-untouched g c place is = absurd (c.put_drawn.ensures.log_only place is)
+
+pub returns-in-Ok-clause-idle : goal.returns-in-Ok-clause-idle
+returns-in-Ok-clause-idle g c = λ request asks refused.
+    let cat = c.args.self.now.store.cat in
+    let p = c.args.putting in
+    let F : _ → Type 0 = λ r. FindsTargets cat (user_name cat p.user) (wanted p) 0 r in
+    absurd (put_not_refused c.args.self.now p request _ asks (subst F c.in-Ok.is c.targets.ensures) refused)
+
+pub returns-in-Err-Refused-clause-idle : goal.returns-in-Err-Refused-clause-idle
+returns-in-Err-Refused-clause-idle g c = λ request asks refused. (c.say.ensures.rows, c.say.ensures.stores)

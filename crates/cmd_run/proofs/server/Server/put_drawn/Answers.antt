@@ -11,6 +11,7 @@ use Rattle.cmd_run.proofs.FetchLemmas.{drew_both}
 use Rattle.cmd_run.proofs.KeepLemmas.{keep_still}
 use Rattle.cmd_run.proofs.PutEnds.{plan_as, unsaid_drawn, passes_framed, ran_then, failed_then, cut_of, cut_after, written_unsunk, worn_of}
 use Rattle.cmd_run.proofs.PutSteps.{marked_text}
+use Rattle.cmd_run.proofs.Remembering.{still_remembers, written_remembers, written_logs}
 use Rattle.cmd_run.proofs.server.Server.put_drawn.Goals as goal
 
 pub returns-in_default-clause-obeys : goal.returns-in_default-clause-obeys
@@ -120,3 +121,66 @@ returns-clause-passes g c =
     passes_framed g.D.Disk.disk g.P.Plugin.plugin g.K.Sink.sink _ _ o n c.now-now.new.self c.args.sink.now
     (written_unsunk g.P.Plugin.plugin w (record { main = g.D.Disk.disk o.main; stores = o.stores.items }) (record { main = g.D.Disk.disk n.main; stores = n.stores.items }) c.in-Err.ending c.write.new.self (c.in-Err.ensures.written same))
     (frame_as g.D.Disk.disk g.P.Plugin.plugin _ _ (record o { ambient = c.now-now.new.self }) n (λ e. cc) (λ e. cc) c.in-Err.ensures.frame)
+
+pub returns-in_default-clause-remembers : goal.returns-in_default-clause-remembers
+returns-in_default-clause-remembers g c =
+    let main = c.args.outside.now.main in
+    still_remembers g.D.Disk.disk main main c.args.self.now.store c.args.outside.now.moments refl c.requires.ready.outside.main_last c.requires.fits.held c.requires.fits.pending
+
+pub returns-in_default-ran_text-clause-remembers : goal.returns-in_default-ran_text-clause-remembers
+returns-in_default-ran_text-clause-remembers g c =
+    let main = c.args.outside.now.main in
+    still_remembers g.D.Disk.disk main main c.args.self.now.store c.args.outside.now.moments refl c.requires.ready.outside.main_last c.requires.fits.held c.requires.fits.pending
+
+pub returns-in-Ok-None-clause-remembers : goal.returns-in-Ok-None-clause-remembers
+returns-in-Ok-None-clause-remembers g c =
+    let o = c.args.outside.now in
+    let n = c.write.new.outside in
+    let same = plan_as c.args.self.now.store.cat c.in-Ok.plan _ _ _ _ c.requires.slots (sym c.as_slice.ensures) c.in-Ok.ensures.is_plan in
+    let none = c.requires.fits.pending in
+    let plans = c.in-Ok.ensures in
+    let w : Writing = record { before = c.args.self.now.store.cat; mid = same.mid; end = same.end; number = c.args.number; files = c.in-Ok.plan.files; from = o.moments } in
+    written_remembers g.P.Plugin.plugin w (record { main = g.D.Disk.disk o.main; stores = o.stores.items }) (record { main = g.D.Disk.disk n.main; stores = n.stores.items }) _ c.write.new.self
+    none (plans.before.pending ∙ none) same.begins.named (plans.stays.pending ∙ none) same.ends.named (c.in-Ok-None.ensures.written same)
+
+pub returns-in_default-failed_text-clause-remembers : goal.returns-in_default-failed_text-clause-remembers
+returns-in_default-failed_text-clause-remembers g c =
+    let o = c.args.outside.now in
+    let n = c.write.new.outside in
+    let same = plan_as c.args.self.now.store.cat c.in-Ok.plan _ _ _ _ c.requires.slots (sym c.as_slice.ensures) c.in-Ok.ensures.is_plan in
+    let none = c.requires.fits.pending in
+    let plans = c.in-Ok.ensures in
+    let w : Writing = record { before = c.args.self.now.store.cat; mid = same.mid; end = same.end; number = c.args.number; files = c.in-Ok.plan.files; from = o.moments } in
+    written_remembers g.P.Plugin.plugin w (record { main = g.D.Disk.disk o.main; stores = o.stores.items }) (record { main = g.D.Disk.disk n.main; stores = n.stores.items }) _ c.write.new.self
+    none (plans.before.pending ∙ none) same.begins.named (plans.stays.pending ∙ none) same.ends.named (c.in-Ok-Some.ensures.written same)
+
+pub returns-in-Ok-Some-clause-remembers : goal.returns-in-Ok-Some-clause-remembers
+returns-in-Ok-Some-clause-remembers g c =
+    let o = c.args.outside.now in
+    let n = c.write.new.outside in
+    let same = plan_as c.args.self.now.store.cat c.in-Ok.plan _ _ _ _ c.requires.slots (sym c.as_slice.ensures) c.in-Ok.ensures.is_plan in
+    let none = c.requires.fits.pending in
+    let plans = c.in-Ok.ensures in
+    let w : Writing = record { before = c.args.self.now.store.cat; mid = same.mid; end = same.end; number = c.args.number; files = c.in-Ok.plan.files; from = o.moments } in
+    written_remembers g.P.Plugin.plugin w (record { main = g.D.Disk.disk o.main; stores = o.stores.items }) (record { main = g.D.Disk.disk n.main; stores = n.stores.items }) _ c.write.new.self
+    none (plans.before.pending ∙ none) same.begins.named (plans.stays.pending ∙ none) same.ends.named (c.in-Ok-Some.ensures.written same)
+
+pub returns-clause-remembers : goal.returns-clause-remembers
+returns-clause-remembers g c =
+    let o = c.args.outside.now in
+    let n = c.write.new.outside in
+    let same = plan_as c.args.self.now.store.cat c.in-Ok.plan _ _ _ _ c.requires.slots (sym c.as_slice.ensures) c.in-Ok.ensures.is_plan in
+    let none = c.requires.fits.pending in
+    let plans = c.in-Ok.ensures in
+    let w : Writing = record { before = c.args.self.now.store.cat; mid = same.mid; end = same.end; number = c.args.number; files = c.in-Ok.plan.files; from = o.moments } in
+    written_remembers g.P.Plugin.plugin w (record { main = g.D.Disk.disk o.main; stores = o.stores.items }) (record { main = g.D.Disk.disk n.main; stores = n.stores.items }) _ c.write.new.self
+    none (plans.before.pending ∙ none) same.begins.named (plans.stays.pending ∙ none) same.ends.named (c.in-Err.ensures.written same)
+
+pub returns-clause-log_only : goal.returns-clause-log_only
+returns-clause-log_only g c place is =
+    let o = c.args.outside.now in
+    let n = c.write.new.outside in
+    let same = plan_as c.args.self.now.store.cat c.in-Ok.plan _ _ _ _ c.requires.slots (sym c.as_slice.ensures) c.in-Ok.ensures.is_plan in
+    let w : Writing = record { before = c.args.self.now.store.cat; mid = same.mid; end = same.end; number = c.args.number; files = c.in-Ok.plan.files; from = o.moments } in
+    written_logs g.P.Plugin.plugin w (record { main = g.D.Disk.disk o.main; stores = o.stores.items }) (record { main = g.D.Disk.disk n.main; stores = n.stores.items }) c.in-Err.ending c.write.new.self
+    (c.in-Err.ensures.written same) place is

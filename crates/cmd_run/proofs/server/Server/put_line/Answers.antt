@@ -1,10 +1,11 @@
 use Rattle.std.proofs.Common.{◌≡◌, ◌<◌, Bool, true, false, ℕ, Ok, refl, sym, ap, subst, ◌∙◌, None, Some, arith}
 use Rattle.std.specs.Prelude.{nat_le}
 use Rattle.std.proofs.lemmas.Bool.{le-leb}
+use Rattle.grid_outside.specs.declared.outside.Wear.TheVariants.{Vaults}
 use Rattle.grid_model.specs.Limits.{object_size}
 use Rattle.grid_model.specs.Names.{Text}
 use Rattle.grid_model.specs.Operations.Table.{put}
-use Rattle.grid_model.specs.Orders.{works}
+use Rattle.grid_model.specs.Orders.{logs_out, works}
 use Rattle.grid_model.specs.Runs.{Request}
 use Rattle.grid_model.specs.declared.grid.Mode.TheVariants.{New}
 use Rattle.grid_model.specs.declared.replies.End.TheVariants as end
@@ -13,6 +14,7 @@ use Rattle.cmd_run.specs.Fits.{state_of}
 use Rattle.cmd_run.specs.Obeys.{SaysOnly}
 use Rattle.cmd_run.proofs.LoginLemmas.{says_no_login}
 use Rattle.cmd_run.proofs.WorkingLemmas.{says_too_large, asks_to_put, not_le}
+use Rattle.cmd_run.proofs.Remembering.{no_source}
 use Rattle.cmd_run.proofs.server.Server.put_line.Goals as goal
 
 pub returns-in_default-clause-obeys : goal.returns-in_default-clause-obeys
@@ -39,3 +41,21 @@ pub returns-clause-worn : goal.returns-clause-worn
 returns-clause-worn g c = λ source request asks.
     let s = c.args.self.now in
     c.put.ensures.worn source request (asks_to_put s c.args.session c.in-Some.user (sym c.in-Some.ensures) c.args.line request asks (le-leb c.args.line.count object_size (omega (arith, c.if-line-gt-OBJECT_SIZE.false))))
+
+pub returns-in_default-clause-untouched : goal.returns-in_default-clause-untouched
+returns-in_default-clause-untouched g c place is = absurd ((c.say.ensures.worn no_source (Ok (0, logs_out)) c.args.self.now Vaults place is).3)
+
+pub returns-then-line-gt-OBJECT_SIZE-clause-untouched : goal.returns-then-line-gt-OBJECT_SIZE-clause-untouched
+returns-then-line-gt-OBJECT_SIZE-clause-untouched g c place is =
+    absurd ((c.say-then-line-gt-OBJECT_SIZE.ensures.worn no_source (Ok (0, logs_out)) c.args.self.now Vaults place is).3)
+
+pub returns-in_default-clause-idle : goal.returns-in_default-clause-idle
+returns-in_default-clause-idle g c = λ request asks refused. (c.say.ensures.rows, c.say.ensures.stores)
+
+pub returns-then-line-gt-OBJECT_SIZE-clause-idle : goal.returns-then-line-gt-OBJECT_SIZE-clause-idle
+returns-then-line-gt-OBJECT_SIZE-clause-idle g c = λ request asks refused. (c.say-then-line-gt-OBJECT_SIZE.ensures.rows, c.say-then-line-gt-OBJECT_SIZE.ensures.stores)
+
+pub returns-clause-idle : goal.returns-clause-idle
+returns-clause-idle g c = λ request asks.
+    let s = c.args.self.now in
+    c.put.ensures.idle request (asks_to_put s c.args.session c.in-Some.user (sym c.in-Some.ensures) c.args.line request asks (le-leb c.args.line.count object_size (omega (arith, c.if-line-gt-OBJECT_SIZE.false))))

@@ -1,0 +1,224 @@
+-- What the rows of operations refuse that change rows alone is of the grid.
+use Rattle.std.proofs.Common.{◌≡◌, refl, Bool, true, false, [], ◌∷◌, Option, Some, None, Ok, Err}
+use Rattle.std.specs.Prelude.{⊤, ◌||◌}
+use Rattle.grid_model.specs.Maps.{get, has, put, add, remove}
+use Rattle.grid_model.specs.MapLists.{size}
+use Rattle.grid_model.specs.Names.{Text, Path, is_under, same_text}
+use Rattle.grid_model.specs.Grid.{Grid, everybody, homes, home_of}
+use Rattle.grid_model.specs.Levels.{may, is_admin}
+use Rattle.grid_model.specs.Bounds.{within}
+use Rattle.grid_model.specs.Refusing.{Or, ◌>>=◌, unless, refuse}
+use Rattle.grid_model.specs.Deeds.{Act, changes}
+use Rattle.grid_model.specs.Moves.{moved_grid}
+use Rattle.grid_model.specs.Operations.Common.{collection_above, needs, needs_admin, is_taken, is_fixed, forget}
+use Rattle.grid_model.specs.Operations.Collections.{mv_row, rmdir_row, holds_items}
+use Rattle.grid_model.specs.Operations.Access.{chmod_row, inherit_row, with_entry}
+use Rattle.grid_model.specs.Operations.Users.{mkuser_row, mkgroup_row, addmember_row, rmmember_row, with_user, with_group, can_join, is_in_group}
+use Rattle.grid_model.specs.Operations.Table.{Operation, row}
+use Rattle.grid_model.specs.Working.{words_of}
+use Rattle.grid_model.specs.declared.grid.UserKind.{UserKind}
+use Rattle.grid_model.specs.declared.grid.Level.{Level}
+use Rattle.grid_model.specs.declared.grid.Level.TheVariants.{Write, Own}
+use Rattle.grid_model.specs.declared.refusal.What.TheVariants.{Access, Collections, Members, Users}
+use Rattle.grid_model.specs.declared.refusal.Refusal.TheVariants as refusal
+use Rattle.grid_model.specs.declared.requests.Verb.{Verb}
+use Rattle.grid_model.specs.declared.requests.Verb.TheVariants as verb
+use Rattle.cmd_run.specs.Operating.{operation_by}
+use Rattle.cmd_run.proofs.OfGrid.{OfGrid, then_of, unless_of, refuse_of, within_of, above_of, mkdir_of}
+
+module _ (g : Grid) (user : Text) where
+  admin_of : OfGrid (needs_admin g user)
+  admin_of = unless_of (is_admin (get g.users user)) refusal.NotAdmin tt
+
+  module _ (p : Path) where
+    abbrev removed : Or Act
+    removed = Ok (changes (forget (record g { collections = remove g.collections p }) p))
+
+    abbrev empty : Or Act
+    empty = refuse (holds_items g p) refusal.NotEmpty >>= (λ _. removed)
+
+    abbrev removing : Or Act
+    removing = refuse (is_fixed g p) refusal.Fixed >>= (λ _. empty)
+
+    rmdir_of : OfGrid (rmdir_row g user p)
+    rmdir_of =
+        then_of (unless (has g.collections p) refusal.NoCollection) (λ _. needs g user p Own >>= (λ _. removing)) (unless_of (has g.collections p) refusal.NoCollection tt) (λ _.
+        then_of (needs g user p Own) (λ _. removing) (unless_of (may g user p Own) refusal.NoAccess tt) (λ _.
+        then_of (refuse (is_fixed g p) refusal.Fixed) (λ _. empty) (refuse_of (is_fixed g p) refusal.Fixed tt) (λ _.
+        then_of (refuse (holds_items g p) refusal.NotEmpty) (λ _. removed) (refuse_of (holds_items g p) refusal.NotEmpty tt) (λ _. tt))))
+
+  module _ (name : Text) (kind : UserKind) where
+    abbrev with_it : Grid
+    with_it = with_user g name kind
+
+    abbrev room_access : Or Act
+    room_access = within Access (size with_it.access) >>= (λ _. Ok (changes with_it))
+
+    abbrev room_collections : Or Act
+    room_collections = within Collections (size with_it.collections) >>= (λ _. room_access)
+
+    abbrev room_users : Or Act
+    room_users = within Users (size with_it.users) >>= (λ _. room_collections)
+
+    abbrev homed : Or Act
+    homed = unless (has g.collections (homes g.zone)) refusal.NoCollection >>= (λ _. room_users)
+
+    abbrev untaken : Or Act
+    untaken = refuse (has g.users name || is_taken g (home_of g.zone name)) refusal.Exists >>= (λ _. homed)
+
+    mkuser_of : OfGrid (mkuser_row g user name kind)
+    mkuser_of =
+        then_of (needs_admin g user) (λ _. untaken) admin_of (λ _.
+        then_of (refuse (has g.users name || is_taken g (home_of g.zone name)) refusal.Exists) (λ _. homed)
+        (refuse_of (has g.users name || is_taken g (home_of g.zone name)) refusal.Exists tt) (λ _.
+        then_of (unless (has g.collections (homes g.zone)) refusal.NoCollection) (λ _. room_users) (unless_of (has g.collections (homes g.zone)) refusal.NoCollection tt) (λ _.
+        then_of (within Users (size with_it.users)) (λ _. room_collections) (within_of Users (size with_it.users)) (λ _.
+        then_of (within Collections (size with_it.collections)) (λ _. room_access) (within_of Collections (size with_it.collections)) (λ _.
+        then_of (within Access (size with_it.access)) (λ _. Ok (changes with_it)) (within_of Access (size with_it.access)) (λ _. tt))))))
+
+  module _ (name : Text) where
+    abbrev room_group : Or Act
+    room_group = within Users (size (with_group g name).users) >>= (λ _. Ok (changes (with_group g name)))
+
+    abbrev unnamed : Or Act
+    unnamed = refuse (has g.users name) refusal.Exists >>= (λ _. room_group)
+
+    mkgroup_of : OfGrid (mkgroup_row g user name)
+    mkgroup_of =
+        then_of (needs_admin g user) (λ _. unnamed) admin_of (λ _.
+        then_of (refuse (has g.users name) refusal.Exists) (λ _. room_group) (refuse_of (has g.users name) refusal.Exists tt) (λ _.
+        then_of (within Users (size (with_group g name).users)) (λ _. Ok (changes (with_group g name))) (within_of Users (size (with_group g name).users)) (λ _. tt)))
+
+  module _ (a b : Path) where
+    abbrev free : Path → Or Act
+    free c = refuse (is_taken g b) refusal.Exists >>= (λ _. Ok (changes (moved_grid a b g)))
+
+    abbrev written : Path → Or Act
+    written c = needs g user c Write >>= (λ _. free c)
+
+    abbrev above : Or Act
+    above = collection_above g b >>= written
+
+    abbrev outside : Or Act
+    outside = refuse (is_under a b) refusal.Inside >>= (λ _. above)
+
+    abbrev moving : Or Act
+    moving = refuse (is_fixed g a) refusal.Fixed >>= (λ _. outside)
+
+    abbrev owned : Or Act
+    owned = needs g user a Own >>= (λ _. moving)
+
+    mv_of : OfGrid (mv_row g user a b)
+    mv_of =
+        then_of (unless (is_taken g a) refusal.NoObject) (λ _. owned) (unless_of (is_taken g a) refusal.NoObject tt) (λ _.
+        then_of (needs g user a Own) (λ _. moving) (unless_of (may g user a Own) refusal.NoAccess tt) (λ _.
+        then_of (refuse (is_fixed g a) refusal.Fixed) (λ _. outside) (refuse_of (is_fixed g a) refusal.Fixed tt) (λ _.
+        then_of (refuse (is_under a b) refusal.Inside) (λ _. above) (refuse_of (is_under a b) refusal.Inside tt) (λ _.
+        then_of (collection_above g b) written (above_of g b) (λ c.
+        then_of (needs g user c Write) (λ _. free c) (unless_of (may g user c Write) refusal.NoAccess tt) (λ _.
+        then_of (refuse (is_taken g b) refusal.Exists) (λ _. Ok (changes (moved_grid a b g))) (refuse_of (is_taken g b) refusal.Exists tt) (λ _. tt)))))))
+
+  module _ (level : Level) (name : Text) (p : Path) where
+    abbrev given : Or Act
+    given = Ok (changes (record g { access = with_entry g.access (p, name) level }))
+
+    abbrev room : Or Act
+    room = within Access (size (with_entry g.access (p, name) level)) >>= (λ _. given)
+
+    abbrev known : Or Act
+    known = unless (has g.users name) refusal.NoUser >>= (λ _. room)
+
+    abbrev owner : Or Act
+    owner = needs g user p Own >>= (λ _. known)
+
+    chmod_of : OfGrid (chmod_row g user level name p)
+    chmod_of =
+        then_of (unless (is_taken g p) refusal.NoObject) (λ _. owner) (unless_of (is_taken g p) refusal.NoObject tt) (λ _.
+        then_of (needs g user p Own) (λ _. known) (unless_of (may g user p Own) refusal.NoAccess tt) (λ _.
+        then_of (unless (has g.users name) refusal.NoUser) (λ _. room) (unless_of (has g.users name) refusal.NoUser tt) (λ _.
+        then_of (within Access (size (with_entry g.access (p, name) level))) (λ _. given) (within_of Access (size (with_entry g.access (p, name) level))) (λ _. tt))))
+
+  module _ (p : Path) (on : Bool) where
+    abbrev handing : Or Act
+    handing = Ok (changes (record g { collections = put g.collections p on }))
+
+    inherit_of : OfGrid (inherit_row g user p on)
+    inherit_of =
+        then_of (unless (has g.collections p) refusal.NoCollection) (λ _. needs g user p Own >>= (λ _. handing)) (unless_of (has g.collections p) refusal.NoCollection tt) (λ _.
+        then_of (needs g user p Own) (λ _. handing) (unless_of (may g user p Own) refusal.NoAccess tt) (λ _. tt))
+
+  module _ (group member : Text) where
+    abbrev joined : Or Act
+    joined = Ok (changes (record g { members = add g.members (group, member) }))
+
+    abbrev with_room : Or Act
+    with_room = within Members (size (add g.members (group, member))) >>= (λ _. joined)
+
+    abbrev not_in : Or Act
+    not_in = refuse (is_in_group g group member) refusal.Exists >>= (λ _. with_room)
+
+    abbrev joining : Or Act
+    joining = unless (can_join g group member) refusal.NoUser >>= (λ _. not_in)
+
+    addmember_of : OfGrid (addmember_row g user group member)
+    addmember_of =
+        then_of (needs_admin g user) (λ _. joining) admin_of (λ _.
+        then_of (unless (can_join g group member) refusal.NoUser) (λ _. not_in) (unless_of (can_join g group member) refusal.NoUser tt) (λ _.
+        then_of (refuse (is_in_group g group member) refusal.Exists) (λ _. with_room) (refuse_of (is_in_group g group member) refusal.Exists tt) (λ _.
+        then_of (within Members (size (add g.members (group, member)))) (λ _. joined) (within_of Members (size (add g.members (group, member)))) (λ _. tt))))
+
+    abbrev left : Or Act
+    left = Ok (changes (record g { members = remove g.members (group, member) }))
+
+    abbrev is_member : Or Act
+    is_member = unless (has g.members (group, member)) refusal.NoMember >>= (λ _. left)
+
+    abbrev may_leave : Or Act
+    may_leave = refuse (same_text group everybody) refusal.Fixed >>= (λ _. is_member)
+
+    abbrev leaving : Or Act
+    leaving = unless (can_join g group member) refusal.NoUser >>= (λ _. may_leave)
+
+    rmmember_of : OfGrid (rmmember_row g user group member)
+    rmmember_of =
+        then_of (needs_admin g user) (λ _. leaving) admin_of (λ _.
+        then_of (unless (can_join g group member) refusal.NoUser) (λ _. may_leave) (unless_of (can_join g group member) refusal.NoUser tt) (λ _.
+        then_of (refuse (same_text group everybody) refusal.Fixed) (λ _. is_member) (refuse_of (same_text group everybody) refusal.Fixed tt) (λ _.
+        then_of (unless (has g.members (group, member)) refusal.NoMember) (λ _. left) (unless_of (has g.members (group, member)) refusal.NoMember tt) (λ _. tt))))
+
+  -- ---- by the verb
+
+  -- the row of an operation that changes rows alone
+  abbrev pub RowOfGrid : Option Operation → Type 0
+  RowOfGrid None = Unit {0}
+  RowOfGrid (Some op) = OfGrid (row g user op)
+
+  pub row_of_grid : (v : Verb) → RowOfGrid (operation_by v)
+  row_of_grid (verb.MkUser name kind) = mkuser_of name kind
+  row_of_grid (verb.MkGroup name) = mkgroup_of name
+  row_of_grid (verb.RmDir path) = rmdir_of path
+  row_of_grid (verb.MkDir path) = mkdir_of g user path
+  row_of_grid (verb.Mv from to) = mv_of from to
+  row_of_grid (verb.ChMod level name path) = chmod_of level name path
+  row_of_grid (verb.Inherit path) = inherit_of path true
+  row_of_grid (verb.NoInherit path) = inherit_of path false
+  row_of_grid (verb.AddMember group member) = addmember_of group member
+  row_of_grid (verb.RmMember group member) = rmmember_of group member
+  row_of_grid other = tt
+
+  abbrev pub IsSilent : Option Operation → Type 0
+  IsSilent None = Unit {0}
+  IsSilent (Some op) = words_of g user op ≡ []
+
+  pub silent_by : (v : Verb) → IsSilent (operation_by v)
+  silent_by (verb.MkUser name kind) = refl
+  silent_by (verb.MkGroup name) = refl
+  silent_by (verb.MkDir path) = refl
+  silent_by (verb.RmDir path) = refl
+  silent_by (verb.Mv from to) = refl
+  silent_by (verb.ChMod level name path) = refl
+  silent_by (verb.Inherit path) = refl
+  silent_by (verb.NoInherit path) = refl
+  silent_by (verb.AddMember group member) = refl
+  silent_by (verb.RmMember group member) = refl
+  silent_by other = tt

@@ -1,0 +1,108 @@
+-- What main remembers at each moment: no command is pending, and what was named is named.
+use Rattle.std.proofs.Common.{◌≡◌, ◌⊎◌, inl, inr, ℕ, ◌<◌, ◌≤◌, false, [], None, Some, Ok, Err, IsTrue, sym, ap, subst, arith}
+use Rattle.std.specs.Prelude.{Result, ⊤, Option}
+use Rattle.std.proofs.lemmas.Bool.{cases_lt}
+use Rattle.grid_outside.specs.Device.{IsSettled, Leaves}
+use Rattle.grid_outside.specs.Disk.{DiskState}
+use Rattle.grid_outside.specs.Files.{StoreState}
+use Rattle.grid_outside.specs.Source.{SourceState}
+use Rattle.grid_outside.specs.declared.outside.Wear.TheVariants.{Log, Vaults}
+use Rattle.grid_model.specs.Names.{Text}
+use Rattle.grid_model.specs.Orders.{logs_out}
+use Rattle.grid_model.specs.Rows.{Cat}
+use Rattle.grid_model.specs.Whole.{Naming, Names, by_replica, by_orphan}
+use Rattle.grid_model.specs.Runs.{Request}
+use Rattle.grid_journal.specs.Journal.{Journal}
+use Rattle.grid_journal.specs.Stands.{StandsFor, StandsEither}
+use Rattle.grid_deed.specs.Deeds.{StandsOne}
+use Rattle.grid_deed.specs.Frame.{Goes}
+use Rattle.grid_deed.specs.Held.{IsHeld}
+use Rattle.grid_deed.proofs.Keeping.{held_stands}
+use Rattle.grid_deed.proofs.Wholes.{one_cat}
+use Rattle.grid_headline.specs.Files.{NamesCall, KeepsNamed}
+use Rattle.grid_headline.specs.Worlds.{World}
+use Rattle.cmd_run.specs.declared.server.Server.{Server}
+use Rattle.cmd_run.specs.declared.server.Ending.{Ending}
+use Rattle.cmd_run.specs.declared.server.Ending.TheVariants.{Worn}
+use Rattle.cmd_run.specs.Keeps.{IsKeptSo, named}
+use Rattle.cmd_run.specs.Obeys.{Remembers, IsWorn, AsksForFile}
+use Rattle.cmd_run.specs.Writes.{Kept, Writing, WriteEnds, EndsIn, FailedAt, IsWritten}
+use Rattle.cmd_run.proofs.ChangeLemmas.{names_named}
+use Rattle.cmd_run.proofs.Resting.{stands_still}
+
+-- the text stands for a catalogue without a pending command, in which what was named is named
+named_by : (main : Text) (before c d : Cat) → c.pending ≡ None → KeepsNamed before c → StandsFor main c → StandsFor main d → NamesCall d.pending × KeepsNamed before d
+named_by main before c d none keeps stood other =
+    let P : Cat → Type 0 = λ x. NamesCall x.pending × KeepsNamed before x in
+    subst P (sym (one_cat main c d stood other)) (subst NamesCall (sym none) tt, keeps)
+
+keeps_self : (c : Cat) → KeepsNamed c c
+keeps_self c slot name is = is
+
+-- the number of the last command names no file
+to_named : (n : ℕ) (c : Cat) (slot name : ℕ) (row : Naming) → Names c slot name row → Names (named n c) slot name row
+to_named n c slot name (by_replica r) its = its
+to_named n c slot name (by_orphan o) its = its
+
+pub keeps_numbered : (n : ℕ) (before c : Cat) → KeepsNamed before c → KeepsNamed before (named n c)
+keeps_numbered n before c keeps slot name is =
+    let one = keeps slot name is in
+    record { row = one.row; names = to_named n c slot name one.row one.names; only = λ other its. one.only other (names_named n c slot name other its) }
+
+-- main was not called
+pub still_remembers : {D : Type 0} (disk : D → DiskState) (a b : D) (s : Journal) (from : ℕ) → b ≡ a → (disk a).last ≤ from → IsHeld s.cat (disk a) s → s.cat.pending ≡ None
+    → Remembers s.cat from (disk a) (disk b)
+still_remembers disk a b s from same last held none told settled t main d late left stands =
+    named_by main s.cat s.cat d none (keeps_self s.cat) (stands_still disk a b s.cat from t main same last late settled (held_stands s.cat (disk a) s held told) left) stands
+
+-- changes were kept, or not
+pub kept_remembers : (kept after : Cat) (from : ℕ) (old new : DiskState) (r : Result ⊤ Ending) (server : Server) → kept.pending ≡ None → after.pending ≡ None → KeepsNamed kept after
+    → IsKeptSo kept after from old new r server → Remembers kept from old new
+kept_remembers kept after from old new r server none then_none keeps so told settled t main d late left stands =
+    elim (so.leaves told settled t main late left) [
+      | inl was ↦ named_by main kept kept d none (keeps_self kept) was stands
+      | inr now ↦ named_by main kept after d then_none keeps now stands
+    ]
+
+-- and main was not called before
+pub later_remembers : {D : Type 0} (disk : D → DiskState) (a b : D) (new : DiskState) (s : Journal) (from to : ℕ) → b ≡ a → from ≤ to → (disk a).last ≤ from → IsHeld s.cat (disk a) s → s.cat.pending ≡ None
+    → Goes to (disk b) new → Remembers s.cat to (disk b) new → Remembers s.cat from (disk a) new
+later_remembers disk a b new s from to same le last held none goes then told settled t main d late left stands = elim (cases_lt to t) [
+  | inl now ↦ then (subst (λ m. IsTrue (disk m).tells) (sym same) told) (subst (λ m. IsSettled (disk m)) (sym same) settled) t main d now left stands
+  | inr before ↦ still_remembers disk a b s from same last held none told settled t main d late (goes.earlier t main before left) stands
+]
+
+-- a plan that writes files was carried out, or how far that came
+module _ {B : Type 0} (plugin : B → StoreState) (w : Writing) (old new : Kept B) (result : Result (Option ℕ) Ending) (server : Server)
+    (none : w.before.pending ≡ None) (mid_none : w.mid.pending ≡ None) (begins : KeepsNamed w.before w.mid) where
+  ends_in : (after : Cat) (answer : Option ℕ) → after.pending ≡ None → KeepsNamed w.before after → EndsIn plugin w old new result server after answer
+      → Remembers w.before w.from old.main new.main
+  ends_in after answer then_none keeps so told settled t main d late left stands = by (so.leaves told settled t main late left)
+    where
+      by : StandsOne w.before w.mid after main → NamesCall d.pending × KeepsNamed w.before d
+      by (inl (inl was)) = named_by main w.before w.before d none (keeps_self w.before) was stands
+      by (inl (inr mid)) = named_by main w.before w.mid d mid_none begins mid stands
+      by (inr now) = named_by main w.before after d then_none keeps now stands
+
+  pub written_remembers : w.end.pending ≡ None → KeepsNamed w.mid w.end → IsWritten plugin w old new result server → Remembers w.before w.from old.main new.main
+  written_remembers end_none ends (inl so) = ends_in w.end None end_none (λ slot name is. ends slot name (begins slot name is)) so
+  written_remembers end_none ends (inr failed) = ends_in (named w.number w.mid) (Some failed.slot) mid_none (keeps_numbered w.number w.before w.mid begins) failed.ends
+
+-- numbers of vault files do not run out in it
+pub written_logs : {B : Type 0} (plugin : B → StoreState) (w : Writing) (old new : Kept B) (e : Ending) (server : Server) → IsWritten plugin w old new (Err e) server → (place : ℕ) → (let r : Result ⊤ Ending = Err e in r ≡ Err (Worn Vaults place)) → ⊥
+written_logs plugin w old new e server so place is = by so
+  where
+    vaults_end : (after : Cat) (answer : Option ℕ) → WriteEnds after answer old.main new.main (Err e) server → ⊥
+    vaults_end after answer ends =
+        let same : e ≡ Worn Vaults place = cc in
+        let E : Ending → Type 0 = λ x. WriteEnds after answer old.main new.main (Err x) server in
+        let at : Vaults ≡ Log = (subst E same ends).0 in
+        absurd cc
+
+    by : IsWritten plugin w old new (Err e) server → ⊥
+    by (inl done) = vaults_end w.end None done.ends
+    by (inr failed) = vaults_end (named w.number w.mid) (Some failed.slot) failed.ends.ends
+
+-- a source of which nothing is known
+abbrev pub no_source : SourceState
+no_source = record { faults = 0; tells = false; left = [] }
