@@ -1,12 +1,11 @@
 -- What the beginning of a run leaves.
-use Rattle.std.proofs.Common.{length, ◌-◌, ◌≤◌, inl, inr, sym, ◌≡◌, ◌≢◌, ℕ, ◌+◌, ◌^◌, ◌<◌, List, [], ◌∷◌, Ok, Err, IsTrue, refl, ap, ◌∙◌, subst, false, arith}
+use Rattle.std.proofs.Common.{length, ◌-◌, ◌≤◌, inl, inr, sym, ◌≡◌, ◌≢◌, ℕ, ◌+◌, ◌^◌, ◌<◌, List, [], ◌∷◌, Ok, Err, None, Some, IsTrue, refl, ap, ◌∙◌, subst, false, arith}
 use Rattle.std.specs.Prelude.{nat_lt, nat_le}
 use Rattle.std.proofs.lemmas.Bool.{and_from, lt-ltb, le-leb}
 use Rattle.grid_outside.specs.Device.{IsSettled}
 use Rattle.grid_outside.specs.Disk.{DiskState}
 use Rattle.grid_outside.specs.declared.outside.Wear.{Wear}
 use Rattle.grid_model.specs.Rows.{Cat}
-use Rattle.grid_model.specs.RowGrids.{grid_of}
 use Rattle.grid_model.specs.Applying.{IsMade, apply, apply_all, where_fits}
 use Rattle.grid_model.specs.declared.deltas.Numbers.{Numbers}
 use Rattle.grid_model.specs.declared.deltas.Delta.{Delta}
@@ -16,19 +15,18 @@ use Rattle.grid_journal.specs.Store.{Commits}
 use Rattle.grid_journal.specs.declared.error.JournalError.{JournalError}
 use Rattle.grid_journal.specs.declared.error.JournalError.TheVariants as journal
 use Rattle.grid_journal.proofs.DeltaLemmas.{then_all}
-use Rattle.tables_laws.proofs.Grids.{grid-unseen}
-use Rattle.grid_server.specs.Held.{ClosesAt}
 use Rattle.std.proofs.lemmas.Bool.{cases_lt}
 use Rattle.grid_model.specs.Names.{Text}
 use Rattle.frame_log.specs.Log.{frames, log_of}
 use Rattle.frame_log.proofs.Reading.{reads_as_log}
-use Rattle.grid_server.specs.Keeping.{Rests}
-use Rattle.grid_server.specs.Opening.{begun, BeginEnds, HasRoom}
+use Rattle.grid_server.specs.Opening.{BeginEnds, HasRoom}
 use Rattle.grid_server.specs.Stopping.{IsOfCommit, begin_error_of}
-use Rattle.grid_server.specs.Wearing.{KeepsNumbers}
-use Rattle.grid_server.proofs.WearingLemmas.{keeps_rows}
 use Rattle.grid_server.proofs.OpenedLemmas.{vault_made}
-use Rattle.grid_server.proofs.KeepingLemmas.{closes_at, made_more}
+use Rattle.grid_deed.specs.Held.{ClosesAt}
+use Rattle.grid_deed.proofs.Keeping.{closes_at, made_more}
+use Rattle.sess.specs.Places.{Places, at, user_of}
+use Rattle.run_laws.specs.Sofar.{begun}
+use Rattle.run_laws.specs.Went.{Rests}
 
 abbrev next_run : Cat → Numbers
 next_run c = record { next_vault = c.numbers.next_vault; run = c.numbers.run + 1; last = 0 }
@@ -38,11 +36,9 @@ applied_run c m =
     ap (λ b. where_fits b 19 (begun c))
     (and_from (nat_lt 0 c.numbers.next_vault) (nat_le c.numbers.next_vault c.numbers.next_vault) (lt-ltb 0 c.numbers.next_vault (vault_made m.0 c m.1)) (le-leb c.numbers.next_vault c.numbers.next_vault (omega arith)))
 
-pub grid_begun : (c : Cat) → IsMade c → grid_of (begun c) ≡ grid_of c
-grid_begun c m = grid-unseen c (begun c) (delta.Numbers (next_run c)) refl (applied_run c m)
-
-pub keeps_run : (c : Cat) → KeepsNumbers c (begun c)
-keeps_run c = keeps_rows c c.collections (next_run c) (omega arith)
+-- nobody is there
+none_there : (places : Places) (n id : ℕ) → at places n ≡ None → user_of (at places n) ≡ Some id → ⊥
+none_there places n id none is = let e : user_of None ≡ Some id = ap user_of (sym none) ∙ is in cc
 
 -- the deltas lead to the catalogue of the next run
 pub is_begun : (c : Cat) → IsMade c → (tables : Cat) → tables ≡ c → (n : Numbers) → n ≡ tables.numbers → (deltas : List Delta)
@@ -51,22 +47,28 @@ is_begun c m tables tables_are n n_is deltas deltas_are =
     let same : n ≡ c.numbers = n_is ∙ ap (λ (c : Cat). c.numbers) tables_are in
     ap (apply_all c) (deltas_are ∙ ap (λ (k : Numbers). delta.Numbers (record { next_vault = k.next_vault; run = k.run + 1; last = 0 }) ∷ []) same) ∙ ap (then_all []) (applied_run c m)
 
-pub begun_well : (old new : Journal) (deltas : List Delta) (main_old main_new : DiskState) → IsMade old.cat → apply_all old.cat deltas ≡ Ok (begun old.cat) → Commits deltas old new
+pub begun_well : (old new : Journal) (deltas : List Delta) (main_old main_new : DiskState) (sessions : Places) → IsMade old.cat → old.cat.pending ≡ None → old.cat.rules ≡ [] → ((n : ℕ) → at sessions n ≡ None)
+    → apply_all old.cat deltas ≡ Ok (begun old.cat) → Commits deltas old new
     → (IsTrue main_old.tells → Keeps new.cat new main_new.holds) → main_new.tells ≡ main_old.tells → (IsTrue main_old.tells → IsSettled main_new) → HasRoom old.cat main_old
-    → BeginEnds old.cat main_old main_new (Ok (record { store = new; logged_in = false }))
-begun_well old new deltas main_old main_new m is commits keeps tells settled room =
+    → BeginEnds old.cat main_old main_new (Ok (record { store = new; sessions = sessions }))
+begun_well old new deltas main_old main_new sessions m pending rules nobody is commits keeps tells settled room =
     let both : apply_all old.cat deltas ≡ Ok (begun old.cat) = is in
     let ours : apply_all old.cat deltas ≡ Ok new.cat = commits.applied in
     let same : new.cat ≡ begun old.cat = cc in (
       record {
-        sound = commits.sound;
+        held = record {
+          sound = commits.sound;
+          staged = ap (apply_all new.cat) commits.staged;
+          keeps = λ told. keeps (subst IsTrue tells told);
+          made = made_more old.cat new.cat deltas m commits.applied;
+        };
         staged = commits.staged;
-        keeps = λ told. keeps (subst IsTrue tells told);
-        made = made_more old.cat new.cat deltas m commits.applied;
+        pending = ap (λ (c : Cat). c.pending) same ∙ pending;
+        rules = ap (λ (c : Cat). c.rules) same ∙ rules;
+        users = λ n id is. absurd (none_there sessions n id (nobody n) is);
       },
       same,
-      refl,
-      grid_begun old.cat m,
+      nobody,
       settled,
       room,
     )

@@ -3,9 +3,9 @@ use Rattle.std.proofs.Common.{◌≡◌, ◌≢◌, Bool, true, false, not, [], 
 use Rattle.std.specs.Prelude.{codes}
 use Rattle.grid_model.specs.Names.{Text}
 use Rattle.grid_model.specs.Grid.{everybody}
-use Rattle.grid_server.specs.Tasks.{AsksFor, to_serve, to_init, init, serve, IsWord}
+use Rattle.grid_server.specs.Tasks.{AsksForTask, to_serve, to_init, init, serve, IsWord}
 
-pub serve_asked : (word : Text) → AsksFor (word ∷ []) serve → word ≡ codes "serve"
+pub serve_asked : (word : Text) → AsksForTask (word ∷ []) serve → word ≡ codes "serve"
 serve_asked word (to_serve e) = cc
 
 -- the words ask to begin a grid
@@ -15,7 +15,7 @@ pub record Inits (word zone admin : Text) : Type 0 where
   pub admin_is : IsWord admin
   pub not_everybody : admin ≢ everybody
 
-pub init_asked : (word zone admin : Text) → AsksFor (word ∷ zone ∷ admin ∷ []) (init zone admin) → Inits word zone admin
+pub init_asked : (word zone admin : Text) → AsksForTask (word ∷ zone ∷ admin ∷ []) (init zone admin) → Inits word zone admin
 init_asked word zone admin (to_init e z a other) = record { word_is = cc; zone_is = z; admin_is = a; not_everybody = other }
 
 pub not_true : (b : Bool) → (b ≡ true → ⊥) → not b ≡ true

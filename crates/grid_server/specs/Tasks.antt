@@ -18,10 +18,11 @@ pub record IsWord (word : Text) : Type 0 where
   pub no_dash : (rest : Text) → word ≢ 0x2D ∷ rest
 
 -- the words ask for this
-pub data AsksFor : List Text → Task → Type 0 where
-  to_serve : {words : List Text} → words ≡ codes "serve" ∷ [] → AsksFor words serve
-  to_init : {words : List Text} {zone admin : Text} → words ≡ codes "init" ∷ zone ∷ admin ∷ [] → IsWord zone → IsWord admin → admin ≢ everybody → AsksFor words (init zone admin)
+pub data AsksForTask : List Text → Task → Type 0 where
+  to_serve : {words : List Text} → words ≡ codes "serve" ∷ [] → AsksForTask words serve
+  to_init : {words : List Text} {zone admin : Text} → words ≡ codes "init" ∷ zone ∷ admin ∷ [] → IsWord zone → IsWord admin → admin ≢ everybody
+      → AsksForTask words (init zone admin)
 
 -- the words ask for nothing that is built
 abbrev pub AsksNothing : List Text → Type 0
-AsksNothing words = (task : Task) → ¬ AsksFor words task
+AsksNothing words = (task : Task) → ¬ AsksForTask words task

@@ -1,15 +1,16 @@
-ghost use Rattle.std.specs.Prelude.{◌≡◌, ◌+◌, ◌^◌, ◌<◌, ◌≤◌, ◌∷◌, [], IsTrue, IfOk, IsErrOf};
+ghost use Rattle.std.specs.Prelude.{◌≡◌, ◌+◌, ◌^◌, ◌<◌, ◌≤◌, ◌∷◌, [], None, IsTrue, IfOk, IsErrOf};
 ghost use Rattle.grid_outside.specs.Fault.{Rose};
 ghost use Rattle.grid_model.specs.Applying.{IsMade};
 ghost use Rattle.grid_journal.specs.Journal.{Keeps};
 ghost use Rattle.grid_server.specs.Opening.{Begun};
 ghost use Rattle.grid_server.specs.Stopping.{IsOfCommit, begin_error_of};
-ghost use Rattle.grid_server.specs.Wearing.{AddsInRoom};
+ghost use Rattle.grid_deed.specs.Frame.{AddsInRoom};
 
-use crate::server::Server;
+use cmd_run::Server;
 use grid_journal::{JournalError, Store};
 use grid_model::{Delta, Deltas, Numbers};
 use grid_outside::{Disk, Moments};
+use sess::Sessions;
 use std::alloc::{AllocError, Global};
 
 /// Why no run is begun.
@@ -23,8 +24,8 @@ pub(crate) enum BeginError {
     Memory,
 }
 
-/// Begins a run over a catalogue: its number is one more than that of the last one, and no command of it has changed
-/// anything. `Disk` comes only where the disk failed, and `Runs` exactly where the last run has the greatest number.
+/// Begins a run over a catalogue: its number is one more than that of the last one, no command of it has changed anything,
+/// and nobody is logged in. `Disk` comes only where the disk failed, and `Runs` exactly where the last run has the greatest number.
 pub(crate) fn begin_run<D: Disk>(
     alloc: Global,
     store: Store,
@@ -36,6 +37,8 @@ pub(crate) fn begin_run<D: Disk>(
     requires staged { store.staged ≡ [] }
     requires keeps { IsTrue (D.disk main.old).tells → Keeps store.cat store (D.disk main.old).holds }
     requires made { IsMade store.cat }
+    requires pending { store.cat.pending ≡ None }
+    requires rules { store.cat.rules ≡ [] }
     requires main_last { (D.disk main.old).last ≤ moments.old }
     requires room { moments.old + 4 < 2 ^ 128 }
     ensures begins { Begun store.cat moments.old (D.disk main.old) (D.disk main.new) result }
@@ -56,14 +59,14 @@ pub(crate) fn begin_run<D: Disk>(
         run: last.run + 1,
         last: 0,
     };
+    let Ok(sessions) = Sessions::new(alloc) else {
+        return Err(BeginError::Memory);
+    };
     let Ok(deltas) = one(alloc, Delta::Numbers(numbers)) else {
         return Err(BeginError::Memory);
     };
     match store.commit(alloc, main, spare, moments, deltas) {
-        Ok(()) => Ok(Server {
-            store,
-            logged_in: false,
-        }),
+        Ok(()) => Ok(Server { store, sessions }),
         Err(error) => Err(begin_error_of(error)),
     }
 }

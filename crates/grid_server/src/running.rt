@@ -1,24 +1,32 @@
-ghost use Rattle.std.specs.Prelude.{Bool, ◌≡◌, ◌≢◌, ◌⊎◌, ◌+◌, ◌^◌, ◌<◌, ◌≤◌, ℕ, List, [], length, IsTrue, IfOk, Ok, Err, vec_len};
-ghost use Rattle.grid_outside.specs.Device.{Looks, IsSettled, EachMember};
-ghost use Rattle.grid_vault.specs.Vault.{RoseAt};
+ghost use Rattle.std.specs.Prelude.{◌≡◌, ◌≢◌, ◌↔◌, ◌⊎◌, ◌+◌, ◌^◌, ◌<◌, ◌≤◌, ℕ, List, [], None, Some, length, IsTrue, IfOk, Ok, Err, vec_len};
+ghost use Rattle.grid_outside.specs.Device.{Looks, EachMember};
 ghost use Rattle.grid_outside.specs.Fault.{Rose};
 ghost use Rattle.grid_model.specs.Names.{is_name};
 ghost use Rattle.grid_model.specs.Grid.{everybody};
+ghost use Rattle.grid_model.specs.Inputs.{Asked as AskedOf};
 ghost use Rattle.grid_model.specs.Rows.{Cat};
 ghost use Rattle.grid_model.specs.Applying.{IsMade};
 ghost use Rattle.grid_journal.specs.Journal.{Keeps};
 ghost use Rattle.grid_journal.specs.Start.{start};
 ghost use Rattle.grid_journal.specs.Stands.{Stands};
-ghost use Rattle.grid_server.specs.Keeping.{Stays, Rests};
-ghost use Rattle.grid_server.specs.Opening.{HasRoom};
-ghost use Rattle.grid_server.specs.Safe.{AreWhole, HaveNoFiles, KeepWhole};
-ghost use Rattle.grid_server.specs.Stores.{StoresGo};
+ghost use Rattle.grid_deed.specs.Frame.{AddsInRoom, StoresGo};
+ghost use Rattle.grid_deed.specs.Safe.{AreWhole};
+ghost use Rattle.grid_headline.specs.Ends.{HasRunOut, ReadsMost, RunEnd};
+ghost use Rattle.grid_headline.specs.Headline.{Serves};
+ghost use Rattle.grid_headline.specs.Seen.{seen};
+ghost use Rattle.run_laws.specs.Sofar.{BeginsPlainly};
+ghost use Rattle.run_laws.specs.Went.{AreInOrder, Rests};
+ghost use Rattle.cmd_run.specs.Passes.{AreReady, CallsPass};
+ghost use Rattle.grid_server.specs.Files.{HaveNoFiles};
+ghost use Rattle.grid_server.specs.Opening.{HasRoom, IsPlain};
+ghost use Rattle.grid_server.specs.RunEnds.{run_end_of};
 ghost use Rattle.grid_server.specs.Starting.{usage_line as usage_text, not_empty_line as not_empty_text, not_a_catalogue_line as not_a_catalogue_text, stores_line as stores_text, side_name as side_text};
-ghost use Rattle.grid_server.specs.Running.{Says, Refuses, RefusesStores, Inits, IsComplete, EndsServing, IsNotBegun};
-ghost use Rattle.grid_server.specs.Serving.{Serves, IsServing};
-ghost use Rattle.grid_server.specs.Wearing.{AddsInRoom};
+ghost use Rattle.grid_server.specs.Running.{SaysLine, HoldsStill, RefusesDisks, RefusesStores, Inits, IsComplete, EndsServing, IsNotBegun, IsHeldBack};
+ghost use Rattle.grid_server.specs.Serving.{SinkWent, TookFew, before};
+ghost use Rattle.run_laws.specs.declared.around.Around.{Around};
+ghost use Rattle.grid_server.specs.Views.{Views, world_of};
 ghost use Rattle.grid_server.specs.Tasks as task;
-ghost use Rattle.grid_server.specs.Tasks.{AsksFor, AsksNothing};
+ghost use Rattle.grid_server.specs.Tasks.{AsksForTask, AsksNothing};
 
 use crate::Status;
 use crate::opening::{BeginError, begin_run};
@@ -27,12 +35,13 @@ use crate::words::{Asked, read_words};
 use grid_journal::{JournalError, Store};
 use grid_model::{Side, Text};
 use grid_outside::{Ambient, Disk, Moments, Outside, Plugin, Sink, Source, Wear};
+use grid_tables::Tables;
 use std::alloc::{AllocError, Global};
 
 /// Does what the words of the program ask for.
 ///
 /// `init <zone> <admin>` begins a grid on two empty disks, and `serve` answers the requests of the source over the
-/// catalogue on the main disk. Any other words are `Usage`.
+/// catalogue on the main disk. Any other words are `Usage`. At most 2^48 + 1 bytes of the source are taken.
 pub fn run<D: Disk, S: Source, K: Sink, A: Ambient, P: Plugin>(
     alloc: Global,
     words: &[Text],
@@ -41,60 +50,81 @@ pub fn run<D: Disk, S: Source, K: Sink, A: Ambient, P: Plugin>(
     sink: &mut K,
 ) -> Status
     requires main_last { (D.disk outside.old.main).last ≤ outside.old.moments }
+    requires spare_last { (D.disk outside.old.spare).last ≤ outside.old.moments }
     requires sink_last { (K.sink sink.old).last ≤ outside.old.moments }
     requires stores_last { EachMember (λ k store. (P.plugin store).last ≤ outside.old.moments) outside.old.stores.items }
-    requires room { outside.old.moments + 2 ^ 101 < 2 ^ 128 }
+    requires room { outside.old.moments + 2 ^ 122 < 2 ^ 128 }
     requires stores { (0 < vec_len outside.old.stores) × (vec_len outside.old.stores ≤ 16) }
 
     // Words that ask for nothing: the line of usage, and no device but the sink is touched.
-    ensures usage { AsksNothing words.now → Says usage_text Status.Usage (K.sink sink.old) (K.sink sink.new) result }
+    ensures usage { AsksNothing words.now → SaysLine usage_text Status.Usage (K.sink sink.old) (K.sink sink.new) result }
     ensures usage_only { result ≡ Status.Usage → AsksNothing words.now }
     ensures usage_main { AsksNothing words.now → outside.new.main ≡ outside.old.main }
     ensures usage_source { AsksNothing words.now → source.new ≡ source.old }
-    ensures usage_others { AsksNothing words.now → (outside.new.spare ≡ outside.old.spare) × (outside.new.stores ≡ outside.old.stores) × (outside.new.ambient ≡ outside.old.ambient) }
+    ensures usage_others { AsksNothing words.now → (outside.new.spare ≡ outside.old.spare) × (outside.new.stores ≡ outside.old.stores)
+        × (outside.new.ambient ≡ outside.old.ambient) }
 
     // To begin a grid.
-    ensures init { (zone admin : List ℕ) → AsksFor words.now (task.init zone admin) →
-        Inits zone admin (vec_len outside.old.stores) (D.disk outside.old.main) (D.disk outside.new.main) (D.disk outside.old.spare) (K.sink sink.old) (K.sink sink.new) result }
-    ensures init_stores { (zone admin : List ℕ) → AsksFor words.now (task.init zone admin) → outside.new.stores ≡ outside.old.stores }
-    ensures init_source { (zone admin : List ℕ) → AsksFor words.now (task.init zone admin) → source.new ≡ source.old }
+    ensures init { (zone admin : List ℕ) → AsksForTask words.now (task.init zone admin) →
+        Inits zone admin (vec_len outside.old.stores) (D.disk outside.old.main) (D.disk outside.new.main) (D.disk outside.old.spare) (K.sink sink.old)
+        (K.sink sink.new) result }
+    ensures init_stores { (zone admin : List ℕ) → AsksForTask words.now (task.init zone admin) → outside.new.stores ≡ outside.old.stores }
+    ensures init_source { (zone admin : List ℕ) → AsksForTask words.now (task.init zone admin) → source.new ≡ source.old }
 
     // Where the stores have no files the catalogue of a new grid says so.
-    ensures init_whole { (zone admin : List ℕ) (t : ℕ) → AsksFor words.now (task.init zone admin) → HaveNoFiles P.plugin t outside.old.stores.items →
+    ensures init_whole { (zone admin : List ℕ) (t : ℕ) → AsksForTask words.now (task.init zone admin) → HaveNoFiles P.plugin t outside.old.stores.items →
         AreWhole P.plugin t (start zone admin (vec_len outside.old.stores)) outside.new.stores.items }
 
     // To answer requests: how that may end, whatever the devices tell.
-    ensures serving { AsksFor words.now task.serve → EndsServing result }
+    ensures serving { AsksForTask words.now task.serve → EndsServing result }
 
-    // What was answered and shown, and what a stop at any moment leaves of main and the sink.
-    ensures serve { (found : Cat) → AsksFor words.now task.serve → IsTrue (D.disk outside.old.main).tells → IsTrue (S.source source.old).tells →
-        Stands (D.disk outside.old.main).holds (D.disk outside.old.spare).holds (Ok found) → found.stores ≡ vec_len outside.old.stores →
-        Serves P.plugin outside.old.stores.items outside.new.stores.items (A.ambient outside.old.ambient) (A.ambient outside.new.ambient) found outside.old.moments (D.disk outside.old.main) (D.disk outside.new.main) (S.source source.old) (S.source source.new) (K.sink sink.old) (K.sink sink.new) result }
+    // What was answered and shown, and what a stop at any moment leaves.
+    ensures serve { AsksForTask words.now task.serve → (found : Cat) (end : RunEnd) →
+        let old = seen D.disk A.ambient S.source K.sink P.plugin outside.old source.old sink.old in BeginsPlainly old found → run_end_of result ≡ Some end →
+        Serves old (seen D.disk A.ambient S.source K.sink P.plugin outside.new source.new sink.new) found end }
 
-    // Where every file of the stores that tell was named, and each good replica had its file, a stop at any moment leaves
-    // them so.
-    ensures whole { (found : Cat) → AsksFor words.now task.serve → Stands (D.disk outside.old.main).holds (D.disk outside.old.spare).holds (Ok found) →
-        KeepWhole P.plugin outside.old.moments found (D.disk outside.old.main) (D.disk outside.new.main) outside.old.stores.items outside.new.stores.items }
+    // The catalogue has rules, or a command that is not done.
+    ensures not_plain { (found : Cat) → AsksForTask words.now task.serve → IsTrue (D.disk outside.old.main).tells →
+        Stands (D.disk outside.old.main).holds (D.disk outside.old.spare).holds (Ok found) → found.stores ≡ vec_len outside.old.stores → ¬ IsPlain found →
+        IsHeldBack result × Rests (D.disk outside.old.main) (D.disk outside.new.main) × (source.new ≡ source.old) × (sink.new ≡ sink.old)
+        × (outside.new.stores ≡ outside.old.stores) }
+    ensures not_plain_only { (found : Cat) → result ≡ Status.NotPlain → IsTrue (D.disk outside.old.main).tells →
+        Stands (D.disk outside.old.main).holds (D.disk outside.old.spare).holds (Ok found) → ¬ IsPlain found }
+
+    // How much of the source was taken.
+    ensures took { IsTrue (S.source source.old).tells → TookFew (S.source source.old) (S.source source.new) }
+    ensures long_only { (taken : ℕ) → result ≡ Status.Long taken → (taken ≡ 2 ^ 48 + 1) ×
+        (IsTrue (S.source source.old).tells → (asked : List AskedOf) × ReadsMost asked (S.source source.old) (S.source source.new)) }
 
     // The numbers of runs, or the room of the log, had run out before: nothing is touched.
-    ensures worn { (found : Cat) → AsksFor words.now task.serve → IsTrue (D.disk outside.old.main).tells → Stands (D.disk outside.old.main).holds (D.disk outside.old.spare).holds (Ok found) →
+    ensures worn { (found : Cat) → AsksForTask words.now task.serve → IsTrue (D.disk outside.old.main).tells
+        → Stands (D.disk outside.old.main).holds (D.disk outside.old.spare).holds (Ok found) →
         found.stores ≡ vec_len outside.old.stores → ¬ HasRoom found (D.disk outside.old.main) →
-        IsNotBegun result × Rests (D.disk outside.old.main) (D.disk outside.new.main) × (source.new ≡ source.old) × (sink.new ≡ sink.old) × (outside.new.stores ≡ outside.old.stores) }
+        IsNotBegun result × Rests (D.disk outside.old.main) (D.disk outside.new.main) × (source.new ≡ source.old) × (sink.new ≡ sink.old)
+        × (outside.new.stores ≡ outside.old.stores) }
+
+    ensures worn_only { (found : Cat) (what : Wear) (place : ℕ) → result ≡ Status.Worn what place → IsTrue (D.disk outside.old.main).tells →
+        Stands (D.disk outside.old.main).holds (D.disk outside.old.spare).holds (Ok found) →
+        HasRunOut found (D.disk outside.new.main).holds (D.disk outside.new.spare).holds place what }
 
     // A record is added to the log only where it has room.
-    ensures in_room { AsksFor words.now task.serve → ¬ (result ≡ Status.DiskFault) → AddsInRoom (D.disk outside.old.main) (D.disk outside.new.main) }
+    ensures in_room { AsksForTask words.now task.serve → ¬ (result ≡ Status.DiskFault) → AddsInRoom (D.disk outside.old.main) (D.disk outside.new.main) }
 
     // The catalogue is of another number of stores.
-    ensures stores { (found : Cat) → AsksFor words.now task.serve → IsTrue (D.disk outside.old.main).tells →
+    ensures stores { (found : Cat) → AsksForTask words.now task.serve → IsTrue (D.disk outside.old.main).tells →
         Stands (D.disk outside.old.main).holds (D.disk outside.old.spare).holds (Ok found) → found.stores ≢ vec_len outside.old.stores →
-        RefusesStores found.stores (vec_len outside.old.stores) (K.sink sink.old) (K.sink sink.new) result × Rests (D.disk outside.old.main) (D.disk outside.new.main) × (source.new ≡ source.old) × (outside.new.stores ≡ outside.old.stores) }
+        RefusesStores found.stores (vec_len outside.old.stores) (K.sink sink.old) (K.sink sink.new) result
+        × Rests (D.disk outside.old.main) (D.disk outside.new.main) × (source.new ≡ source.old) × (outside.new.stores ≡ outside.old.stores) }
     ensures stores_only { (had given : ℕ) → result ≡ Status.Stores had given → (had ≢ given) × (given ≡ vec_len outside.old.stores) ×
-        ((found : Cat) → IsTrue (D.disk outside.old.main).tells → Stands (D.disk outside.old.main).holds (D.disk outside.old.spare).holds (Ok found) → had ≡ found.stores) }
+        ((found : Cat) → IsTrue (D.disk outside.old.main).tells → Stands (D.disk outside.old.main).holds (D.disk outside.old.spare).holds (Ok found)
+        → had ≡ found.stores) }
 
     // The disks hold none.
-    ensures refuses { (side : Side) (place : ℕ) → AsksFor words.now task.serve → IsTrue (D.disk outside.old.main).tells →
+    ensures refuses { (side : Side) (place : ℕ) → AsksForTask words.now task.serve → IsTrue (D.disk outside.old.main).tells →
         Stands (D.disk outside.old.main).holds (D.disk outside.old.spare).holds (Err (side, place)) →
-        Refuses side place (K.sink sink.old) (K.sink sink.new) result × Rests (D.disk outside.old.main) (D.disk outside.new.main) × (source.new ≡ source.old) × (outside.new.stores ≡ outside.old.stores) }
+        RefusesDisks side place (K.sink sink.old) (K.sink sink.new) result × Rests (D.disk outside.old.main) (D.disk outside.new.main)
+        × (source.new ≡ source.old)
+        × (outside.new.stores ≡ outside.old.stores) }
     ensures not_a_catalogue { (side : Side) (place : ℕ) → result ≡ Status.NotACatalogue side place → IsTrue (D.disk outside.old.main).tells →
         Stands (D.disk outside.old.main).holds (D.disk outside.old.spare).holds (Err (side, place)) }
 
@@ -105,20 +135,30 @@ pub fn run<D: Disk, S: Source, K: Sink, A: Ambient, P: Plugin>(
     ensures sink_fault { result ≡ Status.SinkFault → Rose (K.sink sink.old).faults (K.sink sink.new).faults }
 
     // Where no count of faults rose all is done, unless memory or something else runs out.
-    ensures init_all { (zone admin : List ℕ) → AsksFor words.now (task.init zone admin) → IsTrue (D.disk outside.old.main).tells → IsTrue (D.disk outside.old.spare).tells →
+    ensures init_all { (zone admin : List ℕ) → AsksForTask words.now (task.init zone admin) → IsTrue (D.disk outside.old.main).tells
+        → IsTrue (D.disk outside.old.spare).tells →
         (D.disk outside.old.main).holds ≡ [] → (D.disk outside.old.spare).holds ≡ [] →
         ¬ Rose (D.disk outside.old.main).faults (D.disk outside.new.main).faults → ¬ Rose (D.disk outside.old.spare).faults (D.disk outside.new.spare).faults →
         ¬ Rose (K.sink sink.old).faults (K.sink sink.new).faults → (result ≡ Status.Done) ⊎ (result ≡ Status.Memory) }
-    ensures serve_all { (found : Cat) → AsksFor words.now task.serve → IsTrue (D.disk outside.old.main).tells → IsTrue (S.source source.old).tells →
-        Stands (D.disk outside.old.main).holds (D.disk outside.old.spare).holds (Ok found) → found.stores ≡ vec_len outside.old.stores →
+    ensures serve_all { (found : Cat) → AsksForTask words.now task.serve → IsTrue (D.disk outside.old.main).tells → IsTrue (S.source source.old).tells →
+        Stands (D.disk outside.old.main).holds (D.disk outside.old.spare).holds (Ok found) → found.stores ≡ vec_len outside.old.stores → IsPlain found →
         length (S.source source.old).left ≤ 2 ^ 48 → ¬ Rose (D.disk outside.old.main).faults (D.disk outside.new.main).faults →
-        ¬ Rose (D.disk outside.old.spare).faults (D.disk outside.new.spare).faults → ¬ Rose (S.source source.old).faults (S.source source.new).faults → ¬ Rose (K.sink sink.old).faults (K.sink sink.new).faults → IsComplete result }
+        ¬ Rose (D.disk outside.old.spare).faults (D.disk outside.new.spare).faults → ¬ Rose (S.source source.old).faults (S.source source.new).faults
+        → ¬ Rose (K.sink sink.old).faults (K.sink sink.new).faults → IsComplete result }
 
-    // Spare is only looked at, and not even that to answer requests. There are as many stores as before.
+    // Spare is only looked at, and not even that to answer requests.
     ensures spare { Looks (D.disk outside.old.spare) (D.disk outside.new.spare) }
-    ensures serve_spare { AsksFor words.now task.serve → outside.new.spare ≡ outside.old.spare }
+    ensures serve_spare { AsksForTask words.now task.serve → outside.new.spare ≡ outside.old.spare }
+
+    // Another run may be over the same devices: they were given no moment that was not drawn, and few were. There are as many
+    // stores as before.
+    ensures main_last { (D.disk outside.new.main).last ≤ outside.new.moments }
+    ensures spare_last { (D.disk outside.new.spare).last ≤ outside.new.moments }
+    ensures sink_last { (K.sink sink.new).last ≤ outside.new.moments }
     ensures stores_last { EachMember (λ k store. (P.plugin store).last ≤ outside.new.moments) outside.new.stores.items }
     ensures stores_go { StoresGo P.plugin outside.old.moments outside.old.stores.items outside.new.stores.items }
+    ensures drawn_from { outside.old.moments ≤ outside.new.moments }
+    ensures drawn { outside.new.moments ≤ outside.old.moments + 2 ^ 122 }
 {
     match read_words(words) {
         Asked::Serve => serve(alloc, outside, source, sink),
@@ -136,9 +176,9 @@ pub fn run<D: Disk, S: Source, K: Sink, A: Ambient, P: Plugin>(
 fn say<K: Sink>(moments: &mut Moments, sink: &mut K, line: &[u8], status: Status) -> Status
     requires sink_last { (K.sink sink.old).last ≤ moments.old }
     requires room { moments.old + 1 < 2 ^ 128 }
-    ensures says { Says line.now status (K.sink sink.old) (K.sink sink.new) result }
+    ensures says { SaysLine line.now status (K.sink sink.old) (K.sink sink.new) result }
     ensures fault { result ≡ Status.SinkFault → (status ≡ Status.SinkFault) ⊎ Rose (K.sink sink.old).faults (K.sink sink.new).faults }
-    ensures drawn_from { moments.old ≤ moments.new }
+    ensures went { SinkWent moments.old moments.new (K.sink sink.old) (K.sink sink.new) }
 {
     match sink.put(moments.next(), line) {
         Ok(()) => status,
@@ -153,36 +193,47 @@ fn serve<D: Disk, S: Source, K: Sink, A: Ambient, P: Plugin>(
     source: &mut S,
     sink: &mut K,
 ) -> Status
-    requires main_last { (D.disk outside.old.main).last ≤ outside.old.moments }
-    requires sink_last { (K.sink sink.old).last ≤ outside.old.moments }
-    requires stores_last { EachMember (λ k store. (P.plugin store).last ≤ outside.old.moments) outside.old.stores.items }
-    requires room { outside.old.moments + 2 ^ 101 < 2 ^ 128 }
+    requires ready { AreReady D.disk P.plugin K.sink (2 ^ 122) (record { outside = outside.old; sink = sink.old }) }
+    requires spare_last { (D.disk outside.old.spare).last ≤ outside.old.moments }
     requires stores { (0 < vec_len outside.old.stores) × (vec_len outside.old.stores ≤ 16) }
-    ensures serve { (found : Cat) → IsTrue (D.disk outside.old.main).tells → IsTrue (S.source source.old).tells →
-        Stands (D.disk outside.old.main).holds (D.disk outside.old.spare).holds (Ok found) → found.stores ≡ vec_len outside.old.stores →
-        Serves P.plugin outside.old.stores.items outside.new.stores.items (A.ambient outside.old.ambient) (A.ambient outside.new.ambient) found outside.old.moments (D.disk outside.old.main) (D.disk outside.new.main) (S.source source.old) (S.source source.new) (K.sink sink.old) (K.sink sink.new) result }
+    ensures serve { (found : Cat) (end : RunEnd) →
+        let old = seen D.disk A.ambient S.source K.sink P.plugin outside.old source.old sink.old in BeginsPlainly old found → run_end_of result ≡ Some end →
+        Serves old (seen D.disk A.ambient S.source K.sink P.plugin outside.new source.new sink.new) found end }
+    ensures not_plain { (found : Cat) → IsTrue (D.disk outside.old.main).tells →
+        Stands (D.disk outside.old.main).holds (D.disk outside.old.spare).holds (Ok found) → found.stores ≡ vec_len outside.old.stores → ¬ IsPlain found →
+        IsHeldBack result × Rests (D.disk outside.old.main) (D.disk outside.new.main) × (source.new ≡ source.old) × (sink.new ≡ sink.old)
+        × (outside.new.stores ≡ outside.old.stores) }
+    ensures not_plain_only { (found : Cat) → result ≡ Status.NotPlain → IsTrue (D.disk outside.old.main).tells →
+        Stands (D.disk outside.old.main).holds (D.disk outside.old.spare).holds (Ok found) → ¬ IsPlain found }
     ensures worn { (found : Cat) → IsTrue (D.disk outside.old.main).tells → Stands (D.disk outside.old.main).holds (D.disk outside.old.spare).holds (Ok found) →
         found.stores ≡ vec_len outside.old.stores → ¬ HasRoom found (D.disk outside.old.main) →
-        IsNotBegun result × Rests (D.disk outside.old.main) (D.disk outside.new.main) × (source.new ≡ source.old) × (sink.new ≡ sink.old) × (outside.new.stores ≡ outside.old.stores) }
+        IsNotBegun result × Rests (D.disk outside.old.main) (D.disk outside.new.main) × (source.new ≡ source.old) × (sink.new ≡ sink.old)
+        × (outside.new.stores ≡ outside.old.stores) }
+    ensures worn_only { (found : Cat) (what : Wear) (place : ℕ) → result ≡ Status.Worn what place → IsTrue (D.disk outside.old.main).tells →
+        Stands (D.disk outside.old.main).holds (D.disk outside.old.spare).holds (Ok found) →
+        HasRunOut found (D.disk outside.new.main).holds (D.disk outside.new.spare).holds place what }
     ensures stores { (found : Cat) → IsTrue (D.disk outside.old.main).tells →
         Stands (D.disk outside.old.main).holds (D.disk outside.old.spare).holds (Ok found) → found.stores ≢ vec_len outside.old.stores →
-        RefusesStores found.stores (vec_len outside.old.stores) (K.sink sink.old) (K.sink sink.new) result × Rests (D.disk outside.old.main) (D.disk outside.new.main) × (source.new ≡ source.old) × (outside.new.stores ≡ outside.old.stores) }
+        RefusesStores found.stores (vec_len outside.old.stores) (K.sink sink.old) (K.sink sink.new) result
+        × Rests (D.disk outside.old.main) (D.disk outside.new.main) × (source.new ≡ source.old) × (outside.new.stores ≡ outside.old.stores) }
     ensures stores_only { (had given : ℕ) → result ≡ Status.Stores had given → (had ≢ given) × (given ≡ vec_len outside.old.stores) ×
-        ((found : Cat) → IsTrue (D.disk outside.old.main).tells → Stands (D.disk outside.old.main).holds (D.disk outside.old.spare).holds (Ok found) → had ≡ found.stores) }
+        ((found : Cat) → IsTrue (D.disk outside.old.main).tells → Stands (D.disk outside.old.main).holds (D.disk outside.old.spare).holds (Ok found)
+        → had ≡ found.stores) }
     ensures refuses { (side : Side) (place : ℕ) → IsTrue (D.disk outside.old.main).tells →
         Stands (D.disk outside.old.main).holds (D.disk outside.old.spare).holds (Err (side, place)) →
-        Refuses side place (K.sink sink.old) (K.sink sink.new) result × Rests (D.disk outside.old.main) (D.disk outside.new.main) × (source.new ≡ source.old) × (outside.new.stores ≡ outside.old.stores) }
+        RefusesDisks side place (K.sink sink.old) (K.sink sink.new) result × Rests (D.disk outside.old.main) (D.disk outside.new.main)
+        × (source.new ≡ source.old)
+        × (outside.new.stores ≡ outside.old.stores) }
     ensures not_a_catalogue { (side : Side) (place : ℕ) → result ≡ Status.NotACatalogue side place → IsTrue (D.disk outside.old.main).tells →
         Stands (D.disk outside.old.main).holds (D.disk outside.old.spare).holds (Err (side, place)) }
-    ensures in_room { ¬ (result ≡ Status.DiskFault) → AddsInRoom (D.disk outside.old.main) (D.disk outside.new.main) }
-    ensures disk { result ≡ Status.DiskFault → Rose (D.disk outside.old.main).faults (D.disk outside.new.main).faults }
+    ensures took { IsTrue (S.source source.old).tells → TookFew (S.source source.old) (S.source source.new) }
+    ensures long_only { (taken : ℕ) → result ≡ Status.Long taken → (taken ≡ 2 ^ 48 + 1) ×
+        (IsTrue (S.source source.old).tells → (asked : List AskedOf) × ReadsMost asked (S.source source.old) (S.source source.new)) }
+    ensures passes { CallsPass D.disk P.plugin K.sink (result ≡ Status.DiskFault) (result ≡ Status.SinkFault)
+        (record { outside = outside.old; sink = sink.old }) (record { outside = outside.new; sink = sink.new }) }
     ensures source { result ≡ Status.SourceFault → Rose (S.source source.old).faults (S.source source.new).faults }
-    ensures sink { result ≡ Status.SinkFault → Rose (K.sink sink.old).faults (K.sink sink.new).faults }
     ensures ends { EndsServing result }
-    ensures spare { outside.new.spare ≡ outside.old.spare }
-    ensures stores_last { EachMember (λ k store. (P.plugin store).last ≤ outside.new.moments) outside.new.stores.items }
-    ensures stores_go { StoresGo P.plugin outside.old.moments outside.old.stores.items outside.new.stores.items }
-    ensures whole { (found : Cat) → Stands (D.disk outside.old.main).holds (D.disk outside.old.spare).holds (Ok found) → KeepWhole P.plugin outside.old.moments found (D.disk outside.old.main) (D.disk outside.new.main) outside.old.stores.items outside.new.stores.items }
+    ensures drawn { outside.new.moments ≤ outside.old.moments + 2 ^ 122 }
 {
     match Store::open(alloc, &mut outside.main, &mut outside.spare) {
         Ok(store) => serve_over(alloc, store, outside, source, sink),
@@ -208,33 +259,44 @@ fn serve_over<D: Disk, S: Source, K: Sink, A: Ambient, P: Plugin>(
     requires staged { store.staged ≡ [] }
     requires keeps { IsTrue (D.disk outside.old.main).tells → Keeps store.cat store (D.disk outside.old.main).holds }
     requires made { IsMade store.cat }
-    requires main_last { (D.disk outside.old.main).last ≤ outside.old.moments }
-    requires sink_last { (K.sink sink.old).last ≤ outside.old.moments }
-    requires stores_last { EachMember (λ k store. (P.plugin store).last ≤ outside.old.moments) outside.old.stores.items }
-    requires room { outside.old.moments + 2 ^ 101 < 2 ^ 128 }
+    requires ready { AreReady D.disk P.plugin K.sink (2 ^ 122) (record { outside = outside.old; sink = sink.old }) }
+    requires spare_last { (D.disk outside.old.spare).last ≤ outside.old.moments }
     requires stores { (0 < vec_len outside.old.stores) × (vec_len outside.old.stores ≤ 16) }
-    ensures serve { IsTrue (D.disk outside.old.main).tells → IsTrue (S.source source.old).tells → store.cat.stores ≡ vec_len outside.old.stores →
-        Serves P.plugin outside.old.stores.items outside.new.stores.items (A.ambient outside.old.ambient) (A.ambient outside.new.ambient) store.cat outside.old.moments (D.disk outside.old.main) (D.disk outside.new.main) (S.source source.old) (S.source source.new) (K.sink sink.old) (K.sink sink.new) result }
+    ensures serve { let v : Views D S K A P = record { disk = D.disk; source = S.source; sink = K.sink; ambient = A.ambient; plugin = P.plugin } in
+        let start : Around D S K A P = record { outside = outside.old; source = source.old; sink = sink.old } in
+        (main spare : D) (end : RunEnd) → let old = world_of v (before v (record { main = main; spare = spare; moments = outside.old.moments }) start) in
+        BeginsPlainly old store.cat → AreInOrder old → Rests (D.disk main) (D.disk outside.old.main) → Rests (D.disk spare) (D.disk outside.old.spare) →
+        run_end_of result ≡ Some end → Serves old (world_of v (record { outside = outside.new; source = source.new; sink = sink.new })) store.cat end }
+    ensures not_plain { store.cat.stores ≡ vec_len outside.old.stores → ¬ IsPlain store.cat →
+        IsHeldBack result × Rests (D.disk outside.old.main) (D.disk outside.new.main) × (source.new ≡ source.old) × (sink.new ≡ sink.old)
+        × (outside.new.stores ≡ outside.old.stores) }
+    ensures not_plain_only { result ≡ Status.NotPlain → ¬ IsPlain store.cat }
     ensures worn { store.cat.stores ≡ vec_len outside.old.stores → ¬ HasRoom store.cat (D.disk outside.old.main) →
-        IsNotBegun result × Rests (D.disk outside.old.main) (D.disk outside.new.main) × (source.new ≡ source.old) × (sink.new ≡ sink.old) × (outside.new.stores ≡ outside.old.stores) }
+        IsNotBegun result × Rests (D.disk outside.old.main) (D.disk outside.new.main) × (source.new ≡ source.old) × (sink.new ≡ sink.old)
+        × (outside.new.stores ≡ outside.old.stores) }
+    ensures worn_only { (what : Wear) (place : ℕ) → result ≡ Status.Worn what place → IsTrue (D.disk outside.old.main).tells →
+        HasRunOut store.cat (D.disk outside.new.main).holds (D.disk outside.new.spare).holds place what }
     ensures stores { store.cat.stores ≢ vec_len outside.old.stores →
-        RefusesStores store.cat.stores (vec_len outside.old.stores) (K.sink sink.old) (K.sink sink.new) result × (outside.new.main ≡ outside.old.main) × (source.new ≡ source.old) × (outside.new.stores ≡ outside.old.stores) }
+        RefusesStores store.cat.stores (vec_len outside.old.stores) (K.sink sink.old) (K.sink sink.new) result × (outside.new.main ≡ outside.old.main)
+        × (source.new ≡ source.old) × (outside.new.stores ≡ outside.old.stores) }
     ensures stores_only { (had given : ℕ) → result ≡ Status.Stores had given → (had ≢ given) × (given ≡ vec_len outside.old.stores) × (had ≡ store.cat.stores) }
-    ensures in_room { ¬ (result ≡ Status.DiskFault) → AddsInRoom (D.disk outside.old.main) (D.disk outside.new.main) }
-    ensures disk { result ≡ Status.DiskFault → Rose (D.disk outside.old.main).faults (D.disk outside.new.main).faults }
-    ensures source { result ≡ Status.SourceFault → Rose (S.source source.old).faults (S.source source.new).faults }
-    ensures sink { result ≡ Status.SinkFault → Rose (K.sink sink.old).faults (K.sink sink.new).faults }
-    ensures ends { EndsServing result }
     ensures not_a_catalogue { (side : Side) (place : ℕ) → ¬ (result ≡ Status.NotACatalogue side place) }
-    ensures spare { outside.new.spare ≡ outside.old.spare }
-    ensures stores_last { EachMember (λ k store. (P.plugin store).last ≤ outside.new.moments) outside.new.stores.items }
-    ensures stores_go { StoresGo P.plugin outside.old.moments outside.old.stores.items outside.new.stores.items }
-    ensures whole { KeepWhole P.plugin outside.old.moments store.cat (D.disk outside.old.main) (D.disk outside.new.main) outside.old.stores.items outside.new.stores.items }
+    ensures took { IsTrue (S.source source.old).tells → TookFew (S.source source.old) (S.source source.new) }
+    ensures long_only { (taken : ℕ) → result ≡ Status.Long taken → (taken ≡ 2 ^ 48 + 1) ×
+        (IsTrue (S.source source.old).tells → (asked : List AskedOf) × ReadsMost asked (S.source source.old) (S.source source.new)) }
+    ensures passes { CallsPass D.disk P.plugin K.sink (result ≡ Status.DiskFault) (result ≡ Status.SinkFault)
+        (record { outside = outside.old; sink = sink.old }) (record { outside = outside.new; sink = sink.new }) }
+    ensures source { result ≡ Status.SourceFault → Rose (S.source source.old).faults (S.source source.new).faults }
+    ensures ends { EndsServing result }
+    ensures drawn { outside.new.moments ≤ outside.old.moments + 2 ^ 122 }
 {
     let kept = store.tables().stores();
     let given = outside.stores.len() as u8;
     if kept != given {
         return refuse_stores(alloc, &mut outside.moments, sink, kept, given);
+    }
+    if !is_plain(store.tables()) {
+        return Status::NotPlain;
     }
     match begin_run(
         alloc,
@@ -257,7 +319,17 @@ fn serve_over<D: Disk, S: Source, K: Sink, A: Ambient, P: Plugin>(
     }
 }
 
-// Says that the disks hold no catalogue, which shows at this place.
+// Whether the catalogue has neither rules nor a command that is not done.
+fn is_plain(tables: &Tables) -> bool
+    ensures { IsTrue result ↔ IsPlain tables.now }
+{
+    match tables.pending() {
+        Some(_) => false,
+        None => tables.rules().as_slice().is_empty(),
+    }
+}
+
+// SaysLine that the disks hold no catalogue, which shows at this place.
 fn refuse<K: Sink>(
     alloc: Global,
     moments: &mut Moments,
@@ -267,10 +339,10 @@ fn refuse<K: Sink>(
 ) -> Status
     requires sink_last { (K.sink sink.old).last ≤ moments.old }
     requires room { moments.old + 1 < 2 ^ 128 }
-    ensures refuses { Refuses side at (K.sink sink.old) (K.sink sink.new) result }
+    ensures refuses { RefusesDisks side at (K.sink sink.old) (K.sink sink.new) result }
     ensures ends { (result ≡ Status.NotACatalogue side at) ⊎ (result ≡ Status.Memory) ⊎ (result ≡ Status.SinkFault) }
     ensures fault { result ≡ Status.SinkFault → Rose (K.sink sink.old).faults (K.sink sink.new).faults }
-    ensures drawn_from { moments.old ≤ moments.new }
+    ensures went { SinkWent moments.old moments.new (K.sink sink.old) (K.sink sink.new) }
 {
     let Ok(line) = not_a_catalogue_line(alloc, side, at) else {
         return Status::Memory;
@@ -278,7 +350,7 @@ fn refuse<K: Sink>(
     say(moments, sink, &line, Status::NotACatalogue { side, at })
 }
 
-// Says that the catalogue is of another number of stores.
+// SaysLine that the catalogue is of another number of stores.
 fn refuse_stores<K: Sink>(
     alloc: Global,
     moments: &mut Moments,
@@ -291,7 +363,7 @@ fn refuse_stores<K: Sink>(
     ensures refuses { RefusesStores kept given (K.sink sink.old) (K.sink sink.new) result }
     ensures ends { (result ≡ Status.Stores kept given) ⊎ (result ≡ Status.Memory) ⊎ (result ≡ Status.SinkFault) }
     ensures fault { result ≡ Status.SinkFault → Rose (K.sink sink.old).faults (K.sink sink.new).faults }
-    ensures drawn_from { moments.old ≤ moments.new }
+    ensures went { SinkWent moments.old moments.new (K.sink sink.old) (K.sink sink.new) }
 {
     let Ok(line) = stores_line(alloc, kept, given) else {
         return Status::Memory;
@@ -312,20 +384,26 @@ fn init<D: Disk, K: Sink, A: Ambient, P: Plugin>(
     requires not_public { admin.now ≢ everybody }
     requires main_last { (D.disk outside.old.main).last ≤ outside.old.moments }
     requires sink_last { (K.sink sink.old).last ≤ outside.old.moments }
-    requires stores_last { EachMember (λ k store. (P.plugin store).last ≤ outside.old.moments) outside.old.stores.items }
     requires room { outside.old.moments + 3 < 2 ^ 128 }
     requires stores { (0 < vec_len outside.old.stores) × (vec_len outside.old.stores ≤ 16) }
-    ensures inits { Inits zone.now admin.now (vec_len outside.old.stores) (D.disk outside.old.main) (D.disk outside.new.main) (D.disk outside.old.spare) (K.sink sink.old) (K.sink sink.new) result }
+    ensures inits { Inits zone.now admin.now (vec_len outside.old.stores) (D.disk outside.old.main) (D.disk outside.new.main) (D.disk outside.old.spare)
+        (K.sink sink.old) (K.sink sink.new) result }
     ensures spare { Looks (D.disk outside.old.spare) (D.disk outside.new.spare) }
-    ensures disk { result ≡ Status.DiskFault → Rose (D.disk outside.old.main).faults (D.disk outside.new.main).faults ⊎ Rose (D.disk outside.old.spare).faults (D.disk outside.new.spare).faults }
+    ensures disk { result ≡ Status.DiskFault → Rose (D.disk outside.old.main).faults (D.disk outside.new.main).faults
+        ⊎ Rose (D.disk outside.old.spare).faults (D.disk outside.new.spare).faults }
     ensures sink { result ≡ Status.SinkFault → Rose (K.sink sink.old).faults (K.sink sink.new).faults }
     ensures words { (result ≡ Status.Usage) → ⊥ }
     ensures source { (result ≡ Status.SourceFault) → ⊥ }
     ensures catalogue { (side : Side) (place : ℕ) → ¬ (result ≡ Status.NotACatalogue side place) }
     ensures no_stores { (had given : ℕ) → ¬ (result ≡ Status.Stores had given) }
+    ensures no_run { (result ≢ Status.NotPlain) × ((taken : ℕ) → ¬ (result ≡ Status.Long taken))
+        × ((what : Wear) (place : ℕ) → ¬ (result ≡ Status.Worn what place)) }
     ensures other_stores { outside.new.stores ≡ outside.old.stores }
     ensures ambient { outside.new.ambient ≡ outside.old.ambient }
-    ensures stores_last { EachMember (λ k store. (P.plugin store).last ≤ outside.new.moments) outside.new.stores.items }
+    ensures main_last { (D.disk outside.new.main).last ≤ outside.new.moments }
+    ensures sink_last { (K.sink sink.new).last ≤ outside.new.moments }
+    ensures drawn_from { outside.old.moments ≤ outside.new.moments }
+    ensures drawn { outside.new.moments ≤ outside.old.moments + 3 }
 {
     let stores = outside.stores.len() as u8;
     match Store::init(
@@ -348,7 +426,7 @@ fn init<D: Disk, K: Sink, A: Ambient, P: Plugin>(
     }
 }
 
-// Says that a disk is not empty.
+// SaysLine that a disk is not empty.
 fn refuse_start<K: Sink>(
     alloc: Global,
     moments: &mut Moments,
@@ -358,9 +436,10 @@ fn refuse_start<K: Sink>(
 ) -> Status
     requires sink_last { (K.sink sink.old).last ≤ moments.old }
     requires room { moments.old + 1 < 2 ^ 128 }
-    ensures says { Says (not_empty_text side len) (Status.NotEmpty side len) (K.sink sink.old) (K.sink sink.new) result ⊎ ((result ≡ Status.Memory) × Stays (K.sink sink.old) (K.sink sink.new)) }
+    ensures says { SaysLine (not_empty_text side len) (Status.NotEmpty side len) (K.sink sink.old) (K.sink sink.new) result
+        ⊎ ((result ≡ Status.Memory) × HoldsStill (K.sink sink.old) (K.sink sink.new)) }
     ensures fault { result ≡ Status.SinkFault → Rose (K.sink sink.old).faults (K.sink sink.new).faults }
-    ensures drawn_from { moments.old ≤ moments.new }
+    ensures went { SinkWent moments.old moments.new (K.sink sink.old) (K.sink sink.new) }
 {
     let Ok(line) = not_empty_line(alloc, side, len) else {
         return Status::Memory;

@@ -1,9 +1,8 @@
 ghost use Rattle.std.specs.Prelude.{◌≡◌, ◌↔◌, [], ◌∷◌, IsTrue};
-ghost use Rattle.grid_server.specs.Tasks.{IsWord, AsksFor};
+ghost use Rattle.grid_server.specs.Tasks.{IsWord, AsksForTask};
 ghost use Rattle.grid_server.specs.Tasks as task;
 ghost use Rattle.grid_server.specs.Asking.{IsAsked};
 
-use crate::lines::is_same;
 use grid_model::{Text, check_name};
 
 /// What the words of the program ask for.
@@ -39,14 +38,14 @@ pub(crate) fn read_words(words: &[Text]) -> Asked<'_>
 
 // Whether the word asks to serve.
 fn is_serve(word: &Text) -> bool
-    ensures { IsTrue result ↔ AsksFor (word.now ∷ []) task.serve }
+    ensures { IsTrue result ↔ AsksForTask (word.now ∷ []) task.serve }
 {
     is_text(word, b"serve")
 }
 
 // Whether the words ask to begin a grid with this zone and this administrator.
 fn is_init(word: &Text, zone: &Text, admin: &Text) -> bool
-    ensures { IsTrue result ↔ AsksFor (word.now ∷ zone.now ∷ admin.now ∷ []) (task.init zone.now admin.now) }
+    ensures { IsTrue result ↔ AsksForTask (word.now ∷ zone.now ∷ admin.now ∷ []) (task.init zone.now admin.now) }
 {
     if !is_text(word, b"init") {
         return false;
@@ -63,7 +62,7 @@ fn is_init(word: &Text, zone: &Text, admin: &Text) -> bool
 fn is_text(word: &Text, text: &[u8]) -> bool
     ensures { IsTrue result ↔ (word.now ≡ text.now) }
 {
-    is_same(word.as_slice(), text)
+    word.as_slice() == text
 }
 
 // Whether a word of the program is a name.

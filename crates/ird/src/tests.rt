@@ -52,6 +52,7 @@ fn each_end_has_its_exit_status(rt: HostRuntime) {
         (Status::NotACatalogue { side, at: 7 }, 3),
         (Status::NotEmpty { side, len: 7 }, 3),
         (Status::Stores { kept: 1, given: 8 }, 3),
+        (Status::NotPlain, 3),
         (Status::DiskFault, 4),
         (Status::SourceFault, 5),
         (Status::SinkFault, 6),

@@ -1,11 +1,16 @@
 mod beginning;
+mod bodies;
 mod bytes_of_main;
 mod catalogues;
 mod disk_faults;
+mod examples;
 mod files;
+mod levels;
 mod lines;
 mod makings;
 mod playing;
+mod records;
+mod resources;
 mod runs;
 mod sinks;
 mod sources;

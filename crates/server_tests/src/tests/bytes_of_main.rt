@@ -26,19 +26,23 @@ const RESOURCE: &[u8] = b"\x0F\0\0\0\x01\0\0\0\0\0\0\0\x02d0\x01\0\x01\0\0\0\0\0
 
 const NO_RUN: &[u8] = b"\x13\0\0\0\0\0\0\0\x01\0\0\0\0\0\0\0\0\0\0\0\0\0\0\0\0";
 
-// The records of the first run, and of one that makes `/tempZone/home/rods/a` as its third command.
-const RUN_1: &[u8] = b"\x13\0\0\0\0\0\0\0\x01\0\0\0\0\0\0\0\x01\0\0\0\0\0\0\0\0";
+// The records of the first run, and of one that makes `/tempZone/home/rods/a` as its third command: the collection, own for
+// its maker, and the numbers.
+pub(crate) const RUN_1: &[u8] = b"\x13\0\0\0\0\0\0\0\x01\0\0\0\0\0\0\0\x01\0\0\0\0\0\0\0\0";
 
 const MADE_A: &[u8] = b"\x05\0\0\0\0\0\0\0\x04\0\0\0\0\0\0\0\x03\0\0\0\0\0\0\0\x01a\0\
+\x0D\x02\0\0\0\0\0\0\0\x04\0\0\0\x01\x03\
 \x13\0\0\0\0\0\0\0\x01\0\0\0\0\0\0\0\x01\0\0\0\0\0\0\0\x03";
 
 // The same of a second run, which makes `/tempZone/home/rods/a/bc` as its second command, and `/d` as its fourth.
 const RUN_2: &[u8] = b"\x13\0\0\0\0\0\0\0\x01\0\0\0\0\0\0\0\x02\0\0\0\0\0\0\0\0";
 
 const MADE_BC: &[u8] = b"\x05\0\0\0\0\0\0\0\x05\0\0\0\0\0\0\0\x04\0\0\0\0\0\0\0\x02bc\0\
+\x0D\x02\0\0\0\0\0\0\0\x05\0\0\0\x01\x03\
 \x13\0\0\0\0\0\0\0\x01\0\0\0\0\0\0\0\x02\0\0\0\0\0\0\0\x02";
 
 const MADE_D: &[u8] = b"\x05\0\0\0\0\0\0\0\x06\0\0\0\0\0\0\0\0\0\0\0\0\0\0\0\x01d\0\
+\x0D\x02\0\0\0\0\0\0\0\x06\0\0\0\x01\x03\
 \x13\0\0\0\0\0\0\0\x01\0\0\0\0\0\0\0\x02\0\0\0\0\0\0\0\x04";
 
 // The body of the first record.

@@ -16,12 +16,12 @@ fn refuses_at(rt: &impl Abort, alloc: Global, main: &[u8], at: u64) -> Result<()
     refuses(rt, alloc, SERVE, main, PLAIN, status, line.as_bytes())
 }
 
-// Main of a new grid after a run that made a collection: 313 bytes, a record of 34 and one of 61.
+// Main of a new grid after a run that made a collection: 313 bytes, a record of 34 and one of 76.
 fn with_a(rt: &impl Abort, alloc: Global) -> Result<Vec<u8>, Fail> {
     let input = b"0 login rods\n0 mkdir /tempZone/home/rods/a\n";
     let served = done(1, b"1 ok\n2 ok\n", 2, b"/tempZone/home/rods/a\n");
     let main = serves(rt, alloc, &begun(alloc)?, input, served)?;
-    assert_eq!(rt; main.len(), 408);
+    assert_eq!(rt; main.len(), 423);
     Ok(main)
 }
 
@@ -53,10 +53,10 @@ fn a_head_at_fault_is_refused_at_its_byte(rt: HostRuntime) -> Result<(), Fail> {
 fn a_log_that_is_cut_off_is_refused_where_it_does_not_go_on(rt: HostRuntime) -> Result<(), Fail> {
     let alloc = rt.alloc();
     let main = with_a(&rt, alloc)?;
-    // A record's length stands at 17, at 313 and at 347, and the closing gate at 407.
+    // A record's length stands at 17, at 313 and at 347, and the closing gate at 422.
     for (len, at) in [
-        (407, 407),
-        (406, 347),
+        (422, 422),
+        (421, 347),
         (348, 347),
         (347, 347),
         (346, 346),
@@ -75,7 +75,7 @@ fn a_log_that_is_cut_off_is_refused_where_it_does_not_go_on(rt: HostRuntime) -> 
 }
 
 // Bodies of a record that are refused, each with the place within it.
-const AT_FAULT: [(&[u8], u64); 12] = [
+const AT_FAULT: [(&[u8], u64); 15] = [
     // No such change, and one that ends too early.
     (b"\0", 0),
     (b"C /tempZone/home/rods/b\n", 0),
@@ -112,6 +112,10 @@ const AT_FAULT: [(&[u8], u64); 12] = [
         b"\x05\0\0\0\0\0\0\0\x09\0\0\0\0\0\0\0\x03\0\0\0\0\0\0\0\x03b/c\0",
         0,
     ),
+    // Rules, which no catalogue has yet, also none at all, and the end of a command where none is begun.
+    (b"\x10\0\0\0\0\0\0\0\x14a ( ) { nop ( ) ; }\n", 0),
+    (b"\x10\0\0\0\0\0\0\0\0", 0),
+    (b"\x15", 0),
     // One is taken, and the next one has its name in the same collection.
     (
         b"\x05\0\0\0\0\0\0\0\x08\0\0\0\0\0\0\0\x03\0\0\0\0\0\0\0\x01b\0\
@@ -129,7 +133,7 @@ fn a_record_at_fault_is_refused_at_its_place(rt: HostRuntime) -> Result<(), Fail
         let main = with_record(alloc, &new, body)?;
         refuses_at(&rt, alloc, &main, place.saturating_add(321))?;
         let main = with_record(alloc, &made, body)?;
-        refuses_at(&rt, alloc, &main, place.saturating_add(416))?;
+        refuses_at(&rt, alloc, &main, place.saturating_add(431))?;
     }
     Ok(())
 }
@@ -154,5 +158,36 @@ fn what_is_not_read_may_be_anything(rt: HostRuntime) -> Result<(), Fail> {
     let played = play(&rt, alloc, SERVE, &main, input, setting)?;
     let served = done(1, b"1 ok\n2 ok\n3 ok\n", 3, b"/x\n/x/y\n");
     compare(&rt, alloc, played, served)?;
+    Ok(())
+}
+
+// The second command of the first run, a mkdir of the first user, which is not done, and no such command.
+const PENDING: &[u8] =
+    b"\x14\0\0\0\0\0\0\0\x01\0\0\0\0\0\0\0\x02\0\0\0\x01\0\0\0\0\0\0\0\x0A0 mkdir /x\
+\0\0\0\0\0\0\0\0\0\0\0\0\0\0\0\0\0\0\0\0\0\0\0\0\0";
+
+const NO_PENDING: &[u8] = b"\x15";
+
+#[test]
+fn a_command_that_is_not_done_is_not_gone_on_with(rt: HostRuntime) -> Result<(), Fail> {
+    let alloc = rt.alloc();
+    let main = with_record(alloc, &begun(alloc)?, PENDING)?;
+    // Nothing is read of an input, which would fail. Another number of stores is told before.
+    let setting = Setting {
+        source_fails: 1,
+        ..PLAIN
+    };
+    refuses(&rt, alloc, SERVE, &main, setting, Status::NotPlain, b"")?;
+    let two = Setting {
+        has_two_stores: true,
+        ..setting
+    };
+    let status = Status::Stores { kept: 1, given: 2 };
+    refuses(&rt, alloc, SERVE, &main, two, status, b"err Stores 1 2\n")?;
+    // Once it is done the catalogue is served.
+    let main = with_record(alloc, &main, NO_PENDING)?;
+    let input = b"0 login rods\n0 mkdir /x\n";
+    let served = done(1, b"1 ok\n2 ok\n", 2, b"/x\n");
+    serves(&rt, alloc, &main, input, served)?;
     Ok(())
 }

@@ -19,6 +19,15 @@ const SECOND: &[u8] = b"1 ok\n2 ok\n3 err Exists\n";
 
 const ALL: &[u8] = b"1 ok\n2 ok\n3 err Exists\n4 ok\n";
 
+// A file is put and sent: what is answered before the record of its get, and in all.
+const PUT_AND_GET: &[u8] = b"0 login rods\n0 put /f d0 new 1\nx0 get /f -\n";
+
+const SENT: &[u8] = b"1 ok\n2 mark ran 0 1000\n2 ok\n3 data 1\nx\n";
+
+const GOT: &[u8] = b"1 ok\n2 mark ran 0 1000\n2 ok\n3 data 1\nx\n3 mark ran 0 1000\n3 ok 0\n";
+
+const F: &[u8] = b"/f\n";
+
 // A run that a disk ends, with what was answered, and what is kept.
 fn fails<'a>(replies: &'a [u8], run: u64, last: u64, paths: &'a [u8]) -> Outcome<'a> {
     Outcome {
@@ -36,6 +45,7 @@ fn serves_again(
     rt: &impl Abort,
     alloc: Global,
     new: &[u8],
+    input: &[u8],
     call: u64,
     wanted: Outcome<'_>,
 ) -> Result<(), Fail> {
@@ -43,7 +53,7 @@ fn serves_again(
         main_fails: call,
         ..PLAIN
     };
-    let played = play(rt, alloc, SERVE, new, INPUT, setting)?;
+    let played = play(rt, alloc, SERVE, new, input, setting)?;
     let main = compare(rt, alloc, played, wanted)?;
     goes_on(rt, alloc, &main, wanted.run, wanted.paths)
 }
@@ -72,9 +82,47 @@ fn a_disk_may_fail_at_each_call(rt: HostRuntime) -> Result<(), Fail> {
         (14, SECOND, 1, 2, A),
         (15, SECOND, 1, 4, A_AND_B),
     ] {
-        serves_again(&rt, alloc, &new, call, fails(replies, run, last, paths))?;
+        serves_again(
+            &rt,
+            alloc,
+            &new,
+            INPUT,
+            call,
+            fails(replies, run, last, paths),
+        )?;
     }
-    serves_again(&rt, alloc, &new, 16, done(1, ALL, 4, A_AND_B))
+    serves_again(&rt, alloc, &new, INPUT, 16, done(1, ALL, 4, A_AND_B))
+}
+
+#[test]
+fn a_disk_may_fail_at_each_call_of_a_put_and_a_get(rt: HostRuntime) -> Result<(), Fail> {
+    let alloc = rt.alloc();
+    let new = begun(alloc)?;
+    // A put adds a record before its file is made and one behind that, and a get one behind its data.
+    for (call, replies, last, paths) in [
+        (8, FIRST, 0, b"".as_slice()),
+        (9, FIRST, 0, b""),
+        (10, FIRST, 0, b""),
+        (11, FIRST, 0, b""),
+        (12, FIRST, 0, b""),
+        (13, FIRST, 0, b""),
+        (14, FIRST, 0, b""),
+        (15, FIRST, 2, F),
+        (16, SENT, 2, F),
+        (17, SENT, 2, F),
+        (18, SENT, 2, F),
+        (19, SENT, 3, F),
+    ] {
+        serves_again(
+            &rt,
+            alloc,
+            &new,
+            PUT_AND_GET,
+            call,
+            fails(replies, 1, last, paths),
+        )?;
+    }
+    serves_again(&rt, alloc, &new, PUT_AND_GET, 20, done(1, GOT, 3, F))
 }
 
 #[test]

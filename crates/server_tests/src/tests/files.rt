@@ -52,14 +52,14 @@ const NOWHERE: &[u8] = b"0 login rods\n0 put /nowhere/o d0 new 0\n";
 const NOBODY: &[u8] = b"0 put /tempZone/home/rods/o d0 new 0\n";
 
 // An empty store. Its call of this number fails, from 1, or none at 0.
-fn failing(alloc: Global, call: u64) -> Result<MemStore, AllocError>
+pub(crate) fn failing(alloc: Global, call: u64) -> Result<MemStore, AllocError>
     ensures { IfOk result (λ store. (store_of store).last ≡ 0) }
 {
     MemStore::new(alloc, MemFiles::new(Vec::new(alloc)), vec![in alloc; call]?)
 }
 
 // Serves the input over main and this store.
-fn play_on(
+pub(crate) fn play_on(
     alloc: Global,
     main: &[u8],
     input: &[u8],
@@ -92,15 +92,15 @@ fn serves_on(
 fn a_file_is_sent_as_it_was_put(rt: HostRuntime) -> Result<(), Fail> {
     let alloc = rt.alloc();
     let new = begun(alloc)?;
-    // The store is asked to create, append and finish, and then twice to read.
+    // The store is asked to create, append and finish, and then twice to read. The last command is also one that failed there.
     for (call, replies, last, paths) in [
-        (0, ABC_GOT, 2, O),
-        (1, NOT_PUT, 0, b"".as_slice()),
-        (2, NOT_PUT, 0, b""),
-        (3, NOT_PUT, 0, b""),
-        (4, NOT_GOT, 2, O),
-        (5, NOT_GOT, 2, O),
-        (6, ABC_GOT, 2, O),
+        (0, ABC_GOT, 3, O),
+        (1, NOT_PUT, 2, b"".as_slice()),
+        (2, NOT_PUT, 2, b""),
+        (3, NOT_PUT, 2, b""),
+        (4, NOT_GOT, 3, O),
+        (5, NOT_GOT, 3, O),
+        (6, ABC_GOT, 3, O),
     ] {
         serves_on(&rt, alloc, &new, ABC, call, done(1, replies, last, paths))?;
     }
@@ -117,7 +117,7 @@ fn a_file_that_is_another_is_damaged(rt: HostRuntime) -> Result<(), Fail> {
     };
     let store = failing(alloc, 0)?.lying(lies);
     let played = play_on(alloc, &new, ABC, store, 0)?;
-    compare(&rt, alloc, played, done(1, DAMAGED, 2, O))?;
+    compare(&rt, alloc, played, done(1, DAMAGED, 3, O))?;
     Ok(())
 }
 
@@ -125,7 +125,7 @@ fn a_file_that_is_another_is_damaged(rt: HostRuntime) -> Result<(), Fail> {
 fn a_later_run_has_the_file(rt: HostRuntime) -> Result<(), Fail> {
     let alloc = rt.alloc();
     let new = begun(alloc)?;
-    let main = serves_on(&rt, alloc, &new, ABC, 0, done(1, ABC_GOT, 2, O))?;
+    let main = serves_on(&rt, alloc, &new, ABC, 0, done(1, ABC_GOT, 3, O))?;
     let file = MemFile {
         name: 1,
         bytes: b"abc".to_vec(alloc)?,
@@ -140,7 +140,7 @@ fn a_later_run_has_the_file(rt: HostRuntime) -> Result<(), Fail> {
     let replies =
         b"1 ok\n2 mark ran 0 1000\n2 ok\n3 data 3\nabc\n3 mark ran 0 1000\n3 ok 0\n4 mark ran 0 1000\n4 ok 0\n";
     let paths = b"/tempZone/home/rods/o\n/tempZone/home/rods/p\n";
-    compare(&rt, alloc, played, done(2, replies, 2, paths))?;
+    compare(&rt, alloc, played, done(2, replies, 4, paths))?;
     Ok(())
 }
 
@@ -164,14 +164,21 @@ fn what_is_not_put_or_sent(rt: HostRuntime) -> Result<(), Fail> {
         (
             b"0 login rods\n0 put /f d0 new 0\n0 put /f/g d0 new 0\n0 mkdir /f\n0 put /f d0 new 2\nab0 get /f -\n",
             b"1 ok\n2 mark ran 0 1000\n2 ok\n3 err NoCollection\n4 err Exists\n5 err Exists\n6 mark ran 0 1000\n6 ok 0\n",
-            2,
+            6,
             b"/f\n",
         ),
         (
             b"0 put /f d1 new 1\nx0 put /f d0 old 1\nx0 put /f d0 new 01\n0 get /f d1\n1 get /f -\n0 get f -\n0 get /f\n",
-            b"1 err UnknownCommand\n2 err UnknownCommand\n3 err UnknownCommand\n4 err UnknownCommand\n5 err UnknownCommand\n6 err UnknownCommand\n7 err UnknownCommand\n",
+            b"1 err NoLogin\n2 err BadWord 4\n3 err BadWord 5\n4 err NoLogin\n5 err NoLogin\n6 err BadPath 0\n7 err BadWord 3\n",
             0,
             b"",
+        ),
+        (
+            b"0 login rods\n0 put /f d1 new 1\nx0 put /f d0 over 1\nx0 get /f d0\n0 put /f d0 new 1\nx0 put /f d0 over 1\ny0 get /f d1\n0 get /f -\n",
+            b"1 ok\n2 err NoResource\n3 err UnknownCommand\n4 err NoObject\n5 mark ran 0 1000\n5 ok\n6 err UnknownCommand\n\
+7 err NoResource\n8 data 1\nx\n8 mark ran 0 1000\n8 ok 0\n",
+            8,
+            b"/f\n",
         ),
         (
             b"0 login rods\n0 put /f d0 new 3\nab",
@@ -215,7 +222,7 @@ fn a_large_body_is_sent_in_parts(rt: HostRuntime) -> Result<(), Fail> {
         replies.push(b'\n')?;
     }
     replies.extend_from_slice(b"3 mark ran 0 1000\n3 ok 0\n")?;
-    serves_on(&rt, alloc, &new, &input, 0, done(1, &replies, 2, b"/f\n"))?;
+    serves_on(&rt, alloc, &new, &input, 0, done(1, &replies, 3, b"/f\n"))?;
     Ok(())
 }
 
@@ -254,7 +261,7 @@ fn a_sink_may_fail_within_a_get(rt: HostRuntime) -> Result<(), Fail> {
         (
             4,
             b"1 ok\n2 mark ran 0 1000\n2 ok\n3 data 3\nabc\n3 mark ran 0",
-            2,
+            3,
             O,
         ),
     ] {
@@ -284,7 +291,7 @@ fn the_numbers_of_vault_files_run_out(rt: HostRuntime) -> Result<(), Fail> {
     let alloc = rt.alloc();
     let new = begun(alloc)?;
     for (numbers, input, at, replies, last, paths) in [
-        (LAST_VAULT, ABC, 0, ABC_GOT, 2, O),
+        (LAST_VAULT, ABC, 0, ABC_GOT, 3, O),
         // The second body has no number.
         (LAST_VAULT, TWO_PUT, PAST_LAST, FIRST_PUT, 2, O),
         (

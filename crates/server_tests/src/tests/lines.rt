@@ -1,6 +1,5 @@
-// Lines that are requests, lines that are not, and bytes behind a line that belong to its request.
-use super::playing::{PLAIN, SERVE, Setting, begun, compare, done, play, serves};
-use super::sources::stopped;
+// Lines that are requests, and lines that are not.
+use super::playing::{begun, done, serves};
 use std::alloc::{AllocError, Global};
 use std::process::Abort;
 use std::test::Fail;
@@ -73,24 +72,94 @@ fn refuses_line(
     Ok(())
 }
 
+// The words of each verb are looked at first. One that is not built yet is refused once they are good.
+const OF_VERBS: [(&[u8], &[u8]); 44] = [
+    (b"0 mkuser al/ice rodsuser", b"BadName 2"),
+    (b"0 mkuser alice rodsgroup", b"BadWord 3"),
+    (b"0 mkgroup ..", b"BadName 2"),
+    (b"0 addmember lab alice", b"NoUser"),
+    (b"0 addmember lab", b"BadWord 3"),
+    (b"0 rmmember lab alice", b"NoUser"),
+    (b"0 mkresc d1 unixfilesystem 0", b"UnknownCommand"),
+    (b"0 mkresc d1 unixfilesystem", b"BadWord 4"),
+    (b"0 mkresc r random", b"UnknownCommand"),
+    (b"0 mkresc r random 1", b"BadWord 4"),
+    (b"0 mkresc r tape", b"BadWord 3"),
+    (b"0 addchild r d0", b"UnknownCommand"),
+    (b"0 modresc d0 down", b"UnknownCommand"),
+    (b"0 modresc d0 off", b"BadWord 3"),
+    (b"0 showrules", b"UnknownCommand"),
+    (b"0 showrules x", b"BadWord 2"),
+    (b"0 sweep", b"UnknownCommand"),
+    (b"0 rmdir /x", b"NoCollection"),
+    (b"0 rmdir x", b"BadPath 0"),
+    (b"0 mv /x /y", b"NoObject"),
+    (b"0 mv /x y", b"BadPath 0"),
+    (b"0 ls /x", b"NoObject"),
+    (b"0 ls /x/", b"BadPath 3"),
+    (b"0 chmod read rods /x", b"NoObject"),
+    (b"0 chmod all rods /x", b"BadWord 2"),
+    (b"0 chmod read rods x", b"BadPath 0"),
+    (b"0 inherit /x", b"NoCollection"),
+    (b"0 noinherit x", b"BadPath 0"),
+    (b"0 open /x d0 new", b"UnknownCommand"),
+    (b"0 open /x d0", b"BadWord 4"),
+    (b"0 close", b"UnknownCommand"),
+    (b"0 abort x", b"BadWord 2"),
+    (b"0 repl /x d0", b"UnknownCommand"),
+    (b"0 chksum /x", b"UnknownCommand"),
+    (b"0 chksum x", b"BadPath 0"),
+    (b"0 trim /x d0", b"UnknownCommand"),
+    (b"0 rm /x /y", b"BadWord 3"),
+    (b"0 addmeta -d /x a v u", b"UnknownCommand"),
+    (b"0 addmeta -d x a v u", b"BadPath 0"),
+    (b"0 rmmeta -R x a v", b"BadWord 6"),
+    (b"0 lsmeta -u rods", b"UnknownCommand"),
+    (b"0 lsmeta -x rods", b"BadWord 2"),
+    (b"0 query x", b"UnknownCommand"),
+    (b"0 exec a b", b"BadWord 3"),
+];
+
+#[test]
+fn words_of_all_verbs_are_read(rt: HostRuntime) -> Result<(), Fail> {
+    let alloc = rt.alloc();
+    let new = begun(alloc)?;
+    for (line, refusal) in OF_VERBS {
+        refuses_line(&rt, alloc, &new, line, refusal)?;
+    }
+    Ok(())
+}
+
 #[test]
 fn lines_are_refused_as_they_stand(rt: HostRuntime) -> Result<(), Fail> {
     let alloc = rt.alloc();
     let new = begun(alloc)?;
     for (line, refusal) in [
-        (b"0 login rods x".as_slice(), b"UnknownCommand".as_slice()),
-        (b"0 login", b"UnknownCommand"),
-        (b"1 login rods", b"UnknownCommand"),
-        (b"login rods", b"UnknownCommand"),
+        (b"0 login rods x".as_slice(), b"BadWord 3".as_slice()),
+        (b"0 login", b"BadWord 2"),
+        (b"0", b"BadWord 1"),
+        (b"64 login rods", b"BadWord 0"),
+        (b"01 login rods", b"BadWord 0"),
+        (b"login rods", b"BadWord 0"),
+        (b"99 foo", b"BadWord 0"),
+        (b"\"\"", b"BadWord 0"),
         (b"0 Login rods", b"UnknownCommand"),
-        (b"\"\"", b"UnknownCommand"),
-        (b"0 mkdir \"\"", b"UnknownCommand"),
-        (b"0 mkdir x", b"UnknownCommand"),
-        (b"0 mkdir /x/", b"UnknownCommand"),
-        (b"0 mkdir //x", b"UnknownCommand"),
-        (b"0 mkdir /./x", b"UnknownCommand"),
-        (b"0 mkdir /..", b"UnknownCommand"),
-        (b"0 mkdir /x /y", b"UnknownCommand"),
+        (b"0 foo x", b"UnknownCommand"),
+        (b"0 logout x", b"BadWord 2"),
+        (b"0 quit x", b"BadWord 2"),
+        (b"0 mkdir", b"BadWord 2"),
+        (b"0 mkdir /x /y", b"BadWord 3"),
+        (b"0 mkdir \"\"", b"BadPath 0"),
+        (b"0 mkdir x", b"BadPath 0"),
+        (b"0 mkdir /x/", b"BadPath 3"),
+        (b"0 mkdir //x", b"BadPath 1"),
+        (b"0 mkdir /./x", b"BadPath 2"),
+        (b"0 mkdir /..", b"BadPath 3"),
+        (b"0 put x d0 new 01", b"BadWord 5"),
+        (b"0 put /x d0 old 0", b"BadWord 4"),
+        (b"0 put x d0 new 0", b"BadPath 0"),
+        (b"0 get /x", b"BadWord 3"),
+        (b"0 get /x/. -", b"BadPath 4"),
         (b"\x00", b"Syntax 0"),
         (b"0\tlogin rods", b"Syntax 1"),
         (b"0 login rods\r", b"Syntax 12"),
@@ -149,102 +218,11 @@ fn a_name_has_at_most_255_bytes(rt: HostRuntime) -> Result<(), Fail> {
         alloc,
         &new,
         &input,
-        done(1, b"1 ok\n2 err UnknownCommand\n", 0, b""),
+        done(1, b"1 ok\n2 err BadPath 256\n", 0, b""),
     )?;
     let input = long_name(alloc, 255)?;
     let mut path = input.as_slice()[21.min(input.len())..].to_vec(alloc)?;
     path.push(b'\n')?;
     serves(&rt, alloc, &new, &input, done(1, b"1 ok\n2 ok\n", 2, &path))?;
-    Ok(())
-}
-
-#[test]
-fn bodies_are_passed_over(rt: HostRuntime) -> Result<(), Fail> {
-    let alloc = rt.alloc();
-    let new = begun(alloc)?;
-    for (input, replies) in [
-        // What looks like a request within a body is none, and the next line begins right behind it.
-        (
-            b"0 part 10\n0 login x\n0 login rods\n".as_slice(),
-            b"1 err UnknownCommand\n2 ok\n".as_slice(),
-        ),
-        (
-            b"0 part 3\nabc0 login rods\n",
-            b"1 err UnknownCommand\n2 ok\n",
-        ),
-        (
-            b"0 rules \"3\"\n\n\n\n0 login rods\n",
-            b"1 err UnknownCommand\n2 ok\n",
-        ),
-        (
-            b"0 rules 0\n0 login rods\n",
-            b"1 err UnknownCommand\n2 ok\n",
-        ),
-        // The verb and the last word decide, whatever else is wrong.
-        (
-            b"99 put 3\nabc0 login rods\n",
-            b"1 err UnknownCommand\n2 ok\n",
-        ),
-        (
-            b"0 rules 2 2\nab0 login rods\n",
-            b"1 err UnknownCommand\n2 ok\n",
-        ),
-        // No number, another verb, no verb, no words.
-        (
-            b"0 part +3\n0 login rods\n",
-            b"1 err UnknownCommand\n2 ok\n",
-        ),
-        (
-            b"0 part 03\n0 login rods\n",
-            b"1 err UnknownCommand\n2 ok\n",
-        ),
-        (
-            b"0 part 18446744073709551616\n0 login rods\n",
-            b"1 err UnknownCommand\n2 ok\n",
-        ),
-        (
-            b"0 parts 3\n0 login rods\n",
-            b"1 err UnknownCommand\n2 ok\n",
-        ),
-        (b"put 3\n0 login rods\n", b"1 err UnknownCommand\n2 ok\n"),
-        (b"0 put \"3\n0 login rods\n", b"1 err Syntax 8\n2 ok\n"),
-        // The input ends within a body, and before it.
-        (
-            b"0 part 18446744073709551615\n0 login rods\n",
-            b"1 err UnknownCommand\n",
-        ),
-        (b"0 part 3\nab", b"1 err UnknownCommand\n"),
-        (b"0 part 3", b"1 err UnknownCommand\n"),
-    ] {
-        serves(&rt, alloc, &new, input, done(1, replies, 0, b""))?;
-    }
-    Ok(())
-}
-
-#[test]
-fn a_body_of_several_blocks_is_passed_over(rt: HostRuntime) -> Result<(), Fail> {
-    let alloc = rt.alloc();
-    let new = begun(alloc)?;
-    let mut input = b"0 login rods\n0 part 140000\n".to_vec(alloc)?;
-    for _ in 0..140_000 {
-        input.push(b'\n')?;
-    }
-    input.extend_from_slice(b"0 mkdir /tempZone/home/rods/a\n")?;
-    // Three reads give the bytes, and a fourth one shows the end.
-    let all = b"1 ok\n2 err UnknownCommand\n3 ok\n".as_slice();
-    for (call, replies, last, paths) in [
-        (1, b"".as_slice(), 0, b"".as_slice()),
-        (2, b"1 ok\n", 0, b""),
-        (3, b"1 ok\n", 0, b""),
-        (4, all, 3, A),
-    ] {
-        let setting = Setting {
-            source_fails: call,
-            ..PLAIN
-        };
-        let played = play(&rt, alloc, SERVE, &new, &input, setting)?;
-        compare(&rt, alloc, played, stopped(replies, last, paths))?;
-    }
-    serves(&rt, alloc, &new, &input, done(1, all, 3, A))?;
     Ok(())
 }

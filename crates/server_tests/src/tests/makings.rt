@@ -33,11 +33,11 @@ fn collections_are_made_below_one_another(rt: HostRuntime) -> Result<(), Fail> {
 fn what_stands_there_already_is_looked_at(rt: HostRuntime) -> Result<(), Fail> {
     let alloc = rt.alloc();
     let new = begun(alloc)?;
-    // A new collection has the least free id: here 4, 5, behind the one that is there, and 7.
+    // A new collection has one more than the greatest id: here 7, 8 and 9, behind the one that is there.
     let main = with_record(alloc, &new, SIX)?;
     let input = b"0 login rods\n0 mkdir /a\n0 mkdir /six/b\n0 mkdir /c\n0 mkdir /six\n";
     let replies = b"1 ok\n2 ok\n3 ok\n4 ok\n5 err Exists\n";
-    let served = done(1, replies, 4, b"/a\n/six/b\n/six\n/c\n");
+    let served = done(1, replies, 4, b"/six\n/a\n/six/b\n/c\n");
     serves(&rt, alloc, &main, input, served)?;
     // None is made where an object is, or below it.
     let main = with_record(alloc, &new, AN_OBJECT)?;
@@ -53,8 +53,9 @@ fn users_log_in_and_groups_do_not(rt: HostRuntime) -> Result<(), Fail> {
     let alloc = rt.alloc();
     let main = with_record(alloc, &begun(alloc)?, ALICE_AND_LAB)?;
     let input =
-        b"0 login public\n0 login lab\n0 mkdir /a\n0 login alice\n0 login lab\n0 mkdir /a\n0 login rods\n";
-    let replies = b"1 err NoUser\n2 err NoUser\n3 err NoLogin\n4 ok\n5 err NoUser\n6 ok\n7 ok\n";
-    serves(&rt, alloc, &main, input, done(1, replies, 6, b"/a\n"))?;
+        b"0 login public\n0 login lab\n0 mkdir /a\n0 login alice\n0 login lab\n0 mkdir /a\n0 login rods\n0 mkdir /a\n";
+    let replies =
+        b"1 err NoUser\n2 err NoUser\n3 err NoLogin\n4 ok\n5 err NoUser\n6 err NoAccess\n7 ok\n8 ok\n";
+    serves(&rt, alloc, &main, input, done(1, replies, 8, b"/a\n"))?;
     Ok(())
 }

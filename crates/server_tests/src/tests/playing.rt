@@ -93,6 +93,7 @@ pub(crate) fn outside_of(
 ) -> Result<Outside<MemDisk, MemAmbient>, AllocError>
     requires last { EachMember (λ k store. (⟦<Box<dyn Plugin> as Plugin>⟧.plugin store).last ≡ 0) stores.items }
     ensures main { IfOk result (λ outside. (disk_of outside.main).last ≡ 0) }
+    ensures spare { IfOk result (λ outside. (disk_of outside.spare).last ≡ 0) }
     ensures moments { IfOk result (λ outside. outside.moments ≡ 0) }
     ensures stores { IfOk result (λ outside. outside.stores ≡ stores) }
     ensures last { IfOk result (λ outside. EachMember (λ k store. (⟦<Box<dyn Plugin> as Plugin>⟧.plugin store).last ≡ 0) outside.stores.items) }
@@ -117,6 +118,7 @@ pub(crate) fn run_over<S: Source>(
     sink_fails: u64,
 ) -> Result<Played, AllocError>
     requires main { (disk_of outside.old.main).last ≡ 0 }
+    requires spare { (disk_of outside.old.spare).last ≡ 0 }
     requires last { EachMember (λ k store. (⟦<Box<dyn Plugin> as Plugin>⟧.plugin store).last ≡ 0) outside.old.stores.items }
     requires moments { outside.old.moments ≡ 0 }
     requires stores { (0 < vec_len outside.old.stores) × (vec_len outside.old.stores ≤ 16) }
@@ -189,6 +191,25 @@ pub(crate) fn serves(
 ) -> Result<Vec<u8>, Fail> {
     let played = play(rt, alloc, SERVE, main, input, PLAIN)?;
     compare(rt, alloc, played, wanted)
+}
+
+// Serves these requests, each with its body, over main: each has its reply.
+pub(crate) fn follows(
+    rt: &impl Abort,
+    alloc: Global,
+    main: &[u8],
+    steps: &[(&[u8], &[u8])],
+    last: u64,
+    paths: &[u8],
+) -> Result<(), Fail> {
+    let mut input = Vec::new(alloc);
+    let mut replies = Vec::new(alloc);
+    for (request, reply) in steps {
+        input.extend_from_slice(request)?;
+        replies.extend_from_slice(reply)?;
+    }
+    serves(rt, alloc, main, &input, done(1, &replies, last, paths))?;
+    Ok(())
 }
 
 // Runs these words, with an input that would log in and make a collection. Main, spare and the stores stay as they

@@ -19,8 +19,7 @@ fn a_grid_is_begun_and_served_twice(rt: HostRuntime) -> Result<(), Fail> {
     let main = compare(&rt, alloc, played, done(0, b"ok\n", 0, b""))?;
     let input =
         b"0 mkdir /x\n0 login rods\n0 mkdir /tempZone/home/rods/a\n0 mkdir /tempZone/home/rods/a\n0 mkdir /tempZone/home/rods/b/c\n0 mkdir x\n";
-    let replies =
-        b"1 err NoLogin\n2 ok\n3 ok\n4 err Exists\n5 err NoCollection\n6 err UnknownCommand\n";
+    let replies = b"1 err NoLogin\n2 ok\n3 ok\n4 err Exists\n5 err NoCollection\n6 err BadPath 0\n";
     let a = b"/tempZone/home/rods/a\n";
     let main = serves(&rt, alloc, &main, input, done(1, replies, 3, a))?;
     let input = b"0 login rods\n0 mkdir /tempZone/home/rods/a\n";

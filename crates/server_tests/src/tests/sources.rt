@@ -1,5 +1,5 @@
 // An input that fails.
-use super::playing::{Outcome, PLAIN, SERVE, begun, compare, done, play_from};
+use super::playing::{Outcome, PLAIN, SERVE, Setting, begun, compare, done, play, play_from};
 use grid_mem::MemSource;
 use grid_outside::{Source, SourceFault};
 use grid_server::Status;
@@ -79,4 +79,43 @@ fn a_source_may_fail_at_each_byte(rt: HostRuntime) -> Result<(), Fail> {
     let replies = b"1 ok\n2 ok\n3 ok\n";
     let all = done(1, replies, 3, b"/b\n/tempZone/home/rods/a\n");
     stops_after(&rt, alloc, &new, 55, all)
+}
+
+#[test]
+fn nothing_is_read_behind_a_quit(rt: HostRuntime) -> Result<(), Fail> {
+    let alloc = rt.alloc();
+    let new = begun(alloc)?;
+    // One read gives all, and another one would fail. Nobody needs to be logged in, a body is passed over, a quit that is
+    // refused ends nothing, and one without its newline is not known to be whole.
+    let setting = Setting {
+        source_fails: 2,
+        ..PLAIN
+    };
+    for (input, wanted) in [
+        (
+            b"5 quit\n0 login rods\n".as_slice(),
+            done(1, b"1 ok\n", 0, b""),
+        ),
+        (
+            b"0 login rods\n0 mkdir /b\n0 quit\n0 mkdir /c\n\x00\n0 put /f d0 new 1\n",
+            done(1, b"1 ok\n2 ok\n3 ok\n", 2, b"/b\n"),
+        ),
+        (
+            b"0 part 7\n5 quit\n0 login rods\n0 quit\n",
+            done(1, b"1 err UnknownCommand\n2 ok\n3 ok\n", 0, b""),
+        ),
+        (
+            b"0 login rods\n64 quit\n0 quit x\n0 mkdir /b\n",
+            stopped(
+                b"1 ok\n2 err BadWord 0\n3 err BadWord 2\n4 ok\n",
+                4,
+                b"/b\n",
+            ),
+        ),
+        (b"0 login rods\n0 quit", stopped(b"1 ok\n", 0, b"")),
+    ] {
+        let played = play(&rt, alloc, SERVE, &new, input, setting)?;
+        compare(&rt, alloc, played, wanted)?;
+    }
+    Ok(())
 }

@@ -12,7 +12,7 @@ use std::process::Abort;
 use std::test::Fail;
 
 const INPUT: &[u8] = b"0 login rods\n0 mkdir /tempZone/home/rods/a\n0 mkdir /\n\
-0 put /tempZone/home/rods/a/f d0 new 1\nx0 mkdir /tempZone/home/rods/a/b\n";
+0 put /tempZone/home/rods/a/f d0 new 1\nx0 get /tempZone/home/rods/a/f -\n0 mkdir /tempZone/home/rods/a/b\n";
 
 const A: &[u8] = b"/tempZone/home/rods/a\n";
 
@@ -61,14 +61,21 @@ const WITH_F: Stand = Stand {
     paths: F_AND_A,
 };
 
-const WITH_B: Stand = Stand {
+// The get keeps its number alone.
+const WITH_GET: Stand = Stand {
     run: 1,
     last: 5,
+    paths: F_AND_A,
+};
+
+const WITH_B: Stand = Stand {
+    run: 1,
+    last: 6,
     paths: ALL,
 };
 
 // Each record is written and synced, and then its gate. The moments between are those of replies and of the store.
-const STEPS: [Step; 20] = [
+const STEPS: [Step; 24] = [
     Step {
         moment: 1,
         before: NEW,
@@ -150,11 +157,6 @@ const STEPS: [Step; 20] = [
         after: WITH_F,
     },
     Step {
-        moment: 24,
-        before: WITH_F,
-        after: WITH_F,
-    },
-    Step {
         moment: 25,
         before: WITH_F,
         after: WITH_F,
@@ -162,10 +164,35 @@ const STEPS: [Step; 20] = [
     Step {
         moment: 26,
         before: WITH_F,
-        after: WITH_B,
+        after: WITH_F,
     },
     Step {
         moment: 27,
+        before: WITH_F,
+        after: WITH_GET,
+    },
+    Step {
+        moment: 28,
+        before: WITH_GET,
+        after: WITH_GET,
+    },
+    Step {
+        moment: 30,
+        before: WITH_GET,
+        after: WITH_GET,
+    },
+    Step {
+        moment: 31,
+        before: WITH_GET,
+        after: WITH_GET,
+    },
+    Step {
+        moment: 32,
+        before: WITH_GET,
+        after: WITH_B,
+    },
+    Step {
+        moment: 33,
         before: WITH_B,
         after: WITH_B,
     },
@@ -257,6 +284,7 @@ fn serve_session(
     outside: &mut Outside<MemDisk, MemAmbient>,
 ) -> Result<(), Fail>
     requires main { (disk_of outside.old.main).last ≡ 0 }
+    requires spare { (disk_of outside.old.spare).last ≡ 0 }
     requires last { EachMember (λ k store. (⟦<Box<dyn Plugin> as Plugin>⟧.plugin store).last ≡ 0) outside.old.stores.items }
     requires moments { outside.old.moments ≡ 0 }
     requires stores { (0 < vec_len outside.old.stores) × (vec_len outside.old.stores ≤ 16) }

@@ -5,10 +5,11 @@ use Rattle.grid_model.specs.Rows.{Cat}
 use Rattle.grid_model.specs.declared.deltas.Numbers.{Numbers}
 use Rattle.grid_journal.specs.Stands.{StandsEither}
 use Rattle.grid_server.specs.declared.opening.BeginError.{BeginError}
-use Rattle.grid_server.specs.Opening.{begun, BeginEnds}
-use Rattle.grid_server.proofs.KeepingLemmas.{keeps_stands, rests_same, rests_where, goes_nowhere, goes_between, of_commit}
-use Rattle.grid_server.proofs.OpeningLemmas.{grid_begun, is_begun, begun_well, begun_in_vain, room_of}
-use Rattle.grid_server.proofs.WearingLemmas.{within, room_committed, room_same}
+use Rattle.grid_server.specs.Opening.{BeginEnds}
+use Rattle.run_laws.specs.Sofar.{begun}
+use Rattle.grid_deed.proofs.Frames.{goes_nowhere, goes_between, room_committed, room_same, small_gate}
+use Rattle.grid_server.proofs.RestLemmas.{keeps_stands, rests_same, rests_where, of_commit}
+use Rattle.grid_server.proofs.OpeningLemmas.{is_begun, begun_well, begun_in_vain, room_of}
 use Rattle.grid_server.specs.Stopping.{begin_error_of}
 use Rattle.grid_journal.specs.declared.error.JournalError.TheVariants as journal
 use Rattle.grid_outside.specs.declared.outside.Wear.TheVariants.{Log}
@@ -20,7 +21,6 @@ returns-then-last-clause-begins g c =
     let found = c.args.store.cat in
     let last : c.numbers-last.result ≡ found.numbers = c.numbers-last.ensures ∙ ap (λ (c : Cat). c.numbers) c.tables.ensures in
     record {
-      grid = grid_begun found c.requires.made;
       ends = (rests_same main, ap (λ (n : Numbers). n.run) last, c.if-last.true);
       main = goes_nowhere c.args.moments.now main;
       leaves = λ told settled. leaves_start c.args.moments.now (StandsEither found (begun found)) main c.requires.main_last settled (inl (keeps_stands found c.args.store main.holds (c.requires.keeps told)));
@@ -31,7 +31,16 @@ returns-in_default-clause-begins g c =
     let main = g.D.Disk.disk c.args.main.now in
     let found = c.args.store.cat in
     record {
-      grid = grid_begun found c.requires.made;
+      ends = rests_same main;
+      main = goes_nowhere c.args.moments.now main;
+      leaves = λ told settled. leaves_start c.args.moments.now (StandsEither found (begun found)) main c.requires.main_last settled (inl (keeps_stands found c.args.store main.holds (c.requires.keeps told)));
+    }
+
+pub returns-in_default-one-clause-begins : goal.returns-in_default-one-clause-begins
+returns-in_default-one-clause-begins g c =
+    let main = g.D.Disk.disk c.args.main.now in
+    let found = c.args.store.cat in
+    record {
       ends = rests_same main;
       main = goes_nowhere c.args.moments.now main;
       leaves = λ told settled. leaves_start c.args.moments.now (StandsEither found (begun found)) main c.requires.main_last settled (inl (keeps_stands found c.args.store main.holds (c.requires.keeps told)));
@@ -45,12 +54,11 @@ returns-in-Ok-commit-clause-begins g c =
     let main_old = g.D.Disk.disk c.args.main.now in
     let main_new = g.D.Disk.disk c.commit.new.main in
     let store = c.args.store in
-    let is = is_begun store.cat c.requires.made c.tables.result.now c.tables.ensures c.numbers-last.result c.numbers-last.ensures c.in-Ok.deltas c.in-Ok.ensures in
+    let is = is_begun store.cat c.requires.made c.tables.result.now c.tables.ensures c.numbers-last.result c.numbers-last.ensures c.in-Ok-one.deltas c.in-Ok-one.ensures in
     let done = c.in-Ok-commit.ensures in
     record {
-      grid = grid_begun store.cat c.requires.made;
       ends =
-          begun_well store c.commit.new.self c.in-Ok.deltas main_old main_new c.requires.made is done.commits (λ told. done.keeps told store.cat (c.requires.keeps told)) done.span.tells done.settled
+          begun_well store c.commit.new.self c.in-Ok-one.deltas main_old main_new c.in-Ok.sessions c.requires.made c.requires.pending c.requires.rules c.in-Ok.ensures is done.commits (λ told. done.keeps told store.cat (c.requires.keeps told)) done.span.tells done.settled
           (room_of store main_old (λ e. c.if-last.false (ap (λ (n : Numbers). n.run) (c.numbers-last.ensures ∙ ap (λ (c : Cat). c.numbers) c.tables.ensures) ∙ e)) (λ far. (let worn = (done.worn Log store.log.gate).1 (refl, refl, far) in cc)) c.requires.keeps);
       main = goes_between c.args.moments.now _ _ main_old main_new done.span;
       leaves = λ told settled. done.any_moment told settled store.cat (begun store.cat) (c.requires.keeps told) is;
@@ -61,11 +69,10 @@ returns-in-Err-clause-begins g c =
     let main_old = g.D.Disk.disk c.args.main.now in
     let main_new = g.D.Disk.disk c.commit.new.main in
     let store = c.args.store in
-    let is = is_begun store.cat c.requires.made c.tables.result.now c.tables.ensures c.numbers-last.result c.numbers-last.ensures c.in-Ok.deltas c.in-Ok.ensures in
+    let is = is_begun store.cat c.requires.made c.tables.result.now c.tables.ensures c.numbers-last.result c.numbers-last.ensures c.in-Ok-one.deltas c.in-Ok-one.ensures in
     let done = c.in-Err.ensures in
     let R : BeginError → Type 0 = λ e. BeginEnds store.cat main_old main_new (Err e) in
     record {
-      grid = grid_begun store.cat c.requires.made;
       ends =
           subst R (sym c.begin_error_of.ensures)
           (begun_in_vain store main_old main_new c.in-Err.error (of_commit c.in-Err.error (λ side at. ((λ e. (done.no_other side at).0 (ap Err e)), (λ e. (done.no_other side at).1 (ap Err e)))))
@@ -77,7 +84,7 @@ returns-in-Err-clause-begins g c =
     }
 
 pub commit-requires-clause-apply : goal.commit-requires-clause-apply
-commit-requires-clause-apply g c = ap is_ok (is_begun c.args.store.cat c.requires.made c.tables.result.now c.tables.ensures c.numbers-last.result c.numbers-last.ensures c.in-Ok.deltas c.in-Ok.ensures)
+commit-requires-clause-apply g c = ap is_ok (is_begun c.args.store.cat c.requires.made c.tables.result.now c.tables.ensures c.numbers-last.result c.numbers-last.ensures c.in-Ok-one.deltas c.in-Ok-one.ensures)
 
 -- where a record was added there was room for it
 pub returns-in-Ok-commit-clause-in_room : goal.returns-in-Ok-commit-clause-in_room
@@ -85,8 +92,8 @@ returns-in-Ok-commit-clause-in_room g c not_disk told =
     let done = c.in-Ok-commit.ensures in
     let store = c.args.store in
     let keeps = c.requires.keeps told in
-    inr (room_committed store.cat store c.commit.new.self c.in-Ok.deltas _ (g.D.Disk.disk c.args.main.now).holds (g.D.Disk.disk c.commit.new.main).holds keeps done.commits (done.added told store.cat keeps)
-    (within store.log.gate (λ past. (let worn = (done.worn Log store.log.gate).1 (refl, refl, past) in cc))))
+    inr (room_committed store.cat store c.commit.new.self c.in-Ok-one.deltas _ (g.D.Disk.disk c.args.main.now).holds (g.D.Disk.disk c.commit.new.main).holds keeps done.commits (done.added told store.cat keeps)
+    (small_gate store.log.gate (λ past. (let worn = (done.worn Log store.log.gate).1 (refl, refl, past) in cc))))
 
 pub returns-in-Err-clause-in_room : goal.returns-in-Err-clause-in_room
 returns-in-Err-clause-in_room g c not_disk =

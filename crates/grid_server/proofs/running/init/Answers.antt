@@ -5,7 +5,7 @@ use Rattle.grid_journal.specs.declared.error.JournalError.TheVariants as journal
 use Rattle.grid_model.specs.declared.grid.Side.TheVariants.{Main}
 use Rattle.grid_server.specs.Starting.{Started}
 use Rattle.grid_server.proofs.OpenedLemmas.{grid_start}
-use Rattle.grid_server.proofs.RunLemmas.{looked_rests}
+use Rattle.grid_server.proofs.RestLemmas.{looked_rests}
 use Rattle.grid_server.proofs.running.init.Goals as goal
 
 pub unreachable-requires : goal.unreachable-requires
@@ -38,15 +38,3 @@ pub returns-in-Err-Memory-clause-inits : goal.returns-in-Err-Memory-clause-inits
 returns-in-Err-Memory-clause-inits g c =
     let memory = c.in-Err-Memory.field-0-is in
     inr (inr (inr (refl, looked_rests (g.D.Disk.disk c.args.outside.now.main) (g.D.Disk.disk c.init.new.main) (c.in-Err-Memory.ensures.unchanged journal.Memory (ap Err memory) (λ e. cc)).0 c.init.ensures.main_later, λ told. refl)))
-
-pub returns-in-Ok-clause-stores_last : goal.returns-in-Ok-clause-stores_last
-returns-in-Ok-clause-stores_last g c = λ k store at. omega (arith, c.requires.stores_last k store at, c.init.ensures.drawn_from, c.say.ensures.drawn_from)
-
-pub returns-in-Err-NotEmpty-clause-stores_last : goal.returns-in-Err-NotEmpty-clause-stores_last
-returns-in-Err-NotEmpty-clause-stores_last g c = λ k store at. omega (arith, c.requires.stores_last k store at, c.init.ensures.drawn_from, c.refuse_start.ensures.drawn_from)
-
-pub returns-in-Err-DiskFault-clause-stores_last : goal.returns-in-Err-DiskFault-clause-stores_last
-returns-in-Err-DiskFault-clause-stores_last g c = λ k store at. omega (arith, c.requires.stores_last k store at, c.init.ensures.drawn_from)
-
-pub returns-in-Err-Memory-clause-stores_last : goal.returns-in-Err-Memory-clause-stores_last
-returns-in-Err-Memory-clause-stores_last g c = λ k store at. omega (arith, c.requires.stores_last k store at, c.init.ensures.drawn_from)

@@ -1,6 +1,7 @@
-use Rattle.std.proofs.Common.{arith, inl, inr}
-use Rattle.grid_server.proofs.RunLemmas.{serve_or_init, inits_so, complete, complete_init, asked_names, usage_says_none, usage_says_no_stores}
-use Rattle.grid_server.proofs.WholeLemmas.{start_whole_as}
+use Rattle.std.proofs.Common.{arith, inl, inr, refl, sym, ap, ◌∙◌, ◌≤◌, subst}
+use Rattle.grid_server.specs.Serving.{TookFew}
+use Rattle.grid_server.specs.declared.status.Status.TheVariants as status
+use Rattle.grid_server.proofs.RunLemmas.{serve_or_init, inits_so, complete, complete_init, asked_names, usage_says_none, usage_says_no_stores, no_both, says_another, start_whole_as, took_none, long_fits}
 use Rattle.grid_server.proofs.running.run.Goals as goal
 
 pub init-requires-clause-zone : goal.init-requires-clause-zone
@@ -15,11 +16,6 @@ returns-in-Serve-clause-init g c = λ zone admin asks. absurd (serve_or_init c.i
 pub returns-in-Serve-clause-init_all : goal.returns-in-Serve-clause-init_all
 returns-in-Serve-clause-init_all g c = λ zone admin asks. absurd (serve_or_init c.in-Serve.ensures asks)
 
-pub returns-in-Serve-clause-serve_all : goal.returns-in-Serve-clause-serve_all
-returns-in-Serve-clause-serve_all g c = λ found asks told source_told stood stores fits main spare source sink.
-    complete g.P.Plugin.plugin c.args.outside.now.stores.items c.serve.new.outside.stores.items (g.A.Ambient.ambient c.args.outside.now.ambient) (g.A.Ambient.ambient c.serve.new.outside.ambient) found c.args.outside.now.moments (g.D.Disk.disk c.args.outside.now.main) (g.D.Disk.disk c.serve.new.outside.main) (g.S.Source.source c.args.source.now) (g.S.Source.source c.serve.new.source) (g.K.Sink.sink c.args.sink.now)
-    (g.K.Sink.sink c.serve.new.sink) c.serve.result (c.serve.ensures.serve found told source_told stood stores) fits (λ e. main (c.serve.ensures.disk e)) (λ e. source (c.serve.ensures.source e)) (λ e. sink (c.serve.ensures.sink e))
-
 pub returns-in-Init-clause-init : goal.returns-in-Init-clause-init
 returns-in-Init-clause-init g c = λ zone admin asks.
     inits_so c.in-Init.zone.now c.in-Init.admin.now zone admin _ (g.D.Disk.disk c.args.outside.now.main) (g.D.Disk.disk c.init.new.outside.main) (g.D.Disk.disk c.args.outside.now.spare) (g.K.Sink.sink c.args.sink.now) (g.K.Sink.sink c.init.new.sink)
@@ -29,9 +25,6 @@ pub returns-in-Init-clause-init_all : goal.returns-in-Init-clause-init_all
 returns-in-Init-clause-init_all g c = λ zone admin asks main_told spare_told main_empty spare_empty main spare sink.
     complete_init c.in-Init.zone.now c.in-Init.admin.now _ (g.D.Disk.disk c.args.outside.now.main) (g.D.Disk.disk c.init.new.outside.main) (g.D.Disk.disk c.args.outside.now.spare) (g.K.Sink.sink c.args.sink.now) (g.K.Sink.sink c.init.new.sink)
     c.init.result c.init.ensures.inits main_told spare_told main_empty spare_empty (λ e. elim (c.init.ensures.disk e) [ inl rose ↦ main rose | inr rose ↦ spare rose ]) (λ e. sink (c.init.ensures.sink e))
-
-pub returns-in-Init-clause-serve : goal.returns-in-Init-clause-serve
-returns-in-Init-clause-serve g c = λ found asks. absurd (serve_or_init asks c.in-Init.ensures)
 
 pub returns-in-Init-clause-stores : goal.returns-in-Init-clause-stores
 returns-in-Init-clause-stores g c = λ found asks. absurd (serve_or_init asks c.in-Init.ensures)
@@ -48,15 +41,6 @@ returns-in-Nothing-clause-not_a_catalogue g c = λ side place is told. absurd (u
 pub returns-in-Nothing-clause-stores_only : goal.returns-in-Nothing-clause-stores_only
 returns-in-Nothing-clause-stores_only g c = λ had given is. absurd (usage_says_no_stores _ c.say.result (g.K.Sink.sink c.args.sink.now) (g.K.Sink.sink c.say.new.sink) had given c.say.ensures.says is)
 
-pub returns-in-Nothing-clause-stores_last : goal.returns-in-Nothing-clause-stores_last
-returns-in-Nothing-clause-stores_last g c = λ k store at. omega (arith, c.requires.stores_last k store at, c.say.ensures.drawn_from)
-
-pub returns-in-Serve-clause-whole : goal.returns-in-Serve-clause-whole
-returns-in-Serve-clause-whole g c = λ found asks. c.serve.ensures.whole found
-
-pub returns-in-Init-clause-whole : goal.returns-in-Init-clause-whole
-returns-in-Init-clause-whole g c = λ found asks. absurd (serve_or_init asks c.in-Init.ensures)
-
 pub returns-in-Serve-clause-init_whole : goal.returns-in-Serve-clause-init_whole
 returns-in-Serve-clause-init_whole g c = λ zone admin t asks. absurd (serve_or_init c.in-Serve.ensures asks)
 
@@ -72,3 +56,53 @@ returns-in-Init-clause-worn g c = λ found asks. absurd (serve_or_init asks c.in
 
 pub returns-in-Init-clause-in_room : goal.returns-in-Init-clause-in_room
 returns-in-Init-clause-in_room g c = λ asks. absurd (serve_or_init asks c.in-Init.ensures)
+
+pub returns-in-Init-clause-serve : goal.returns-in-Init-clause-serve
+returns-in-Init-clause-serve g c = λ asks. absurd (serve_or_init asks c.in-Init.ensures)
+
+pub returns-in-Init-clause-not_plain : goal.returns-in-Init-clause-not_plain
+returns-in-Init-clause-not_plain g c = λ found asks. absurd (serve_or_init asks c.in-Init.ensures)
+
+pub returns-in-Init-clause-not_plain_only : goal.returns-in-Init-clause-not_plain_only
+returns-in-Init-clause-not_plain_only g c = λ found is. absurd (c.init.ensures.no_run.0 is)
+
+pub returns-in-Init-clause-long_only : goal.returns-in-Init-clause-long_only
+returns-in-Init-clause-long_only g c = λ taken is. absurd (c.init.ensures.no_run.1 taken is)
+
+pub returns-in-Init-clause-worn_only : goal.returns-in-Init-clause-worn_only
+returns-in-Init-clause-worn_only g c = λ found what place is. absurd (c.init.ensures.no_run.2 what place is)
+
+pub returns-in-Init-clause-took : goal.returns-in-Init-clause-took
+returns-in-Init-clause-took g c = λ told. took_none (g.S.Source.source c.args.source.now)
+
+pub returns-in-Nothing-clause-not_plain_only : goal.returns-in-Nothing-clause-not_plain_only
+returns-in-Nothing-clause-not_plain_only g c = λ found is.
+    absurd (says_another _ status.Usage c.say.result status.NotPlain (g.K.Sink.sink c.args.sink.now) (g.K.Sink.sink c.say.new.sink) (λ e. cc e) (λ e. cc e) c.say.ensures.says is)
+
+pub returns-in-Nothing-clause-long_only : goal.returns-in-Nothing-clause-long_only
+returns-in-Nothing-clause-long_only g c = λ taken is.
+    absurd (says_another _ status.Usage c.say.result (status.Long taken) (g.K.Sink.sink c.args.sink.now) (g.K.Sink.sink c.say.new.sink) (λ e. cc e) (λ e. cc e) c.say.ensures.says is)
+
+pub returns-in-Nothing-clause-worn_only : goal.returns-in-Nothing-clause-worn_only
+returns-in-Nothing-clause-worn_only g c = λ found what place is.
+    absurd (says_another _ status.Usage c.say.result (status.Worn what place) (g.K.Sink.sink c.args.sink.now) (g.K.Sink.sink c.say.new.sink) (λ e. cc e) (λ e. cc e) c.say.ensures.says is)
+
+pub returns-in-Nothing-clause-took : goal.returns-in-Nothing-clause-took
+returns-in-Nothing-clause-took g c = λ told. took_none (g.S.Source.source c.args.source.now)
+
+pub returns-in-Nothing-clause-stores_last : goal.returns-in-Nothing-clause-stores_last
+returns-in-Nothing-clause-stores_last g c = λ k store at. omega (arith, c.requires.stores_last k store at, c.say.ensures.went.drawn_from)
+
+pub returns-in-Serve-clause-serve : goal.returns-in-Serve-clause-serve
+returns-in-Serve-clause-serve g c = λ asks. c.serve.ensures.serve
+
+pub returns-in-Serve-clause-serve_all : goal.returns-in-Serve-clause-serve_all
+returns-in-Serve-clause-serve_all g c = λ found asks told source_told stood stores plain fits main spare source sink.
+    complete c.serve.result c.serve.ensures.ends (λ e. main (c.serve.ensures.passes.frame.cause e)) (λ e. source (c.serve.ensures.source e)) (λ e. sink (c.serve.ensures.passes.sink_cause e))
+    (λ e. c.serve.ensures.not_plain_only found e told stood plain)
+    (λ taken e. let most = (c.serve.ensures.long_only taken e).1 source_told in long_fits (g.S.Source.source c.args.source.now) (g.S.Source.source c.serve.new.source) most.0 most.1 fits)
+    (λ side place e. no_both (g.D.Disk.disk c.args.outside.now.main).holds (g.D.Disk.disk c.args.outside.now.spare).holds found side place stood (c.serve.ensures.not_a_catalogue side place e told))
+    (λ had given e. let only = c.serve.ensures.stores_only had given e in only.0 (only.2 found told stood ∙ stores ∙ sym only.1))
+
+pub returns-in-Init-clause-serving : goal.returns-in-Init-clause-serving
+returns-in-Init-clause-serving g c = λ asks. absurd (serve_or_init asks c.in-Init.ensures)

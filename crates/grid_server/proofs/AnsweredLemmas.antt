@@ -1,0 +1,80 @@
+-- A request that is handled behind those that were answered.
+use Rattle.std.proofs.Common.{◌≡◌, ◌⊎◌, inl, inr, ℕ, ◌+◌, ◌<◌, ◌≤◌, Bool, true, false, List, [], ◌∷◌, ◌++◌, length, length-append, refl, sym, ap, ◌∙◌, subst, arith, IsTrue}
+use Rattle.std.specs.Prelude.{Option, Some, None, Result, Ok, Err, ⊤}
+use Rattle.std.specs.List.{AllByRecursion}
+use Rattle.grid_outside.specs.Device.{IsSettled}
+use Rattle.grid_outside.specs.Files.{Files}
+use Rattle.grid_model.specs.Names.{Text}
+use Rattle.grid_model.specs.Inputs.{Asked}
+use Rattle.grid_model.specs.Rows.{Cat}
+use Rattle.grid_model.specs.Sessions.{State}
+use Rattle.grid_model.specs.Runs.{Request}
+use Rattle.grid_model.specs.declared.deltas.Pending.{Pending}
+use Rattle.grid_journal.specs.Stands.{Stands, stands as made_of, StandsFor}
+use Rattle.grid_headline.specs.Files.{DisksAreSettled, WereWhole, AllStayWhole, NamesCall}
+use Rattle.grid_headline.specs.Reads.{MeansRequest, EndsInput}
+use Rattle.grid_headline.specs.Worlds.{World}
+use Rattle.run_laws.specs.Sofar.{BeginsPlainly, CallsGoOn, KeepsWhole, Sofar}
+use Rattle.grid_model.specs.Working.{Done}
+use Rattle.run_laws.specs.Steps.{ComesAfter, kept, nothing}
+use Rattle.run_laws.proofs.RunLaws.{one_more}
+use Rattle.cmd_run.specs.Fits.{FitsMain, state_of}
+use Rattle.cmd_run.specs.Obeys.{Obeys, handled, quiet}
+use Rattle.cmd_run.specs.declared.server.Server.{Server}
+use Rattle.cmd_run.specs.declared.server.Ending.{Ending}
+use Rattle.run_laws.specs.declared.around.Around.{Around}
+use Rattle.grid_server.specs.Turning.{Command, Commanded}
+use Rattle.grid_server.specs.Views.{Views, world_of}
+
+-- what the disks stand for does not hang on spare
+pub any_spare : {main spare : Text} {c : Cat} → Stands main spare (Ok c) → StandsFor main c
+any_spare (made_of records c head log replays zone) spare = made_of records c head log replays zone
+
+-- the files stay whole while a request is handled
+pub keeps_whole : {D S K A P : Type 0} (v : Views D S K A P) (a b : Around D S K A P) (c : Command) (r : Result ⊤ Ending) (after : Server) → IsTrue (v.disk a.outside.main).tells
+    → Commanded (world_of v a) (world_of v b) c r after → KeepsWhole (world_of v a) (world_of v b) c.before.store.cat
+keeps_whole v a b c r after told cmd settled whole t main spare d late left its =
+    let stood = any_spare its in
+    let was = cmd.whole told settled.of_main (λ s late. (
+    let w = whole s late in
+    record { rows = w.rows; files = λ slot store image is tells left. w.files slot image (record { store = store; is = is; tells = tells; of_store = left }) }
+    )) t main d late left.of_main stood in
+    record {
+      rows = was.rows;
+      call = (cmd.remembers told settled.of_main t main d late left.of_main stood).0;
+      files = λ slot image there. was.files slot there.store image there.is there.tells there.of_store;
+    }
+
+all_then : (asked : List Asked) (a : Asked) → AllByRecursion (λ x. ¬ EndsInput x) asked → ¬ EndsInput a → AllByRecursion (λ x. ¬ EndsInput x) (asked ++ a ∷ [])
+all_then [] a none not = (not, tt)
+all_then (x ∷ asked) a none not = (none.0, all_then asked a none.1 not)
+
+pub none_end_more : (asked : List Asked) (a : Asked) → AllByRecursion (λ x. ¬ EndsInput x) asked → ¬ EndsInput a → AllByRecursion (λ x. ¬ EndsInput x) (asked ++ a ∷ [])
+none_end_more = all_then
+
+pub none_end_at : (all : List Asked) → AllByRecursion (λ x. ¬ EndsInput x) all → (a : Asked) (front behind : List Asked) → all ≡ front ++ a ∷ behind → ¬ EndsInput a
+none_end_at [] none a [] behind e = absurd cc
+none_end_at [] none a (f ∷ front) behind e = absurd cc
+none_end_at (x ∷ all) none a [] behind e = let same : x ≡ a = cc in subst (λ (y : Asked). ¬ EndsInput y) same none.0
+none_end_at (x ∷ all) none a (f ∷ front) behind e = let rest : all ≡ front ++ a ∷ behind = cc in none_end_at all none.1 a front behind rest
+
+-- the number of the next request
+pub obeys_at : {B : Type 0} (old new : World B) (before : Server) (m n : ℕ) (request : Request) (r : Result ⊤ Ending) (after : Server) → m ≡ n → Obeys old new before (m + 1) request r after → Obeys old new before (n + 1) request r after
+obeys_at old new before m n request r after e o = let O : ℕ → Type 0 = λ k. Obeys old new before (k + 1) request r after in subst O e o
+
+module _ {B : Type 0} {old mid new : World B} {found : Cat} {before : Server} {asked : List Asked} {a : Asked} {request : Request} (after : Server) (plain : BeginsPlainly old found)
+    (so : Sofar old mid found before.store.cat (state_of before) asked) (goes : CallsGoOn mid new before.store.cat) (means : MeansRequest (state_of before) a request) where
+  -- it was handled whole, and does not end the input
+  pub answered_more : (done : ⊤) → Obeys mid new before (length asked + 1) request (Ok done) after → ¬ EndsInput a → Sofar old new found after.store.cat (state_of after) (asked ++ a ∷ [])
+  answered_more done (handled step ends) not = one_more plain so goes means not step ends.0
+  answered_more done (quiet ending e q) not = absurd (cc e)
+
+-- it fits, and the catalogue is of as many stores
+pub fits_more : {B : Type 0} (old new : World B) (before : Server) (n : ℕ) (request : Request) (done : ⊤) (after : Server) → Obeys old new before n request (Ok done) after
+    → FitsMain new.main after × (after.store.cat.stores ≡ before.store.cat.stores)
+fits_more old new before n request done after (handled step ends) = (ends.1, stores_of ends.0.follows)
+  where
+    stores_of : {d : Done} → ComesAfter before.store.cat n d after.store.cat → after.store.cat.stores ≡ before.store.cat.stores
+    stores_of (kept its) = its.stores
+    stores_of (nothing same marks grid) = ap (λ (c : Cat). c.stores) same
+fits_more old new before n request done after (quiet ending e q) = absurd (cc e)

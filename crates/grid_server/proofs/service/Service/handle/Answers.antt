@@ -1,0 +1,21 @@
+use Rattle.std.proofs.Common.{ap, ◌∙◌, refl, sym}
+use Rattle.grid_outside.specs.declared.outside.Wear.TheVariants.{Vaults}
+use Rattle.grid_server.specs.Turning.{after}
+use Rattle.grid_server.specs.Views.{Views}
+use Rattle.grid_server.proofs.TurnLemmas.{after_disk, after_sink, after_worn}
+use Rattle.grid_server.proofs.service.Service.handle.Goals as goal
+
+pub returns-clause-commands : goal.returns-clause-commands
+returns-clause-commands g c = (
+  c.command-answered.result,
+  c.after.ensures ∙ ap (λ l. after l c.command-answered.result) c.is_last-last.ensures,
+  λ source. record {
+    obeys = c.command-answered.ensures.obeys source;
+    worn = c.command-answered.ensures.worn source;
+    whole = c.command-answered.ensures.whole;
+    remembers = c.command-answered.ensures.remembers;
+  },
+)
+
+pub returns-clause-untouched : goal.returns-clause-untouched
+returns-clause-untouched g c = λ place is. c.command-answered.ensures.untouched place (after_worn Vaults place c.is_last-last.result c.command-answered.result (sym c.after.ensures ∙ is))
