@@ -90,7 +90,8 @@ module _ (made : List NewFile) (body : Text) (c d : Cat) where
     still_resourced slot name (by_replica q) n = (n.0, n.1, of_replica q (in_of c.replicas q n.0) ∙ n.2)
     still_resourced slot name (by_orphan x) n = n
 
-    back_resourced : (slot name : ℕ) (x : Naming) → Names resourced slot name x → Names c slot name x
+    -- and each that is named by a row was
+    pub back_resourced : (slot name : ℕ) (x : Naming) → Names resourced slot name x → Names c slot name x
     back_resourced slot name (by_replica q) n = (n.0, n.1, sym (of_replica q (in_of c.replicas q n.0)) ∙ n.2)
     back_resourced slot name (by_orphan x) n = n
 

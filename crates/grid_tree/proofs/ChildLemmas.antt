@@ -31,15 +31,15 @@ use Rattle.tables_laws.proofs.Standing.{ResourceStands}
 use Rattle.tables_laws.proofs.Sound.{IsSound}
 use Rattle.grid_access.proofs.MapEntries.{in_from_map, map_from_in, entry_of_row}
 use Rattle.grid_tree.specs.Names.{AreNamed}
+use Rattle.grid_tree.specs.Ordered.{child_of, AreInOrder}
 use Rattle.grid_tree.specs.Steps.{lies_below}
 use Rattle.grid_tree.specs.declared.siblings.Child.{Child}
 use Rattle.grid_tree.proofs.Named.{sound_of, get-row, name_is}
 use Rattle.grid_tree.proofs.OwnPlaces.{places-made}
 use Rattle.grid_tree.proofs.Alike.{same_sorted, in_of, contains_of, less_number, sorted-map, sorted-entries, by_number, in_from_placed, placed_from_in, placed-sorted}
 
--- what is kept of a row
-abbrev pub child_of : ResourceRow → Child
-child_of r = record { place = r.place; id = r.id }
+pub in_order : (c : Cat) (parent : ℕ) (found kids : List Child) → found ≡ map child_of (filter (lies_below parent) c.resources) → IsPermutation found kids → IsNonDecreasingBy (λ (k : Child). k.place) kids → AreInOrder c parent kids
+in_order c parent found kids is moved rise = record { are = subst (λ (ks : List Child). IsPermutation ks kids) is moved; rise = rise }
 
 module _ (c : Cat) (m : IsMade c) (parent : ℕ) (has : has_resource c parent ≡ true) where
   s : IsSound c
@@ -194,17 +194,17 @@ module _ (c : Cat) (m : IsMade c) (parent : ℕ) (has : has_resource c parent �
   rows_sorted = (IsTable-filter resource_cmp (λ _. true) (lies_below parent) c.resources (record { ordered = s.cat.resources.ordered; fit = all_from_in (λ r. true ≡ true) c.resources (λ r here. refl) })).ordered
 
   module _ (found kids : List Child) (found_is : found ≡ map child_of rows) (moved : IsPermutation found kids) (rises : IsNonDecreasingBy (λ (k : Child). k.place) kids) where
-    row_of_kid : (k : Child) → IsIn kids k → (r : ResourceRow) × IsIn rows r × (child_of r ≡ k)
+    pub row_of_kid : (k : Child) → IsIn kids k → (r : ResourceRow) × IsIn rows r × (child_of r ≡ k)
     row_of_kid k here =
         let old : IsIn found k = in_of found k (Contains-permutation kids found k (IsPermutation-sym found kids moved) (contains_of kids k here)) in
         in_from_map child_of rows k (subst (λ (ks : List Child). IsIn ks k) found_is old)
 
-    kid_of_row : (r : ResourceRow) → IsIn rows r → IsIn kids (child_of r)
+    pub kid_of_row : (r : ResourceRow) → IsIn rows r → IsIn kids (child_of r)
     kid_of_row r here =
         let old : IsIn found (child_of r) = subst (λ (ks : List Child). IsIn ks (child_of r)) (sym found_is) (map_from_in child_of rows r here) in
         in_of kids (child_of r) (Contains-permutation found kids (child_of r) moved (contains_of found (child_of r) old))
 
-    kids_sorted : IsStrictlySortedBy (λ (a b : Child). nat_cmp a.place b.place) kids
+    pub kids_sorted : IsStrictlySortedBy (λ (a b : Child). nat_cmp a.place b.place) kids
     unfolding IsStrictlySortedBy
     kids_sorted = by kids refl
       where

@@ -3,3 +3,4 @@ pub mod Steps
 pub mod Reading
 pub mod Spots
 pub mod Lines
+pub mod Ordered

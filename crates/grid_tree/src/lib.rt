@@ -12,4 +12,5 @@ pub use choosing::targets;
 pub use hierarchies::hierarchy;
 pub use reach::{Leaves, has_targets, possible};
 pub use reading::first_candidate;
+pub use siblings::{Child, children_in_order};
 pub use upward::is_in;

@@ -5,16 +5,17 @@ ghost use Rattle.grid_model.specs.Rows.{has_resource};
 ghost use Rattle.grid_model.specs.Trees.{children};
 ghost use Rattle.grid_model.specs.declared.deltas.ResourceRow.{ResourceRow};
 ghost use Rattle.grid_tree.specs.Names.{AreNamed};
+ghost use Rattle.grid_tree.specs.Ordered.{AreInOrder};
 ghost use Rattle.grid_tree.specs.Steps.{lies_below};
 
 use grid_tables::Tables;
 use std::alloc::{AllocError, Global};
 
 /// A child of a resource: its place, by which the children are in order, and its id.
-#[derive(Clone, Copy)]
-struct Child {
-    place: u32,
-    id: u32,
+#[derive(Clone, Copy, Debug)]
+pub struct Child {
+    pub place: u32,
+    pub id: u32,
 }
 
 /// The children of a resource in their order, by id. Fails for want of memory alone.
@@ -23,9 +24,21 @@ pub(crate) fn children(alloc: Global, tables: &Tables, parent: u32) -> Result<Ve
     requires there { IsTrue (has_resource tables.now parent) }
     ensures { IfOk result (λ ids. AreNamed tables.now ids.items (children (grid_of tables.now).resources (resource_name tables.now parent))) }
 {
+    let found = children_in_order(alloc, tables, parent)?;
+    ids_of(alloc, found.as_slice())
+}
+
+/// The children of a resource in the order of their places. Fails for want of memory alone.
+pub fn children_in_order(
+    alloc: Global,
+    tables: &Tables,
+    parent: u32,
+) -> Result<Vec<Child>, AllocError>
+    ensures { IfOk result (λ kids. AreInOrder tables.now parent kids.items) }
+{
     let mut found = found_below(alloc, tables, parent)?;
     found.sort_by_key(|child| child.place)?;
-    ids_of(alloc, found.as_slice())
+    Ok(found)
 }
 
 // The children of a resource, by id in the order of their rows.

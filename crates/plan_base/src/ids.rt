@@ -1,7 +1,7 @@
 ghost use Rattle.std.specs.Prelude.{◌≡◌, ◌≢◌, ◌<◌, ◌≤◌, ◌+◌, ◌==◌, false, length, IfOk};
 ghost use Rattle.std.specs.List.{list_any};
 ghost use Rattle.std.specs.List.Sorted.{IsStrictlyIncreasing};
-ghost use Rattle.grid_model.specs.Rows.{has_collection, has_object, has_user};
+ghost use Rattle.grid_model.specs.Rows.{has_collection, has_object, has_resource, has_user};
 
 use grid_tables::{Kind, Tables};
 use std::alloc::{AllocError, Global};
@@ -42,6 +42,20 @@ pub fn next_user_id(alloc: Global, tables: &Tables) -> Result<u32, AllocError>
         return Ok(id);
     }
     let ids = tables.ids(alloc, Kind::Users)?;
+    Ok(free_id(ids.as_slice()) as u32)
+}
+
+/// An id from 1 on that no resource has. It looks at the other ids only where the greatest that there can be is taken, and
+/// takes memory only then. Fails for want of it alone.
+pub fn next_resource_id(alloc: Global, tables: &Tables) -> Result<u32, AllocError>
+    requires few { length tables.now.resources < 4294967295 }
+    ensures some { IfOk result (λ id. 0 < id) }
+    ensures fresh { IfOk result (λ id. has_resource tables.now id ≡ false) }
+{
+    if let Some(id) = tables.next_resource_id() {
+        return Ok(id);
+    }
+    let ids = tables.ids(alloc, Kind::Resources)?;
     Ok(free_id(ids.as_slice()) as u32)
 }
 

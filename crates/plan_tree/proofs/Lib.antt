@@ -1,0 +1,11 @@
+pub mod ResourceWays
+pub mod RootedResources
+pub mod FittingResources
+pub mod ResourcePlans
+pub mod ChangedStatus
+pub mod MadeResources
+pub mod Reordered
+pub mod NumberedChildren
+pub mod LastChildren
+pub mod JoinedChildren
+pub mod PutChildren
