@@ -8,6 +8,7 @@ pub mod Mere
 pub mod NameTexts
 pub mod NamedUsers
 pub mod NewAccess
+pub mod OtherMaps
 pub mod PutAccess
 pub mod PutEntries
 pub mod RaisedAccess

@@ -1,6 +1,6 @@
 -- Changes of users, members, collections, metadata and access alone: no file is named otherwise, and of the rest of the
 -- catalogue all stays.
-use Rattle.std.proofs.Common.{◌≡◌, ℕ, Bool, true, false, List, [], ◌∷◌, Ok, IsTrue, refl, sym, ap, ◌∙◌, subst}
+use Rattle.std.proofs.Common.{◌≡◌, ◌≢◌, ◌⊎◌, ℕ, Bool, true, false, List, [], ◌∷◌, Ok, IsTrue, refl, sym, ap, ◌∙◌, subst}
 use Rattle.std.specs.Prelude.{find, filter, not, option_map, ◌&&◌, ◌==◌}
 use Rattle.std.specs.List.{list_all, Contains}
 use Rattle.std.proofs.lemmas.Bool.{and_parts, and_from}
@@ -140,10 +140,10 @@ no_files (x ∷ deltas) is =
     let parts = and_parts (is_mere x) (list_all is_mere deltas) is in
     and_from (names_no_file x) (list_all names_no_file deltas) (no_file x parts.0) (no_files deltas parts.1)
 
--- changes of such rows that do what the operation does are a plan of it
+-- changes of such rows that do what the operation does, and make another grid or are none, are a plan of it
 pub plan_of : (c after : Cat) (user : Text) (op : Operation) (deltas : List Delta) → IsTrue (list_all is_mere deltas) → IsTrue (list_all can_be_kept deltas) → apply_all c deltas ≡ Ok after
-    → row (grid_of c) user op ≡ Ok (changes (grid_of after)) → Changes c user op deltas
-plan_of c after user op deltas mere_all spelled applied row_is =
+    → row (grid_of c) user op ≡ Ok (changes (grid_of after)) → (deltas ≡ []) ⊎ (grid_of after ≢ grid_of c) → Changes c user op deltas
+plan_of c after user op deltas mere_all spelled applied row_is still =
     let s = stays_all deltas c after mere_all applied in
     record {
       after = after;
@@ -156,6 +156,7 @@ plan_of c after user op deltas mere_all spelled applied row_is =
       pending = s.pending;
       rules = s.rules;
       stores = s.stores;
+      still = still;
     }
 
 -- ---- the changes of a new item's access

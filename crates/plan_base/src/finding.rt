@@ -1,12 +1,11 @@
-ghost use Rattle.std.specs.Prelude.{◌≡◌, ◌==◌, IsTrue, MatchOption};
-ghost use Rattle.std.specs.List.{list_any};
-ghost use Rattle.grid_model.specs.Applying.{IsMade, has_entry};
+ghost use Rattle.std.specs.Prelude.{◌≡◌, ◌==◌, find, option_map, IsTrue, MatchOption};
+ghost use Rattle.grid_model.specs.Applying.{IsMade};
 ghost use Rattle.grid_model.specs.Levels.{may};
 ghost use Rattle.grid_model.specs.Names.{Path as PathOf};
 ghost use Rattle.grid_model.specs.Operations.Common.{is_taken};
 ghost use Rattle.grid_model.specs.RowGrids.{grid_of, user_name};
 ghost use Rattle.grid_model.specs.Rows.{has_user, id_of, kind_of};
-ghost use Rattle.plan_base.specs.Found.{IsAt, FindsAbove, IsFree};
+ghost use Rattle.plan_base.specs.Found.{IsAt, FindsAbove, IsFree, entry_level};
 
 use grid_access::may;
 use grid_model::{EntryRow, Item, ItemKind, Level, Path, PlanError, Refusal};
@@ -62,18 +61,21 @@ pub fn may_at(tables: &Tables, user: u32, item: Item, wanted: Level) -> bool
     may(tables, user, item, wanted)
 }
 
-/// Whether the object or the collection has an entry for this user or group. It takes no memory.
-pub fn has_entry(tables: &Tables, item: Item, user: u32) -> bool
-    ensures { result ≡ has_entry tables.now (kind_of item) (id_of item) user }
+/// The level that the object or the collection gives this user or group by an entry of its own. It takes no memory.
+pub fn entry_level(tables: &Tables, item: Item, user: u32) -> Option<Level>
+    ensures { result ≡ entry_level tables.now (kind_of item) (id_of item) user }
 {
-    has_entry_for(tables.access_of(item), user)
+    level_for(tables.access_of(item), user)
 }
 
-// Whether one of these entries is for this user or group.
-fn has_entry_for(rows: &[EntryRow], user: u32) -> bool
-    ensures { result ≡ list_any (λ e. e.user == user) rows.now }
+// The level in the first of these entries that is for this user or group.
+fn level_for(rows: &[EntryRow], user: u32) -> Option<Level>
+    ensures { result ≡ option_map (λ e. e.level) (find (λ e. e.user == user) rows.now) }
 {
-    rows.iter().any(|row| row.user == user)
+    match rows.iter().find(|row| row.user == user) {
+        None => None,
+        Some(row) => Some(row.level),
+    }
 }
 
 /// The kind of an item, and its id among those of the kind.

@@ -1,5 +1,5 @@
 -- What a user who joins or leaves a group makes of the grid, and what the rows of the operations come to then.
-use Rattle.std.proofs.Common.{◌≡◌, ◌==◌, ℕ, ◌+◌, Bool, true, false, List, [], ◌∷◌, length, Option, Some, None, Ok, Err, IsTrue, refl, sym, ap, ◌∙◌}
+use Rattle.std.proofs.Common.{◌≡◌, ◌≢◌, inr, ◌==◌, ℕ, ◌+◌, Bool, true, false, List, [], ◌∷◌, length, Option, Some, None, Ok, Err, IsTrue, refl, sym, ap, ◌∙◌}
 use Rattle.std.specs.Prelude.{filter, option_map, not, ⊤, ◌&&◌, ◌||◌}
 use Rattle.std.specs.List.{list_all, list_any}
 use Rattle.std.proofs.lemmas.Bool.{and_from}
@@ -29,7 +29,7 @@ use Rattle.grid_model.specs.declared.refusal.Refusal.TheVariants.{NotAdmin, NoUs
 use Rattle.grid_model.specs.declared.refusal.What.TheVariants as what
 use Rattle.grid_journal.specs.Journal.{can_be_kept}
 use Rattle.grid_access.proofs.GivenLevels.{has-member}
-use Rattle.tables_laws.proofs.GridOrders.{member_cmp_total}
+use Rattle.tables_laws.proofs.GridOrders.{member_cmp_total, member_cmp-IsAntisymmetric}
 use Rattle.tables_laws.proofs.Members.{grid-with_member, grid-without_member}
 use Rattle.tables_laws.proofs.Rows.{in_from_find, any_from_in}
 use Rattle.tables_laws.proofs.Ties.{members_there}
@@ -39,6 +39,7 @@ use Rattle.plan_base.proofs.FixedPaths.{kind_none}
 use Rattle.plan_base.proofs.MapSizes.{size-put}
 use Rattle.plan_base.proofs.Mere.{is_mere, plan_of}
 use Rattle.plan_base.proofs.NamedUsers.{id_named, is_named}
+use Rattle.plan_base.proofs.OtherMaps.{put-new, remove-there}
 use Rattle.plan_base.proofs.Sizes.{size-members}
 use Rattle.plan_coll.specs.Joining.{Joins}
 
@@ -157,20 +158,32 @@ module _ (c : Cat) (made : IsMade c) (u : ℕ) (group member : Text) where
           abbrev joined : Cat
           joined = record c { members = with_row tables.member_cmp c.members m }
 
+          grid_joined : grid_of joined ≡ added
+          grid_joined = grid-with_member c (sound_of c made) m j.joins ∙ (λ i. record (grid_of c) { members = add (grid_of c).members (j.group_is i, j.member_is i) })
+
+          other_joined : grid_of joined ≢ grid_of c
+          other_joined e = put-new member_cmp_total member_cmp-IsAntisymmetric (grid_of c).members (group, member) tt (there_is ∙ new) (ap (λ (g : Grid). g.members) (sym grid_joined ∙ e))
+
           pub planned_add : (x : ⊤) → Ok x ≡ within what.Members (length c.members + 1) → (deltas : List Delta) → deltas ≡ delta.Member m ∷ []
               → Changes c (user_name c u) (addmember group member) deltas
           planned_add x is deltas are =
               plan_of c joined (user_name c u) (addmember group member) deltas (ap (list_all is_mere) are) (ap (list_all can_be_kept) are ∙ ap (λ b. b && true) j.kept)
               (ap (apply_all c) are ∙ (λ i. elim (where_fits (and_from (can_join c m) (not (is_member c m.group m.user)) j.joins (ap not new) i) 3 joined) [ Ok next ↦ apply_all next [] | Err cause ↦ Err cause ]))
-              (to_room (Ok x) is ∙ ap (λ (g : Grid). Ok (changes g)) (sym (grid-with_member c (sound_of c made) m j.joins ∙ (λ i. record (grid_of c) { members = add (grid_of c).members (j.group_is i, j.member_is i) }))))
+              (to_room (Ok x) is ∙ ap (λ (g : Grid). Ok (changes g)) (sym grid_joined)) (inr other_joined)
 
         module _ (old : is_member c m.group m.user ≡ true) where
           abbrev parted : Cat
           parted = record c { members = filter (λ o. not ((o.group == m.group) && (o.user == m.user))) c.members }
+
+          grid_parted : grid_of parted ≡ removed
+          grid_parted = grid-without_member c (sound_of c made) m j.joins ∙ (λ i. record (grid_of c) { members = remove (grid_of c).members (j.group_is i, j.member_is i) })
+
+          other_parted : grid_of parted ≢ grid_of c
+          other_parted e = remove-there member_cmp_total member_cmp-IsAntisymmetric (grid_of c).members (group, member) (there_is ∙ old) (ap (λ (g : Grid). g.members) (sym grid_parted ∙ e))
 
           pub planned_drop : (deltas : List Delta) → deltas ≡ delta.NoMember m ∷ [] → Changes c (user_name c u) (rmmember group member) deltas
           planned_drop deltas are =
               plan_of c parted (user_name c u) (rmmember group member) deltas (ap (list_all is_mere) are) (ap (list_all can_be_kept) are ∙ ap (λ b. b && true) j.dropped)
               (ap (apply_all c) are ∙ (λ i. elim (where_fits (and_from (can_join c m) (is_member c m.group m.user) j.joins old i) 4 parted) [ Ok next ↦ apply_all next [] | Err cause ↦ Err cause ]))
               ((λ i. drop_tests (is_one i) (j.asked i) (some i) ((there_is ∙ old) i) removed)
-              ∙ ap (λ (g : Grid). Ok (changes g)) (sym (grid-without_member c (sound_of c made) m j.joins ∙ (λ i. record (grid_of c) { members = remove (grid_of c).members (j.group_is i, j.member_is i) }))))
+              ∙ ap (λ (g : Grid). Ok (changes g)) (sym grid_parted)) (inr other_parted)

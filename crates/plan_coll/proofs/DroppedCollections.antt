@@ -1,5 +1,5 @@
 -- What the changes that take a collection away make of the grid, and what the row of the operation comes to then.
-use Rattle.std.proofs.Common.{◌≡◌, ℕ, Bool, true, false, cond, List, [], ◌∷◌, ◌++◌, Some, None, Ok, Err, IsTrue, refl, sym, ap, ◌∙◌}
+use Rattle.std.proofs.Common.{◌≡◌, ◌≢◌, inr, ℕ, Bool, true, false, cond, List, [], ◌∷◌, ◌++◌, Some, None, Ok, Err, IsTrue, refl, sym, ap, ◌∙◌}
 use Rattle.std.specs.Prelude.{filter, is_some, not, ◌&&◌, ◌||◌}
 use Rattle.std.specs.List.{list_all, list_any}
 use Rattle.std.proofs.lemmas.Bool.{and_from}
@@ -22,6 +22,7 @@ use Rattle.grid_model.specs.declared.grid.ItemKind.TheVariants as kind
 use Rattle.grid_model.specs.declared.grid.Level.TheVariants.{Own}
 use Rattle.grid_model.specs.declared.refusal.Refusal.TheVariants.{NoCollection, NoAccess, Fixed, NotEmpty}
 use Rattle.grid_journal.specs.Journal.{can_be_kept}
+use Rattle.grid_model.proofs.Comparing.{path_cmp_total, path_cmp-IsAntisymmetric}
 use Rattle.grid_model.proofs.NewCollections.{at_of}
 use Rattle.tables_laws.proofs.Dropped.{grid-without_collection}
 use Rattle.tables_laws.proofs.Forest.{without_collection}
@@ -34,6 +35,7 @@ use Rattle.plan_base.specs.Plans.{Changes}
 use Rattle.plan_base.proofs.AtPaths.{sound_of}
 use Rattle.plan_base.proofs.Forgetting.{without_said, applied_forgotten, forgotten_then, forgotten-mere, grid-forgotten}
 use Rattle.plan_base.proofs.Mere.{is_mere, plan_of}
+use Rattle.plan_base.proofs.OtherMaps.{remove-there}
 use Rattle.plan_coll.proofs.HeldItems.{held_is}
 
 abbrev tests : Bool → Bool → Bool → Bool → Grid → Or Act
@@ -110,8 +112,11 @@ module _ (c : Cat) (made : IsMade c) (user : ℕ) (p : Path) where
               ∙ ap (λ (q : Path). record (grid_of mid) { collections = remove (grid_of mid).collections q }) place
               ∙ ap (λ (g : Grid). record g { collections = remove g.collections p }) (grid-forgotten c (sound_of c made) kind.Collection id refl (at_of c id p at).there p place)
 
+          other : grid_of (without_collection mid id) ≢ grid_of c
+          other e = remove-there path_cmp_total path_cmp-IsAntisymmetric (grid_of c).collections p there (ap (λ (g : Grid). g.collections) (sym grid ∙ e))
+
           pub planned : (deltas : List Delta) → deltas ≡ forgotten c kind.Collection id ++ delta.NoCollection id ∷ [] → IsTrue (list_all can_be_kept deltas) → Changes c u (rmdir p) deltas
           planned deltas deltas_are spelled =
               plan_of c (without_collection mid id) u (rmdir p) deltas (ap (list_all is_mere) deltas_are ∙ forgotten-mere c kind.Collection id (delta.NoCollection id ∷ [])) spelled
               (ap (apply_all c) deltas_are ∙ applied)
-              ((λ i. tests (there i) (allowed i) (free i) ((sym holds ∙ bare) i) after_grid) ∙ ap (λ (g : Grid). Ok (changes g)) (sym grid))
+              ((λ i. tests (there i) (allowed i) (free i) ((sym holds ∙ bare) i) after_grid) ∙ ap (λ (g : Grid). Ok (changes g)) (sym grid)) (inr other)

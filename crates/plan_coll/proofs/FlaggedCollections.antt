@@ -1,8 +1,8 @@
 -- What the change of a collection's flag makes of the grid, and what the row of the operation comes to then.
-use Rattle.std.proofs.Common.{◌≡◌, ℕ, Bool, true, false, List, [], ◌∷◌, Some, None, Result, Ok, Err, IfOk, IsTrue, sym, ap, ◌∙◌}
-use Rattle.std.specs.Prelude.{is_some, ◌&&◌, ◌||◌}
+use Rattle.std.proofs.Common.{◌≡◌, ◌≢◌, inl, inr, ℕ, Bool, true, false, List, [], ◌∷◌, Option, Some, None, Result, Ok, Err, IfOk, IsTrue, sym, ap, ◌∙◌}
+use Rattle.std.specs.Prelude.{is_some, option_map, unwrap_or, ◌&&◌, ◌||◌}
 use Rattle.std.specs.List.{list_all}
-use Rattle.grid_model.specs.Maps.{put}
+use Rattle.grid_model.specs.Maps.{get, put}
 use Rattle.grid_model.specs.Names.{Text, Path, is_name}
 use Rattle.grid_model.specs.Grid.{Grid}
 use Rattle.grid_model.specs.Refusing.{Or, ◌>>=◌, unless}
@@ -19,19 +19,23 @@ use Rattle.grid_model.specs.declared.deltas.CollectionRow.{CollectionRow}
 use Rattle.grid_model.specs.declared.grid.Level.TheVariants.{Own}
 use Rattle.grid_model.specs.declared.refusal.Refusal.TheVariants.{NoCollection, NoAccess}
 use Rattle.grid_journal.specs.Journal.{can_be_kept}
+use Rattle.grid_model.proofs.Comparing.{path_cmp_total, path_cmp-IsAntisymmetric}
 use Rattle.grid_model.proofs.NewCollections.{at_of}
 use Rattle.std.proofs.lemmas.Bool.{ne_eqb}
+use Rattle.std.proofs.lemmas.Option.{same_Some}
 use Rattle.tables_laws.proofs.Rows.{in_from_all}
 use Rattle.tables_laws.proofs.Ways.{its_row}
 use Rattle.tables_laws.proofs.Forest.{with_collection}
-use Rattle.tables_laws.proofs.LookUps.{has-collections}
+use Rattle.tables_laws.proofs.LookUps.{has-collections, get-collection_at}
 use Rattle.tables_laws.proofs.MovedCollections.{grid-collection_changed}
 use Rattle.tables_laws.proofs.Places.{place_is, root_place, row_there}
 use Rattle.tables_laws.proofs.Roots.{grid-root}
 use Rattle.tables_laws.proofs.Sound.{IsSound}
+use Rattle.plan_base.specs.NewItems.{hands_on}
 use Rattle.plan_base.specs.Plans.{Changes}
 use Rattle.plan_base.proofs.AtPaths.{sound_of}
 use Rattle.plan_base.proofs.Mere.{is_mere, plan_of}
+use Rattle.plan_base.proofs.OtherMaps.{put-same, put-other}
 use Rattle.plan_coll.specs.Flags.{IsFlagged, root, inner}
 use Rattle.plan_coll.proofs.PlacedCollections.{fits_there}
 
@@ -100,8 +104,24 @@ module _ (c : Cat) (made : IsMade c) (user : ℕ) (p : Path) (on : Bool) where
         (applied_of r (flagged_fits r (inner not_root old found r_is)))
         ∙ (λ i. record (grid_of c) { collections = put (grid_of c).collections ((ap (collection_place (collection_path c)) its ∙ place) i) (r_is i).inherit })
 
-    pub planned : may (grid_of c) u p Own ≡ true → (r : CollectionRow) → IsFlagged c id on r → IsTrue (can_be_kept (delta.Collection r)) → (deltas : List Delta) → deltas ≡ delta.Collection r ∷ [] → Changes c u (inherit p on) deltas
-    planned allowed r is kept deltas deltas_are =
+    -- its flag is that of its row
+    flag_is : get (grid_of c).collections p ≡ Some (hands_on c id)
+    flag_is =
+        let row = row_there (λ (x : CollectionRow). x.id) c.collections id (at_of c id p at).there in
+        get-collection_at c (sound_of c made) p id row.0 at row.3
+        ∙ ap (λ (o : Option CollectionRow). Some (unwrap_or (option_map (λ x. x.inherit) o) false)) (sym row.3)
+
+    pub planned_none : may (grid_of c) u p Own ≡ true → hands_on c id ≡ on → (deltas : List Delta) → deltas ≡ [] → Changes c u (inherit p on) deltas
+    planned_none allowed has deltas none =
+        plan_of c c u (inherit p on) deltas (ap (list_all is_mere) none) (ap (list_all can_be_kept) none) (ap (apply_all c) none)
+        ((λ i. tests ((has-collections c (sound_of c made) p ∙ ap is_some at) i) (allowed i) after_grid)
+        ∙ ap (λ m. Ok (changes (record (grid_of c) { collections = m }))) (put-same path_cmp_total path_cmp-IsAntisymmetric (grid_of c).collections p on (flag_is ∙ ap Some has)))
+        (inl none)
+
+    pub planned : may (grid_of c) u p Own ≡ true → hands_on c id ≢ on → (r : CollectionRow) → IsFlagged c id on r → IsTrue (can_be_kept (delta.Collection r)) → (deltas : List Delta) → deltas ≡ delta.Collection r ∷ [] → Changes c u (inherit p on) deltas
+    planned allowed other r is kept deltas deltas_are =
         plan_of c (with_collection c r) u (inherit p on) deltas (ap (list_all is_mere) deltas_are) (ap (list_all can_be_kept) deltas_are ∙ ap (λ b. b && true) kept)
         (ap (apply_all c) deltas_are ∙ ap (λ x. elim x [ Ok next ↦ apply_all next [] | Err cause ↦ Err cause ]) (applied_of r (flagged_fits r is)))
         ((λ i. tests ((has-collections c (sound_of c made) p ∙ ap is_some at) i) (allowed i) after_grid) ∙ ap (λ (g : Grid). Ok (changes g)) (sym (flagged_grid r is)))
+        (inr (λ e. put-other path_cmp_total path_cmp-IsAntisymmetric (grid_of c).collections p on (λ at_on. other (same_Some (hands_on c id) on (sym flag_is ∙ at_on)))
+        (ap (λ (g : Grid). g.collections) (sym (flagged_grid r is) ∙ e))))

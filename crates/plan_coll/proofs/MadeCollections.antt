@@ -1,6 +1,6 @@
 -- What the changes that make a collection make of the grid, and what the row of the operation comes to then.
-use Rattle.std.proofs.Common.{◌≡◌, ℕ, suc, ◌+◌, ◌-◌, true, false, List, [], ◌∷◌, ◌++◌, length, Some, Ok, Err, refl, sym, ap, ◌∙◌, eq-eqb, arith}
-use Rattle.std.specs.Prelude.{◌==◌, ⊤}
+use Rattle.std.proofs.Common.{◌≡◌, ◌≢◌, inr, ℕ, suc, ◌+◌, ◌-◌, true, false, List, [], ◌∷◌, ◌++◌, length, Some, Ok, Err, refl, sym, ap, ◌∙◌, eq-eqb, arith}
+use Rattle.std.specs.Prelude.{◌==◌, is_some, ⊤}
 use Rattle.std.specs.List.{list_all}
 use Rattle.grid_model.specs.Maps.{put}
 use Rattle.grid_model.specs.MapLists.{size}
@@ -15,7 +15,7 @@ use Rattle.grid_model.specs.Rows.{Cat, collection_cmp, has_collection}
 use Rattle.grid_model.specs.RowPaths.{collection_path, collection_at}
 use Rattle.grid_model.specs.RowGrids.{grid_of, collection_place, user_name}
 use Rattle.grid_model.specs.Applying.{IsMade, apply, apply_all, where_fits, is_user}
-use Rattle.grid_model.specs.Operations.Common.{is_taken, needs, with_new_item}
+use Rattle.grid_model.specs.Operations.Common.{is_taken, inherits, needs, with_new_item}
 use Rattle.grid_model.specs.Operations.Collections.{with_collection, mkdir_row}
 use Rattle.grid_model.specs.Operations.Table.{mkdir, row}
 use Rattle.grid_model.specs.declared.deltas.Delta.{Delta}
@@ -27,11 +27,13 @@ use Rattle.grid_model.specs.declared.refusal.Refusal.{Refusal}
 use Rattle.grid_model.specs.declared.refusal.Refusal.TheVariants.{NoAccess, Exists}
 use Rattle.grid_model.specs.declared.refusal.What.TheVariants.{Collections, Access as Entries}
 use Rattle.grid_model.proofs.Below.{parent-push}
+use Rattle.grid_model.proofs.Comparing.{path_cmp_total, path_cmp-IsAntisymmetric}
 use Rattle.grid_model.proofs.FreePlaces.{collection_fits-new}
 use Rattle.grid_model.proofs.FoundRows.{length-new}
 use Rattle.grid_model.proofs.NewCollections.{at_of, others, path-kept}
 use Rattle.tables_laws.proofs.Rows.{any_from_in, new_in_with_row}
 use Rattle.tables_laws.proofs.Numbered.{put_found}
+use Rattle.tables_laws.proofs.LookUps.{has-collections}
 use Rattle.tables_laws.proofs.NewCollections.{grid-new_collection}
 use Rattle.tables_laws.proofs.Places.{place_is, child_place}
 use Rattle.tables_laws.proofs.Sound.{IsSound, sound-apply, sound-apply_all}
@@ -41,6 +43,7 @@ use Rattle.plan_base.specs.Plans.{Changes}
 use Rattle.plan_base.proofs.AtPaths.{sound_of, free-not_taken, user_known, paths_of}
 use Rattle.plan_base.proofs.Mere.{is_mere, plan_of, new_entries-mere}
 use Rattle.plan_base.proofs.NewAccess.{HasNew, GivesNew, gives_new, hands-inherits}
+use Rattle.plan_base.proofs.OtherMaps.{put-new}
 use Rattle.plan_base.proofs.PutEntries.{with_entries}
 use Rattle.plan_base.proofs.Sizes.{size-collections, size-access}
 use Rattle.plan_coll.specs.NewCollections.{Makes}
@@ -177,7 +180,12 @@ module _ (c : Cat) (made : IsMade c) (user parent : ℕ) (p : Path) (its_user : 
         → row (grid_of c) (user_name c user) (mkdir p) ≡ Err refusal
     too_many_entries refusal x n few n_is is = to_room (Ok x) (Err refusal) few (is ∙ ap (within Entries) (sym (access_then n n_is)))
 
+    other : grid_of after ≢ grid_of c
+    other e =
+        put-new path_cmp_total path_cmp-IsAntisymmetric (grid_of c).collections p (inherits (grid_of c) inside.above)
+        (has-collections c (sound_of c made) p ∙ ap is_some (free-not_taken c made p none).no_collection) (ap (λ (g : Grid). g.collections) (sym grid_after ∙ e))
+
     pub planned : (x y : ⊤) (n : ℕ) → Ok x ≡ within Collections (length c.collections + 1) → n ≡ length deltas - 1 → Ok y ≡ within Entries (length c.entries + n) → Changes c (user_name c user) (mkdir p) deltas
     planned x y n few n_is some =
         plan_of c after (user_name c user) (mkdir p) deltas (ap (list_all is_mere) makes.deltas_are ∙ new_entries-mere c user parent kind.Collection r.id) makes.spelled applied
-        (to_room (Ok x) (Ok y) few (some ∙ ap (within Entries) (sym (access_then n n_is))) ∙ ap (λ (g : Grid). Ok (changes g)) (sym grid_after))
+        (to_room (Ok x) (Ok y) few (some ∙ ap (within Entries) (sym (access_then n n_is))) ∙ ap (λ (g : Grid). Ok (changes g)) (sym grid_after)) (inr other)

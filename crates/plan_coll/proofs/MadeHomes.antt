@@ -1,11 +1,11 @@
 -- What a new user with a home makes of the grid, and what the row of the operation comes to then.
-use Rattle.std.proofs.Common.{◌≡◌, ℕ, ◌+◌, ◌<◌, Bool, true, false, List, [], ◌∷◌, ◌++◌, length, Option, Some, None, Ok, Err, refl, sym, ap, ◌∙◌, eq-eqb, subst}
-use Rattle.std.specs.Prelude.{◌==◌, ⊤, ◌&&◌, ◌||◌, find, option_map, unwrap_or, is_some, Result, MatchResult, MatchOption}
+use Rattle.std.proofs.Common.{◌≡◌, ◌≢◌, inr, ℕ, ◌+◌, ◌<◌, Bool, true, false, List, [], ◌∷◌, ◌++◌, length, Option, Some, None, Ok, Err, refl, sym, ap, ◌∙◌, eq-eqb, subst}
+use Rattle.std.specs.Prelude.{◌==◌, ⊤, ◌||◌, find, option_map, unwrap_or, is_some, Result, MatchResult, MatchOption}
 use Rattle.std.specs.List.{list_all}
 use Rattle.std.proofs.lemmas.Bool.{and_from}
 use Rattle.grid_model.specs.Maps.{get, has, put}
 use Rattle.grid_model.specs.MapLists.{size}
-use Rattle.grid_model.specs.Names.{Text, Path, is_name, parent as up}
+use Rattle.grid_model.specs.Names.{Text, Path, is_name}
 use Rattle.grid_model.specs.Grid.{Grid, home, homes, home_of}
 use Rattle.grid_model.specs.Refusing.{Or, ◌>>=◌, unless, refuse}
 use Rattle.grid_model.specs.Bounds.{within}
@@ -13,9 +13,9 @@ use Rattle.grid_model.specs.Deeds.{Act, changes}
 use Rattle.grid_model.specs.Levels.{is_admin}
 use Rattle.grid_model.specs.NewRows.{IsNewAt, with_collection_row}
 use Rattle.grid_model.specs.Rows.{Cat, empty_cat, user_cmp, collection_cmp, entry_cmp, with_row, has_collection, has_user}
-use Rattle.grid_model.specs.RowPaths.{collection_path, collection_at, object_at, is_path_of}
+use Rattle.grid_model.specs.RowPaths.{collection_path, collection_at, is_path_of}
 use Rattle.grid_model.specs.RowGrids.{grid_of, collection_place, user_name}
-use Rattle.grid_model.specs.Applying.{IsMade, apply, apply_all, where_fits, entry_fits, has_entry}
+use Rattle.grid_model.specs.Applying.{IsMade, apply, apply_all, where_fits, entry_fits}
 use Rattle.grid_model.specs.Operations.Common.{is_taken, collection_above}
 use Rattle.grid_model.specs.Operations.Users.{with_user}
 use Rattle.grid_model.specs.Operations.Table.{mkuser, row}
@@ -31,9 +31,8 @@ use Rattle.grid_model.specs.declared.plans.PlanError.TheVariants.{Refused, Memor
 use Rattle.grid_model.specs.declared.refusal.Refusal.{Refusal}
 use Rattle.grid_model.specs.declared.refusal.Refusal.TheVariants.{NotAdmin, Exists, NoCollection}
 use Rattle.grid_model.specs.declared.refusal.What.TheVariants.{Users, Collections, Access as Entries}
-use Rattle.grid_journal.specs.Journal.{can_be_kept}
 use Rattle.grid_journal.proofs.DeltaLemmas.{apply_all_after}
-use Rattle.grid_model.proofs.Comparing.{text_cmp_total, path_cmp_total}
+use Rattle.grid_model.proofs.Comparing.{text_cmp_total, text_cmp-IsAntisymmetric, path_cmp_total}
 use Rattle.grid_model.proofs.FreePlaces.{collection_fits-new}
 use Rattle.grid_model.proofs.NewCollections.{at_of, path-kept}
 use Rattle.tables_laws.proofs.GridOrders.{access_cmp_total}
@@ -53,8 +52,9 @@ use Rattle.plan_base.proofs.MapSizes.{size-put}
 use Rattle.plan_base.proofs.Mere.{is_mere, plan_of}
 use Rattle.plan_base.proofs.NamedUsers.{id_named, has-users}
 use Rattle.plan_base.proofs.NewAccess.{empty_access}
+use Rattle.plan_base.proofs.OtherMaps.{put-new}
 use Rattle.plan_base.proofs.Sizes.{size-users, size-collections, size-access}
-use Rattle.plan_coll.specs.NewUsers.{IsUserFor, IsHomeFor, MakesUser, IsFreeHome, IsNoHome, own_entry, home_asked, room_for_user}
+use Rattle.plan_coll.specs.NewUsers.{MakesUser, IsFreeHome, IsNoHome, own_entry, home_asked, room_for_user}
 use Rattle.plan_coll.proofs.MadeUsers.{few_users, fits_new}
 use Rattle.plan_coll.proofs.NamedPaths.{no_collection_below, no_object_below}
 
@@ -330,7 +330,10 @@ module _ (c : Cat) (made : IsMade c) (u : ℕ) (name : Text) (k : UserKind) (nam
             ∙ ap (λ x. elim x [ Ok next ↦ apply_all next (delta.Entry e ∷ []) | Err cause ↦ Err cause ]) applied_home
             ∙ ap (λ x. elim x [ Ok next ↦ apply_all next [] | Err cause ↦ Err cause ]) applied_entry
 
+        other : grid_of three ≢ grid_of c
+        other is = put-new text_cmp_total text_cmp-IsAntisymmetric (grid_of c).users name k at.unnamed (ap (λ (h : Grid). h.users) (sym grid_three ∙ is))
+
         pub planned : (x : ⊤) → Ok x ≡ room_for_user c → Changes c (user_name c u) (mkuser name k) deltas
         planned x room =
             plan_of c three (user_name c u) (mkuser name k) deltas (ap (list_all is_mere) m.deltas_are) m.spelled applied
-            (to_room (Ok x) room ∙ ap (λ (h : Grid). Ok (changes h)) (sym grid_three))
+            (to_room (Ok x) room ∙ ap (λ (h : Grid). Ok (changes h)) (sym grid_three)) (inr other)

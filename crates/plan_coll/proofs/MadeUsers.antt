@@ -1,5 +1,5 @@
 -- What a new user or group makes of the grid, and what the row of the operation comes to then.
-use Rattle.std.proofs.Common.{◌≡◌, ◌==◌, ℕ, ◌+◌, ◌<◌, ◌≤◌, Bool, true, false, List, [], ◌∷◌, length, Option, Some, None, Ok, Err, refl, sym, ap, ◌∙◌, arith}
+use Rattle.std.proofs.Common.{◌≡◌, ◌≢◌, inr, ◌==◌, ℕ, ◌+◌, ◌<◌, ◌≤◌, Bool, true, false, List, [], ◌∷◌, length, Option, Some, None, Ok, Err, refl, sym, ap, ◌∙◌, arith}
 use Rattle.std.specs.Prelude.{find, option_map, is_some, not, nat_le, ⊤, ◌&&◌, ◌||◌}
 use Rattle.std.specs.List.{list_all, list_any}
 use Rattle.std.proofs.lemmas.Bool.{and_from, leb-true}
@@ -24,7 +24,7 @@ use Rattle.grid_model.specs.declared.refusal.Refusal.{Refusal}
 use Rattle.grid_model.specs.declared.refusal.Refusal.TheVariants.{NotAdmin, Exists, TooMany}
 use Rattle.grid_model.specs.declared.refusal.What.TheVariants as what
 use Rattle.grid_journal.specs.Journal.{can_be_kept}
-use Rattle.grid_model.proofs.Comparing.{text_cmp_total}
+use Rattle.grid_model.proofs.Comparing.{text_cmp_total, text_cmp-IsAntisymmetric}
 use Rattle.grid_model.proofs.FoundRows.{is_some-find}
 use Rattle.tables_laws.proofs.Users.{grid-with_user}
 use Rattle.plan_base.specs.Plans.{Changes}
@@ -32,6 +32,7 @@ use Rattle.plan_base.proofs.AtPaths.{sound_of}
 use Rattle.plan_base.proofs.MapSizes.{size-put}
 use Rattle.plan_base.proofs.Mere.{is_mere, plan_of}
 use Rattle.plan_base.proofs.NamedUsers.{id_named, has-users}
+use Rattle.plan_base.proofs.OtherMaps.{put-new}
 use Rattle.plan_base.proofs.Sizes.{size-users}
 use Rattle.plan_coll.specs.NewUsers.{IsUserFor}
 
@@ -105,8 +106,14 @@ module _ (c : Cat) (made : IsMade c) (u : ℕ) (name : Text) (named : is_name na
         fits : user_fits c r ≡ true
         fits = fits_new c name named free r new.name_is new.fresh
 
+        grid_after : grid_of after ≡ with_group (grid_of c) name
+        grid_after = grid-with_user c (sound_of c made) r fits ∙ (λ i. record (grid_of c) { users = put (grid_of c).users (new.name_is i) (new.kind_is i) })
+
+        other : grid_of after ≢ grid_of c
+        other e = put-new text_cmp_total text_cmp-IsAntisymmetric (grid_of c).users name Rodsgroup free (ap (λ (g : Grid). g.users) (sym grid_after ∙ e))
+
         pub planned : (x : ⊤) → Ok x ≡ within what.Users (length c.users + 1) → (deltas : List Delta) → deltas ≡ delta.User r ∷ [] → Changes c (user_name c u) (mkgroup name) deltas
         planned x room deltas are =
             plan_of c after (user_name c u) (mkgroup name) deltas (ap (list_all is_mere) are) (ap (list_all can_be_kept) are ∙ ap (λ t. t && true) new.spelled)
             (ap (apply_all c) are ∙ ap (λ t. elim (where_fits t 2 after) [ Ok next ↦ apply_all next [] | Err cause ↦ Err cause ]) fits)
-            (to_room (Ok x) room ∙ ap (λ (g : Grid). Ok (changes g)) (sym (grid-with_user c (sound_of c made) r fits ∙ (λ i. record (grid_of c) { users = put (grid_of c).users (new.name_is i) (new.kind_is i) }))))
+            (to_room (Ok x) room ∙ ap (λ (g : Grid). Ok (changes g)) (sym grid_after)) (inr other)

@@ -1,5 +1,5 @@
 -- An object that is moved names the files that it named.
-use Rattle.std.proofs.Common.{◌≡◌, ℕ, List, [], Ok, Some, inl, inr, IsTrue, refl, sym, ap, ◌∙◌}
+use Rattle.std.proofs.Common.{◌≡◌, ◌≢◌, ℕ, List, [], Ok, Some, inl, inr, IsTrue, refl, sym, ap, ◌∙◌}
 use Rattle.std.specs.List.{list_all}
 use Rattle.std.proofs.lemmas.Bool.Decides.{eqb_tells}
 use Rattle.std.proofs.lemmas.Option.{same_Some}
@@ -53,8 +53,8 @@ module _ (c : Cat) (r old : ObjectRow) (found : object c r.id ≡ Some old) (siz
     named = λ slot name n. record { row = n.row; names = still slot name n.row n.names; only = λ x its. n.only x (back slot name x its) };
   }
 
-  pub plan_of_object : (user : Text) (op : Operation) (deltas : List Delta) → IsTrue (list_all can_be_kept deltas) → apply_all c deltas ≡ Ok d → row (grid_of c) user op ≡ Ok (changes (grid_of d)) → Changes c user op deltas
-  plan_of_object user op deltas spelled applied row_is = record {
+  pub plan_of_object : (user : Text) (op : Operation) (deltas : List Delta) → IsTrue (list_all can_be_kept deltas) → apply_all c deltas ≡ Ok d → row (grid_of c) user op ≡ Ok (changes (grid_of d)) → grid_of d ≢ grid_of c → Changes c user op deltas
+  plan_of_object user op deltas spelled applied row_is other = record {
     after = d;
     applied = applied;
     spelled = spelled;
@@ -65,4 +65,5 @@ module _ (c : Cat) (r old : ObjectRow) (found : object c r.id ≡ Some old) (siz
     pending = refl;
     rules = refl;
     stores = refl;
+    still = inr other;
   }

@@ -1,6 +1,6 @@
 -- What the change that moves a collection or an object makes of the grid, and what the row of the operation comes to then.
-use Rattle.std.proofs.Common.{◌≡◌, ◌==◌, ℕ, Bool, true, false, List, [], ◌∷◌, ◌++◌, Option, Some, None, Ok, Err, IsTrue, refl, sym, ap, ◌∙◌, subst, append_assoc}
-use Rattle.std.specs.Prelude.{option_map, unwrap_or, ◌&&◌}
+use Rattle.std.proofs.Common.{◌≡◌, ◌≢◌, inr, ◌==◌, ℕ, Bool, true, false, List, [], ◌∷◌, ◌++◌, Option, Some, None, Ok, Err, IsTrue, refl, sym, ap, ◌∙◌, subst, append_assoc}
+use Rattle.std.specs.Prelude.{option_map, unwrap_or, is_some, ◌&&◌}
 use Rattle.std.specs.List.{list_all}
 use Rattle.std.proofs.lemmas.Bool.{and_from}
 use Rattle.grid_model.specs.Maps.{put, rekey}
@@ -32,6 +32,7 @@ use Rattle.grid_model.proofs.Comparing.{path_cmp_total, path_cmp-IsAntisymmetric
 use Rattle.grid_model.proofs.FreePlaces.{free_collection, free_object}
 use Rattle.grid_model.proofs.NewCollections.{at_of}
 use Rattle.tables_laws.proofs.Forest.{with_collection, with_object}
+use Rattle.tables_laws.proofs.LookUps.{has-collections, has-objects}
 use Rattle.tables_laws.proofs.MovedCollections.{grid-collection_moved}
 use Rattle.tables_laws.proofs.MovedPaths.{moved-self}
 use Rattle.tables_laws.proofs.MovedObjects.{grid-object_moved}
@@ -46,6 +47,7 @@ use Rattle.plan_base.specs.Plans.{Changes, PlansChange}
 use Rattle.plan_base.proofs.AtPaths.{sound_of, paths_of, not_taken-free, taken-at, free-not_taken, placed}
 use Rattle.plan_base.proofs.FixedPaths.{tells_root}
 use Rattle.plan_base.proofs.Mere.{is_mere, plan_of}
+use Rattle.plan_base.proofs.OtherMaps.{put-new}
 use Rattle.plan_coll.specs.Moving.{IsLast, MovesCollection, MovesObject}
 use Rattle.plan_coll.proofs.HeldItems.{below_is, below_push}
 use Rattle.plan_coll.proofs.MovedFiles.{plan_of_object}
@@ -194,12 +196,18 @@ module _ (c : Cat) (made : IsMade c) (a b : Path) (parent : ℕ) (inside : LiesI
         ∙ (λ j. record (moved_grid (from_is j) (to_is j) (grid_of c)) { collections = put (moved_grid (from_is j) (to_is j) (grid_of c)).collections (to_is j) old.inherit })
         ∙ ap (λ m. record (moved_grid a b (grid_of c)) { collections = m }) kept
 
+    other_collection : grid_of (with_collection c moved_row) ≢ grid_of c
+    other_collection e =
+        let stays : rekey (moved a b) (grid_of c).collections ≡ (grid_of c).collections = ap (λ (h : Grid). h.collections) (sym grid_collection ∙ e) in
+        put-new path_cmp_total path_cmp-IsAntisymmetric (grid_of c).collections b old.inherit (has-collections c s b ∙ ap is_some free_b.no_collection)
+        (ap (λ m. put m b old.inherit) (sym stays) ∙ kept ∙ stays)
+
     pub collection_planned : (user : ℕ) (deltas : List Delta) → deltas ≡ delta.Collection moved_row ∷ [] → IsTrue (list_all can_be_kept deltas)
         → row (grid_of c) (user_name c user) (mv a b) ≡ Ok (changes (moved_grid a b (grid_of c))) → Changes c (user_name c user) (mv a b) deltas
     collection_planned user deltas are spelled is =
         plan_of c (with_collection c moved_row) (user_name c user) (mv a b) deltas (ap (list_all is_mere) are) spelled
         (ap (apply_all c) are ∙ ap (λ x. elim x [ Ok next ↦ apply_all next [] | Err cause ↦ Err cause ]) applied_collection)
-        (is ∙ ap (λ (h : Grid). Ok (changes h)) (sym grid_collection))
+        (is ∙ ap (λ (h : Grid). Ok (changes h)) (sym grid_collection)) (inr other_collection)
 
   -- ---- an object
 
@@ -237,12 +245,18 @@ module _ (c : Cat) (made : IsMade c) (a b : Path) (parent : ℕ) (inside : LiesI
         ∙ (λ j. record (moved_grid (from_object j) (to_is j) (grid_of c)) { objects = put (moved_grid (from_object j) (to_is j) (grid_of c)).objects (to_is j) (object_of c old) })
         ∙ ap (λ m. record (moved_grid a b (grid_of c)) { objects = m }) kept_object
 
+    other_object : grid_of (with_object c moved_object) ≢ grid_of c
+    other_object e =
+        let stays : rekey (moved a b) (grid_of c).objects ≡ (grid_of c).objects = ap (λ (h : Grid). h.objects) (sym grid_object ∙ e) in
+        put-new path_cmp_total path_cmp-IsAntisymmetric (grid_of c).objects b (object_of c old) (has-objects c s b ∙ ap is_some free_b.no_object)
+        (ap (λ m. put m b (object_of c old)) (sym stays) ∙ kept_object ∙ stays)
+
     pub object_planned : (user : ℕ) (deltas : List Delta) → deltas ≡ delta.Object moved_object ∷ [] → IsTrue (list_all can_be_kept deltas)
         → row (grid_of c) (user_name c user) (mv a b) ≡ Ok (changes (moved_grid a b (grid_of c))) → Changes c (user_name c user) (mv a b) deltas
     object_planned user deltas are spelled is =
         plan_of_object c moved_object old own refl refl (user_name c user) (mv a b) deltas spelled
         (ap (apply_all c) are ∙ ap (λ x. elim x [ Ok next ↦ apply_all next [] | Err cause ↦ Err cause ]) applied_object)
-        (is ∙ ap (λ (h : Grid). Ok (changes h)) (sym grid_object))
+        (is ∙ ap (λ (h : Grid). Ok (changes h)) (sym grid_object)) other_object
 
 -- ---- what the calls ask
 

@@ -1,5 +1,5 @@
 -- Where collections and objects are, each name on the way is a name.
-use Rattle.std.proofs.Common.{◌≡◌, ◌==◌, ℕ, zero, suc, Bool, true, false, List, [], ◌∷◌, ◌++◌, Option, Some, None, refl, sym, ap, ◌∙◌, subst}
+use Rattle.std.proofs.Common.{◌≡◌, ◌==◌, ℕ, zero, suc, Bool, true, false, [], ◌∷◌, Option, Some, None, refl, sym, ap, ◌∙◌}
 use Rattle.std.specs.Prelude.{option_map, reverse, is_some, ◌&&◌, ◌||◌}
 use Rattle.std.specs.List.{list_all}
 use Rattle.std.proofs.lemmas.Bool.{and_parts, and_from}
@@ -8,7 +8,7 @@ use Rattle.std.proofs.lemmas.List.Folds.{list_all-append}
 use Rattle.grid_model.specs.Maps.{has}
 use Rattle.grid_model.specs.Names.{Text, Path, is_name, parent}
 use Rattle.grid_model.specs.Rows.{Cat, collection, is_named_collection}
-use Rattle.grid_model.specs.RowPaths.{names_within, names_up, collection_path, collection_at, object_at}
+use Rattle.grid_model.specs.RowPaths.{names_within, collection_path, collection_at, object_at}
 use Rattle.grid_model.specs.RowGrids.{grid_of}
 use Rattle.grid_model.specs.declared.deltas.CollectionRow.{CollectionRow}
 use Rattle.grid_model.specs.declared.deltas.Item.TheVariants as item

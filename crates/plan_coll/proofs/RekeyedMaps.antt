@@ -1,29 +1,20 @@
 -- What is put again where it was moved to changes nothing.
-use Rattle.std.proofs.Common.{◌≡◌, ◌++◌, Bool, true, false, cond, List, [], ◌∷◌, Option, Some, None, refl, sym, ap, ◌∙◌}
+use Rattle.std.proofs.Common.{◌≡◌, ◌++◌, true, false, List, [], ◌∷◌, Option, Some, None, refl, sym, ap, ◌∙◌}
 use Rattle.std.specs.Prelude.{find, option_map, is_some}
 use Rattle.std.specs.List.{list_any}
 use Rattle.std.specs.declared.cmp.Ordering.{Ordering}
 use Rattle.std.specs.Ordering.{eq_by_cmp}
 use Rattle.std.specs.Cmp.{IsTotalOrder}
 use Rattle.std.specs.FinMap.{IsAntisymmetric}
-use Rattle.grid_model.specs.Maps.{Map, get, put, from_list, rekey}
+use Rattle.grid_model.specs.Maps.{put, from_list, rekey}
 use Rattle.grid_model.specs.Moves.{moved}
 use Rattle.grid_model.specs.Names.{Path, below}
 use Rattle.grid_model.proofs.Comparing.{eq_by_cmp-Decides}
 use Rattle.grid_model.proofs.FoundRows.{is_some-find}
-use Rattle.grid_model.proofs.MapLemmas.{same_map, get-put}
 use Rattle.tables_laws.proofs.Rows.{IsIn, in_from_find, any_from_in}
 use Rattle.tables_laws.proofs.TableMaps.{entries_of, get-rows}
 use Rattle.grid_access.proofs.MapEntries.{row_of_entry, entry_of_row}
-
-module _ {K V : Type 0} {R : K → K → Ordering} (o : IsTotalOrder R) (same : IsAntisymmetric R) where
-  -- a value that is there
-  put-same : (m : Map R V) (k : K) (v : V) → get m k ≡ Some v → put m k v ≡ m
-  put-same m k v there = same_map o same (put m k v) m (λ q. get-put o m k v q ∙ by q (eq_by_cmp R q k) refl)
-    where
-      by : (q : K) (b : Bool) → eq_by_cmp R q k ≡ b → cond b (Some v) (get m q) ≡ get m q
-      by q false is = refl
-      by q true is = sym (ap (get m) ((eq_by_cmp-Decides o same q k).0 is) ∙ there)
+use Rattle.plan_base.proofs.OtherMaps.{put-same}
 
 module _ {K V X : Type 0} {R : K → K → Ordering} (o : IsTotalOrder R) (same : IsAntisymmetric R) where
   abbrev all_entries : (X → K) → (X → V) → List X → List (K × V)

@@ -10,14 +10,15 @@ ghost use Rattle.grid_model.specs.declared.refusal.What.TheVariants as what;
 ghost use Rattle.grid_tables.specs.Counts.{count_of};
 ghost use Rattle.grid_tables.specs.declared.counts.Kind.TheVariants as kind;
 ghost use Rattle.plan_base.specs.Plans.{PlansChange};
-ghost use Rattle.plan_coll.specs.AccessChanges.{access_deltas, entries_then};
+ghost use Rattle.plan_coll.specs.AccessChanges.{access_deltas, entries_then, has_level};
 
 use grid_model::{Delta, Deltas, EntryRow, Item, Level, Path, PlanError, Refusal, Text, What};
 use grid_tables::{Kind, Tables};
-use plan_base::{has_entry, has_room, item_at, kind_and_id, may_at, within};
+use plan_base::{entry_level, has_room, item_at, kind_and_id, may_at, within};
 use std::alloc::{AllocError, Global};
 
-/// Plans that a user or a group has this level at what is at the path, or has none there for `Null` (`chmod`).
+/// Plans that a user or a group has this level at what is at the path, or has none there for `Null` (`chmod`); nothing where
+/// that is so already.
 pub fn plan_chmod(
     alloc: Global,
     tables: &Tables,
@@ -41,8 +42,8 @@ pub fn plan_chmod(
         None => return Err(PlanError::Refused(Refusal::NoUser)),
         Some(other) => other,
     };
-    let had = has_entry(tables, item, other);
-    if let Err(refusal) = has_room_for(tables, level, had) {
+    let had = entry_level(tables, item, other);
+    if let Err(refusal) = has_room_for(tables, level, had.is_some()) {
         return Err(PlanError::Refused(refusal));
     }
     match access_deltas(alloc, item, other, level, had) {
@@ -64,30 +65,46 @@ fn has_room_for(tables: &Tables, level: Level, had: bool) -> Result<(), Refusal>
     has_room(tables, Kind::Entries, more)
 }
 
-// The changes that give the user this level at the item. Fails for want of memory alone.
+// The changes that give the user this level at the item, of the one that was had. Fails for want of memory alone.
 fn access_deltas(
     alloc: Global,
     item: Item,
     user: u32,
     level: Level,
-    had: bool,
+    had: Option<Level>,
 ) -> Result<Deltas, AllocError>
     requires { IsTrue (gives_access (kind_of item)) }
     ensures changes { IfOk result (λ deltas. deltas ≡ access_deltas (kind_of item) (id_of item) user level had) }
     ensures spelled { IfOk result (λ deltas. IsTrue (list_all can_be_kept deltas)) }
 {
     let (kind, id) = kind_and_id(item);
-    if !matches!(level, Level::Null) {
-        let row = EntryRow {
-            kind,
-            id,
-            user,
-            level,
-        };
-        return Ok(Deltas::from_vec(vec![in alloc; Delta::Entry(row)]?));
-    }
-    if had {
+    if matches!(level, Level::Null) {
+        if had.is_none() {
+            return Ok(Deltas::from_vec(Vec::new(alloc)));
+        }
         return Ok(Deltas::from_vec(vec![in alloc; Delta::NoEntry { kind, id, user }]?));
     }
-    Ok(Deltas::from_vec(Vec::new(alloc)))
+    if has_level(had, level) {
+        return Ok(Deltas::from_vec(Vec::new(alloc)));
+    }
+    let row = EntryRow {
+        kind,
+        id,
+        user,
+        level,
+    };
+    Ok(Deltas::from_vec(vec![in alloc; Delta::Entry(row)]?))
+}
+
+// Whether there is an entry, of this level.
+fn has_level(had: Option<Level>, level: Level) -> bool
+    ensures { result ≡ has_level had level }
+{
+    match had {
+        None => false,
+        Some(Level::Null) => matches!(level, Level::Null),
+        Some(Level::Read) => matches!(level, Level::Read),
+        Some(Level::Write) => matches!(level, Level::Write),
+        Some(Level::Own) => matches!(level, Level::Own),
+    }
 }

@@ -10,11 +10,11 @@ ghost use Rattle.plan_coll.specs.Flags.{IsFlagged};
 use crate::collections::collection_row;
 use grid_model::{CollectionRow, Delta, Deltas, Item, Level, Path, PlanError, Refusal, Text};
 use grid_tables::Tables;
-use plan_base::may_at;
+use plan_base::{hands_on, may_at};
 use std::alloc::{AllocError, Global};
 
 /// Plans that the collection at the path hands its access on from now on to what is made in it, or no longer does
-/// (`inherit`, `noinherit`).
+/// (`inherit`, `noinherit`); nothing where it is so already.
 pub fn plan_inherit(
     alloc: Global,
     tables: &Tables,
@@ -32,6 +32,9 @@ pub fn plan_inherit(
     };
     if !may_at(tables, user, Item::Collection(id), Level::Own) {
         return Err(PlanError::Refused(Refusal::NoAccess));
+    }
+    if hands_on(tables, id) == on {
+        return Ok(Deltas::from_vec(Vec::new(alloc)));
     }
     let row = match flagged_row(alloc, tables, id, on) {
         Err(_) => return Err(PlanError::Memory),

@@ -22,10 +22,10 @@ returns-in-None-user_named c =
 pub returns-in-Err : goal.returns-in-Err
 returns-in-Err c =
     refused_room c.args.tables.now c.requires.made c.args.user c.args.level c.args.name.now c.args.path.now c.in-Some.item c.in-Some.ensures
-    (sym (c.may_at.ensures c.args.path.now c.in-Some.ensures) ∙ c.if-not-may_at.false) c.in-Some-user_named.other c.in-Some-user_named.ensures c.has_entry-had.result c.has_entry-had.ensures c.in-Err.refusal c.in-Err.ensures
+    (sym (c.may_at.ensures c.args.path.now c.in-Some.ensures) ∙ c.if-not-may_at.false) c.in-Some-user_named.other c.in-Some-user_named.ensures c.entry_level-had.result c.entry_level-had.ensures c.is_some.result c.is_some.ensures c.in-Err.refusal c.in-Err.ensures
 
 pub returns-in-Ok : goal.returns-in-Ok
 returns-in-Ok c =
     planned c.args.tables.now c.requires.made c.args.user c.args.level c.args.name.now c.args.path.now c.in-Some.item c.in-Some.ensures
-    (sym (c.may_at.ensures c.args.path.now c.in-Some.ensures) ∙ c.if-not-may_at.false) c.in-Some-user_named.other c.in-Some-user_named.ensures c.has_entry-had.result c.has_entry-had.ensures
+    (sym (c.may_at.ensures c.args.path.now c.in-Some.ensures) ∙ c.if-not-may_at.false) c.in-Some-user_named.other c.in-Some-user_named.ensures c.entry_level-had.result c.entry_level-had.ensures c.is_some.result c.is_some.ensures
     c.in_default.field-0 c.in_default.ensures c.in-Ok.deltas c.in-Ok.ensures.changes c.in-Ok.ensures.spelled

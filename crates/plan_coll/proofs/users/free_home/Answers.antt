@@ -1,4 +1,4 @@
-use Rattle.std.proofs.Common.{◌≡◌, false, [], sym, ap, ◌∙◌}
+use Rattle.std.proofs.Common.{◌≡◌, false, [], ◌∙◌}
 use Rattle.std.specs.Prelude.{unwrap_or}
 use Rattle.grid_model.specs.Grid.{home_of}
 use Rattle.grid_model.specs.Names.{is_name}
