@@ -4,5 +4,6 @@ pub mod Wholes
 pub mod Sweeping
 pub mod DeedLemmas
 pub mod DeedWholes
+pub mod Touched
 pub mod Discards
 pub mod ManyDiscards

@@ -3,6 +3,8 @@
 
 mod discarding;
 mod performing;
+mod touching;
 
 pub use discarding::{discard, discard_all};
 pub use performing::{commit, perform};
+pub use touching::check_file;

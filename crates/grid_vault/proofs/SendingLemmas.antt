@@ -61,7 +61,7 @@ on_err (Ok x) P h = tt
 on_err (Err e) P h = h
 
 -- as many as there are, or fewer
-take_min : (m n : ℕ) (xs : List ℕ) → n ≡ min m (length xs) → take n xs ≡ take m xs
+pub take_min : (m n : ℕ) (xs : List ℕ) → n ≡ min m (length xs) → take n xs ≡ take m xs
 take_min m n xs is = elim (cases_lt m (length xs)) [
   | inl lt ↦ ap (λ (k : ℕ). take k xs) (omega arith)
   | inr ge ↦ take_all n xs (omega arith) ∙ sym (take_all m xs ge)
@@ -74,7 +74,7 @@ take_both m given count buf is = elim (cases_lt m given) [
 ]
 
 -- more of the file behind its first bytes
-front_more : (sent buf : List ℕ) (given k : ℕ) (file : File) → IsFront sent file → given ≤ length file.bytes - length sent → take given buf ≡ take given (drop (length sent) file.bytes) → k ≤ given → given ≤ length buf → IsFront (sent ++ take k buf) file
+pub front_more : (sent buf : List ℕ) (given k : ℕ) (file : File) → IsFront sent file → given ≤ length file.bytes - length sent → take given buf ≡ take given (drop (length sent) file.bytes) → k ≤ given → given ≤ length buf → IsFront (sent ++ take k buf) file
 front_more sent buf given k file front within part le room =
     let size : length (sent ++ take k buf) ≡ length sent + k = omega (arith, length-append sent (take k buf), length-take-le k buf (omega arith)) in
     let piece : take k buf ≡ take k (drop (length sent) file.bytes) = sym (take-take k given buf le) ∙ ap (λ (xs : List ℕ). take k xs) part ∙ take-take k given (drop (length sent) file.bytes) le in (

@@ -57,3 +57,12 @@ module _ {B : Type 0} (state : B → StoreState) (from to slot : ℕ) (stores : 
         let P : B → Type 0 = λ b. Rose (state b).faults (state after).faults in
         let Q : B → Type 0 = λ b. Rose (state x).faults (state b).faults in
         subst P (sym old_is) (subst Q (sym new_is) rose)
+
+-- the count of one rose
+pub rose_there : {B : Type 0} (state : B → StoreState) (slot : ℕ) (stores : List B) (x y : B) → slice_get stores slot ≡ Some x → Rose (state x).faults (state y).faults → RoseAt state slot stores (set stores slot y)
+rose_there {B = B} state slot stores x y at rose before after was is =
+    let old_is : before ≡ x = same_place stores slot x before at was in
+    let new_is : after ≡ y = some_is after y (sym is ∙ slice_get-set_same stores slot y (slice_get_within stores slot x at)) in
+    let P : B → Type 0 = λ b. Rose (state b).faults (state after).faults in
+    let Q : B → Type 0 = λ b. Rose (state x).faults (state b).faults in
+    subst P (sym old_is) (subst Q (sym new_is) rose)

@@ -11,7 +11,7 @@ use grid_model::NewFiles;
 use grid_outside::{Moments, Plugin, StoreFault};
 
 // Appends the bytes to a file that was begun, in parts.
-fn append_all<P: Plugin>(
+pub(crate) fn append_all<P: Plugin>(
     store: &mut P,
     moments: &mut Moments,
     name: u64,
