@@ -9,10 +9,10 @@ use Rattle.chain_core.specs.declared.actions.Start.TheVariants.{Point, Exec}
 use Rattle.chain_core.specs.declared.frames.Frames.{Frames}
 use Rattle.chain_core.specs.Rest.{rest}
 use Rattle.chain_core.specs.Answers.{asked, Tells, IsUsable}
-use Rattle.chain_core.specs.Running.{Begins, Continues, Ends, Starts}
+use Rattle.chain_core.specs.Running.{Begins, Continues, LeavesFewer, Starts}
 use Rattle.chain_core.specs.Ending.{events_left}
 use Rattle.chain_core.proofs.Fewer.{next_fewer}
-use Rattle.chain_core.specs.Seen.{Takes}
+use Rattle.chain_core.specs.Seen.{TakesEvent}
 use Rattle.chain_core.specs.Settling.{Settles}
 use Rattle.chain_core.proofs.Keeping.{next_keeps}
 use Rattle.chain_core.proofs.Stepping.{point_is, call_is}
@@ -29,14 +29,14 @@ told rules m (Err e) is usable = tt
 
 -- ---- events
 
-pub usable_next : (rules : List Rule) (old mid new : Frames) (e : Event) → IsUsable rules old → Takes rules old old.control e mid → Settles rules mid new → IsUsable rules new
+pub usable_next : (rules : List Rule) (old mid new : Frames) (e : Event) → IsUsable rules old → TakesEvent rules old old.control e mid → Settles rules mid new → IsUsable rules new
 usable_next rules old mid new e usable took settles = usable_settled rules mid new (subst (Holds rules) (sym took.2) (next_holds rules old e took.0 usable)) settles
 
-pub continues : (rules : List Rule) (old mid new : Frames) (e : Event) → IsUsable rules old → Takes rules old old.control e mid → Settles rules mid new → Continues rules old e new
+pub continues : (rules : List Rule) (old mid new : Frames) (e : Event) → IsUsable rules old → TakesEvent rules old old.control e mid → Settles rules mid new → Continues rules old e new
 continues rules old mid new e usable took settles env s t a =
     settles.keeps.same env t ∙ ap (λ m. rest rules env m t) took.2 ∙ next_keeps rules env old e took.0 s t usable took.1 a
 
-pub ends : (rules : List Rule) (old mid new : Frames) (e : Event) → IsUsable rules old → Takes rules old old.control e mid → Settles rules mid new → Ends rules old e new
+pub ends : (rules : List Rule) (old mid new : Frames) (e : Event) → IsUsable rules old → TakesEvent rules old old.control e mid → Settles rules mid new → LeavesFewer rules old e new
 ends rules old mid new e usable took settles met =
     omega (arith, settles.keeps.fewer, next_fewer rules old e took.0 usable met, ap (events_left rules) took.2)
 

@@ -23,9 +23,9 @@ use Rattle.chain_core.specs.declared.kinds.Kind.{Kind}
 use Rattle.chain_core.specs.declared.stack.Frame.{Frame}
 use Rattle.chain_core.specs.declared.frames.Control.TheVariants.{Tests, GoesOn, Fails, Runs, Ended}
 use Rattle.chain_core.specs.declared.frames.Frames.{Frames}
-use Rattle.chain_core.specs.Rest.{failed_so, rest, rest_by, course, within, in_frame, rule_at, later, last_of, caller_at, after_rule, steps_left, named_of_did, outcome_of}
+use Rattle.chain_core.specs.Rest.{failed_so, rest, rest_by, course, in_frames, in_frame, rule_at, later, last_of, caller_at, after_rule, steps_left, named_of_did, outcome_of}
 use Rattle.chain_core.specs.Moves.{next_by, next, failed_as, is_stopped, was_stopped}
-use Rattle.chain_core.specs.Answers.{args_by, Answers, Computes, IsTooLong, Undoes, noted, Fits, IsKind, IsUsable, AreNested, running, is_settled_by, step_at, no_step, failure_in}
+use Rattle.chain_core.specs.Answers.{args_by, IsAnswer, Computes, IsTooLong, Undoes, noted, KindFits, IsKind, IsUsable, AreNested, running_frames, is_settled_by, step_at, no_step, failure_in}
 use Rattle.chain_core.proofs.Moving.{next_is, all_of}
 use Rattle.chain_core.proofs.Stepping.{step_is}
 use Rattle.chain_core.proofs.Stops.{call_stops, same_course}
@@ -37,7 +37,7 @@ use Rattle.chain_core.proofs.Answering.{at_test, at_eval, at_run, at_undo}
 module _ (rules : List Rule) (env : Env) (m : Frames) (f : Frame) where
   -- what is to be done of the rules that are tested
   abbrev tries : Option Failure → Bool → Course → Meaning Named
-  tries last b s = within rules env m.by_itself m.waiting m.undo (elim b [
+  tries last b s = in_frames rules env m.by_itself m.waiting m.undo (elim b [
     | true ↦
         chain (caller_at rules env (length m.waiting)) env.user (scope_of env f.args (rule_at rules f.rule)) (rule_at rules f.rule).steps [] false s
         >>= after_rule rules env (length m.waiting) f
@@ -47,8 +47,8 @@ module _ (rules : List Rule) (env : Env) (m : Frames) (f : Frame) where
   tested : (last : Option Failure) (b : Bool) (k : Kind) (s : Course) → holds (scope_of env f.args (rule_at rules f.rule)) s.grid (rule_at rules f.rule).cond ≡ b
       → rest rules env (next_by rules m (Tests f last) (event.Tested b) k) s ≡ rest_by rules env m (Tests f last) (course m s)
   tested last true k s is =
-      ap (λ us. within rules env m.by_itself m.waiting us (steps (drop (length m.undo) m.undo))) (all_of (length m.undo) m.undo (drop-length m.undo))
-      ∙ ap (λ ds. within rules env m.by_itself m.waiting m.undo (steps ds)) (drop-length m.undo)
+      ap (λ us. in_frames rules env m.by_itself m.waiting us (steps (drop (length m.undo) m.undo))) (all_of (length m.undo) m.undo (drop-length m.undo))
+      ∙ ap (λ ds. in_frames rules env m.by_itself m.waiting m.undo (steps ds)) (drop-length m.undo)
       ∙ ap (λ b. tries last b (course m s)) (sym is)
     where
       steps : List Call → Meaning Named
@@ -90,7 +90,7 @@ module _ (rules : List Rule) (env : Env) (m : Frames) (f : Frame) where
     ]
 
     abbrev on : Meaning Chained → Meaning Named
-    on e = within rules env m.by_itself m.waiting (take f.base m.undo) (e >>= after_rule rules env (length m.waiting) f)
+    on e = in_frames rules env m.by_itself m.waiting (take f.base m.undo) (e >>= after_rule rules env (length m.waiting) f)
 
     too_long : (k : Kind) → f.step < length (rule_at rules f.rule).steps → IsTooLong here s.grid (step_at (rule_at rules f.rule) f.step)
         → rest rules env (next_by rules m (GoesOn f) event.LongText k) s ≡ rest_by rules env m (GoesOn f) (course m s)
@@ -112,8 +112,8 @@ module _ (rules : List Rule) (env : Env) (m : Frames) (f : Frame) where
         let begins = begin_step (caller_at rules env (length m.waiting)) env.user values c (counted (course m s)) in
         step_is rules env (record m { undo = m.undo ++ own; begun = m.begun + 1 }) next values c k s kind
         (λ e. (given.coded e, ap (λ (x : Call). x.args) (sym given.is_call) ∙ texts_of step.call.args))
-        ∙ ap (λ us. within rules env m.by_itself m.waiting us (in_frame rules env (length m.waiting) next (drop f.base (m.undo ++ own)) begins)) (take-append-le f.base m.undo own below)
-        ∙ ap (λ ds. within rules env m.by_itself m.waiting (take f.base m.undo) (in_frame rules env (length m.waiting) next ds begins)) (drop-append-le f.base m.undo own below)
+        ∙ ap (λ us. in_frames rules env m.by_itself m.waiting us (in_frame rules env (length m.waiting) next (drop f.base (m.undo ++ own)) begins)) (take-append-le f.base m.undo own below)
+        ∙ ap (λ ds. in_frames rules env m.by_itself m.waiting (take f.base m.undo) (in_frame rules env (length m.waiting) next ds begins)) (drop-append-le f.base m.undo own below)
         ∙ sym (
         ap on (next_step (course m s) is)
         ∙ ap (λ x. on (does x (own_of here s step) (is_short x && all_short (own_of here s step)))) given.is_call
@@ -137,15 +137,15 @@ module _ (rules : List Rule) (env : Env) (m : Frames) where
   ran : (c : Call) (r : Result Unit Failure) (k : Kind) (s t : Course) → do_call env.user c (course m s) ≡ gives (record { state = t; failure = failure_in r })
       → rest rules env (next_by rules m (Runs c) (event.Ran r) k) t ≡ rest_by rules env m (Runs c) (course m s)
   ran c (Ok u) k s t e =
-      ap (λ x. within rules env m.by_itself m.waiting m.undo (gives (record { state = x; outcome = Chains.ended_well }))) (kept_course None c s t e (record m { control = Ended EndedWell }) refl refl)
-      ∙ ap (λ n. within rules env m.by_itself m.waiting m.undo (mapped named_of_did n)) (sym e)
+      ap (λ x. in_frames rules env m.by_itself m.waiting m.undo (gives (record { state = x; outcome = Chains.ended_well }))) (kept_course None c s t e (record m { control = Ended EndedWell }) refl refl)
+      ∙ ap (λ n. in_frames rules env m.by_itself m.waiting m.undo (mapped named_of_did n)) (sym e)
   ran c (Err x) k s t e =
       let did : Did = record { state = t; failure = Some x } in
-      ap (λ y. within rules env m.by_itself m.waiting m.undo (gives (record { state = y; outcome = outcome_of (failed_as x (is_stopped x || m.stopped)) })))
+      ap (λ y. in_frames rules env m.by_itself m.waiting m.undo (gives (record { state = y; outcome = outcome_of (failed_as x (is_stopped x || m.stopped)) })))
       (kept_course (Some x) c s t e (record m { stopped = is_stopped x || m.stopped; control = Ended EndedWell }) refl refl)
-      ∙ ap (λ o. within rules env m.by_itself m.waiting m.undo (gives (record { state = t; outcome = o })))
+      ∙ ap (λ o. in_frames rules env m.by_itself m.waiting m.undo (gives (record { state = t; outcome = o })))
       (ended_so x (is_stopped x || m.stopped) ∙ ap (failed_so x) (sym (call_stops env.user c (course m s) did e)))
-      ∙ ap (λ n. within rules env m.by_itself m.waiting m.undo (mapped named_of_did n)) (sym e)
+      ∙ ap (λ n. in_frames rules env m.by_itself m.waiting m.undo (mapped named_of_did n)) (sym e)
 
   -- ---- a recovery that was run
 
@@ -161,7 +161,7 @@ module _ (rules : List Rule) (env : Env) (m : Frames) where
 
   module _ (f : Frame) (x : Failure) (halts : Bool) (us : List Call) (c : Call) (y : Option Failure) (s t : Course) (below : f.base < length m.undo) (is : m.undo ≡ us ++ c ∷ []) (done : Undoes env.user c y (course m s) t) where
     abbrev undoes : List Call → Meaning Course → Meaning Named
-    undoes outer b = within rules env m.by_itself m.waiting outer (mapped (undone x halts f.cut) b >>= after_rule rules env (length m.waiting) f)
+    undoes outer b = in_frames rules env m.by_itself m.waiting outer (mapped (undone x halts f.cut) b >>= after_rule rules env (length m.waiting) f)
 
     not_above : f.base ≤ length us
     not_above = omega (arith, below, ap length is, length-append us (c ∷ []))
@@ -205,7 +205,7 @@ module _ (rules : List Rule) (env : Env) (m : Frames) where
 more_steps : (rules : List Rule) (m : Frames) (f : Frame) → IsUsable rules m → m.control ≡ GoesOn f → f.step < length (rule_at rules f.rule).steps
 more_steps rules m f usable is = ltb-true f.step (length (rule_at rules f.rule).steps) (subst (λ x. is_settled_by rules m x ≡ true) is usable.settled)
 
-pub next_keeps : (rules : List Rule) (env : Env) (m : Frames) (e : Event) (k : Kind) (s t : Course) → IsUsable rules m → Fits m.control e k → Answers rules env m e s t
+pub next_keeps : (rules : List Rule) (env : Env) (m : Frames) (e : Event) (k : Kind) (s t : Course) → IsUsable rules m → KindFits m.control e k → IsAnswer rules env m e s t
     → rest rules env (next rules m e k) t ≡ rest rules env m s
 next_keeps rules env m (event.Tested b) k s t usable fit a =
     let at = at_test m.by_itself m.control a.0 a.1 in
@@ -223,7 +223,7 @@ next_keeps rules env m (event.Computed c recovery) k s t usable fit a =
     (subst (λ x. Computes (scope_of env (args_by m x) (rule_at rules a.0.0)) s.grid (step_at (rule_at rules a.0.0) a.0.1) c (option_to_list recovery)) at.1 a.0.3)) in
     subst (λ x. rest rules env (next_by rules m x (event.Computed c recovery) k) t ≡ rest_by rules env m x (course m s)) (sym at.1)
     (ap (rest rules env (next_by rules m (GoesOn f) (event.Computed c recovery) k)) a.1
-    ∙ computes rules env m f s c recovery k (more_steps rules m f usable at.1) (subst (λ x. AreNested (running m x) (length m.undo)) at.1 usable.sound).0 (subst (λ x. Fits x (event.Computed c recovery) k) at.1 fit) given)
+    ∙ computes rules env m f s c recovery k (more_steps rules m f usable at.1) (subst (λ x. AreNested (running_frames m x) (length m.undo)) at.1 usable.sound).0 (subst (λ x. KindFits x (event.Computed c recovery) k) at.1 fit) given)
 next_keeps rules env m event.LongText k s t usable fit a =
     let at = at_eval m.by_itself m.control a.0 a.1 a.2 in
     let f = at.0 in

@@ -19,7 +19,7 @@ use Rattle.chain_core.specs.declared.stack.Frame.{Frame}
 use Rattle.chain_core.specs.declared.frames.Control.{Control}
 use Rattle.chain_core.specs.declared.frames.Control.TheVariants.{Tests, GoesOn, Fails, Runs, Ended}
 use Rattle.chain_core.specs.declared.frames.Frames.{Frames}
-use Rattle.chain_core.specs.Rest.{rest, rest_by, course, within, rule_at, no_rule, later, last_of, outcome_of, caller_at, after_rule}
+use Rattle.chain_core.specs.Rest.{rest, rest_by, course, in_frames, rule_at, no_rule, later, last_of, outcome_of, caller_at, after_rule}
 use Rattle.chain_core.specs.Moves.{first_at, next_named, at_next, next_rule, rule_failed, resumed, taken_up, move_by, move, ended_as}
 
 -- ---- the next rule of a name
@@ -77,18 +77,18 @@ next_below rules name i = is_below rules name (drop i rules) i refl
 -- the next rule of a name is what the rules that are left come to
 pub next_is : (rules : List Rule) (env : Env) (m : Frames) (f : Frame) (last : Option Failure) (s : Course)
     → rest rules env (record m { control = next_rule rules f last }) s
-    ≡ within rules env m.by_itself m.waiting m.undo (try_rules (caller_at rules env (length m.waiting)) env f.args (later rules f.name (suc f.rule)) (last_of last) (course m s))
+    ≡ in_frames rules env m.by_itself m.waiting m.undo (try_rules (caller_at rules env (length m.waiting)) env f.args (later rules f.name (suc f.rule)) (last_of last) (course m s))
 next_is rules env m f last s = by_next (next_named rules f.name (suc f.rule)) (later rules f.name (suc f.rule)) (finds_next rules f.name (suc f.rule))
   where
     all : List Rule → Meaning Named
-    all rs = within rules env m.by_itself m.waiting m.undo (try_rules (caller_at rules env (length m.waiting)) env f.args rs (last_of last) (course m s))
+    all rs = in_frames rules env m.by_itself m.waiting m.undo (try_rules (caller_at rules env (length m.waiting)) env f.args rs (last_of last) (course m s))
 
     ended : (x : Option Failure) → outcome_of (ended_as x) ≡ last_of x
     ended None = refl
     ended (Some x) = refl
 
     by_next : (o : Option ℕ) (rs : List Rule) → Finds rules f.name o rs → rest rules env (record m { control = at_next o f last }) s ≡ all rs
-    by_next None rs e = ap (λ o. within rules env m.by_itself m.waiting m.undo (gives (record { state = course m s; outcome = o }))) (ended last) ∙ ap all (sym e)
+    by_next None rs e = ap (λ o. in_frames rules env m.by_itself m.waiting m.undo (gives (record { state = course m s; outcome = o }))) (ended last) ∙ ap all (sym e)
     by_next (Some i) rs e = ap all (sym e)
 
 all_left : {A : Type 0} (n : ℕ) (xs : List A) → nat_lt n (length xs) ≡ false → drop n xs ≡ []
@@ -108,7 +108,7 @@ move_keeps rules env m s = by_control m.control refl
     by_step f false is e = ap on (sym (all_left f.step (rule_at rules f.rule).steps e))
       where
         on : List Step → Meaning Named
-        on steps = within rules env m.by_itself m.waiting (take f.base m.undo)
+        on steps = in_frames rules env m.by_itself m.waiting (take f.base m.undo)
             (chain (caller_at rules env (length m.waiting)) env.user (scope_of env f.args (rule_at rules f.rule)) steps (drop f.base m.undo) f.cut (course m s)
             >>= after_rule rules env (length m.waiting) f)
 
@@ -121,16 +121,16 @@ move_keeps rules env m s = by_control m.control refl
         none = all_left f.base m.undo e
 
         on : List Call → List Call → Meaning Named
-        on us ds = within rules env m.by_itself m.waiting us (mapped (undone x halts f.cut) (back env.user ds (course m s)) >>= after_rule rules env (length m.waiting) f)
+        on us ds = in_frames rules env m.by_itself m.waiting us (mapped (undone x halts f.cut) (back env.user ds (course m s)) >>= after_rule rules env (length m.waiting) f)
 
         chained : Chains.Outcome → Chained
         chained o = record { state = course m s; outcome = o; cut = f.cut }
 
         all : Chains.Outcome → Meaning Named
-        all o = within rules env m.by_itself m.waiting m.undo (after_rule rules env (length m.waiting) f (chained o))
+        all o = in_frames rules env m.by_itself m.waiting m.undo (after_rule rules env (length m.waiting) f (chained o))
 
         by_cut : (c : Bool) → rest rules env (record m { control = elim c [ true ↦ Ended (Failed x) | false ↦ next_rule rules f (Some x) ] }) s
-            ≡ within rules env m.by_itself m.waiting m.undo (elim c [
+            ≡ in_frames rules env m.by_itself m.waiting m.undo (elim c [
               | true ↦ gives (record { state = course m s; outcome = failed x })
               | false ↦ try_rules (caller_at rules env (length m.waiting)) env f.args (later rules f.name (suc f.rule)) (failed x) (course m s)
             ])
@@ -147,10 +147,10 @@ move_keeps rules env m s = by_control m.control refl
 
     by_waiting : (o : Outcome) (fs : List Frame) → m.control ≡ Ended o → m.waiting ≡ fs → rest rules env (taken_up m o fs) s ≡ rest_by rules env m (Ended o) (course m s)
     by_waiting o [] is e = refl
-    by_waiting o (f ∷ fs) is e = by_outcome o ∙ ap (λ ws. within rules env m.by_itself ws m.undo (gives (record { state = course m s; outcome = outcome_of o }))) (sym e)
+    by_waiting o (f ∷ fs) is e = by_outcome o ∙ ap (λ ws. in_frames rules env m.by_itself ws m.undo (gives (record { state = course m s; outcome = outcome_of o }))) (sym e)
       where
         by_outcome : (x : Outcome) → rest rules env (record m { waiting = fs; control = resumed f x }) s
-            ≡ within rules env m.by_itself (f ∷ fs) m.undo (gives (record { state = course m s; outcome = outcome_of x }))
+            ≡ in_frames rules env m.by_itself (f ∷ fs) m.undo (gives (record { state = course m s; outcome = outcome_of x }))
         by_outcome EndedWell = refl
         by_outcome (Failed x) = refl
         by_outcome (Halted x) = refl

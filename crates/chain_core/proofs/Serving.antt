@@ -14,7 +14,7 @@ use Rattle.grid_model.specs.declared.calls.Call.{Call}
 use Rattle.grid_model.proofs.Comparing.{same_text-Decides}
 use Rattle.chain_core.specs.declared.services.Reading.{Reading}
 use Rattle.chain_core.specs.declared.services.Reading.TheVariants.{Nop, Path as APath, Paths, Place, Copy, Triple, Access}
-use Rattle.chain_core.specs.Readings.{readings, takes}
+use Rattle.chain_core.specs.Readings.{readings, fits_reading}
 
 pub word_test : (r : Bool) (a b : Text) → (IsTrue r ↔ (b ≡ a)) → r ≡ same_text a b
 word_test true a b h = sym ((same_text-Decides a b).1 (sym (h.0 refl)))
@@ -22,7 +22,7 @@ word_test false a b h = sym (false_from_ne_true (same_text a b) (λ e. absurd (c
 
 -- a reading takes the arguments of its form
 abbrev Reads : Services.Reading → Reading → Type 0
-Reads f r = (args : List Text) → is_some (f args) ≡ takes r args
+Reads f r = (args : List Text) → is_some (f args) ≡ fits_reading r args
 
 nop_reads : Reads reads_nop Nop
 nop_reads [] = refl
@@ -82,20 +82,20 @@ Match (a ∷ fs) (b ∷ bs) = (a.0 ≡ b.0) × Reads a.1 b.1 × Match fs bs
 Match fs bs = ⊥
 
 matched : (fs : List (Text × Services.Reading)) (bs : List (Text × Reading)) → Match fs bs → (name : Text) (args : List Text)
-    → is_some (option_map_or (λ f. f args) (word_in fs name) None) ≡ option_map_or (λ r. takes r args) (word_in bs name) false
+    → is_some (option_map_or (λ f. f args) (word_in fs name) None) ≡ option_map_or (λ r. fits_reading r args) (word_in bs name) false
 matched [] [] same name args = refl
 matched [] (b ∷ bs) same name args = absurd same
 matched (a ∷ fs) [] same name args = absurd same
 matched (a ∷ fs) (b ∷ bs) same name args =
     by_name (matched fs bs same.2 name args) (same_text a.0 name)
-    ∙ ap (λ n. option_map_or (λ r. takes r args) (elim (same_text n name) [ true ↦ Some b.1 | false ↦ word_in bs name ]) false) same.0
+    ∙ ap (λ n. option_map_or (λ r. fits_reading r args) (elim (same_text n name) [ true ↦ Some b.1 | false ↦ word_in bs name ]) false) same.0
   where
-    by_name : is_some (option_map_or (λ f. f args) (word_in fs name) None) ≡ option_map_or (λ r. takes r args) (word_in bs name) false → (t : Bool)
-        → is_some (option_map_or (λ f. f args) (elim t [ true ↦ Some a.1 | false ↦ word_in fs name ]) None) ≡ option_map_or (λ r. takes r args) (elim t [ true ↦ Some b.1 | false ↦ word_in bs name ]) false
+    by_name : is_some (option_map_or (λ f. f args) (word_in fs name) None) ≡ option_map_or (λ r. fits_reading r args) (word_in bs name) false → (t : Bool)
+        → is_some (option_map_or (λ f. f args) (elim t [ true ↦ Some a.1 | false ↦ word_in fs name ]) None) ≡ option_map_or (λ r. fits_reading r args) (elim t [ true ↦ Some b.1 | false ↦ word_in bs name ]) false
     by_name rest true = same.1 args
     by_name rest false = rest
 
-pub serves : (c : Call) → is_some (service c) ≡ option_map_or (λ r. takes r c.args) (word_in readings c.name) false
+pub serves : (c : Call) → is_some (service c) ≡ option_map_or (λ r. fits_reading r c.args) (word_in readings c.name) false
 serves c = matched services readings same c.name c.args
   where
     same : Match services readings
@@ -180,7 +180,7 @@ module _ (c : Call) (no_cut : same_text c.name (codes "cut") ≡ false) (no_succ
   is_named = by_none (service c) refl
 
 -- three arguments, by their first
-pub access_takes : (args : List Text) (w : Text) → 3 ≤ length args → length args < 4 → w ≡ get_or args 0 w → is_some (word_in level_words w) ≡ takes Access args
+pub access_takes : (args : List Text) (w : Text) → 3 ≤ length args → length args < 4 → w ≡ get_or args 0 w → is_some (word_in level_words w) ≡ fits_reading Access args
 access_takes [] w some few is = absurd (omega (arith, some))
 access_takes (a ∷ []) w some few is = absurd (omega (arith, some))
 access_takes (a ∷ b ∷ []) w some few is = absurd (omega (arith, some))

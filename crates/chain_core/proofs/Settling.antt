@@ -12,8 +12,8 @@ use Rattle.chain_core.specs.declared.frames.Control.TheVariants.{Tests, GoesOn, 
 use Rattle.chain_core.specs.declared.frames.Frames.{Frames}
 use Rattle.chain_core.specs.Rest.{rule_at}
 use Rattle.chain_core.specs.Moves.{move, move_by, next_rule, next_named, at_next, rule_failed, resumed, taken_up}
-use Rattle.chain_core.specs.Answers.{none_waits, is_settled, is_settled_by, IsSound, IsThere, AreNested, running}
-use Rattle.chain_core.specs.Settling.{Keeps}
+use Rattle.chain_core.specs.Answers.{none_waits, is_settled, is_settled_by, ListsRecoveries, IsThere, AreNested, running_frames}
+use Rattle.chain_core.specs.Settling.{KeepsRest}
 use Rattle.chain_core.proofs.Fewer.{move_fewer}
 use Rattle.chain_core.proofs.Moving.{move_keeps, IsBelow, next_below}
 
@@ -91,47 +91,47 @@ nested_more (f ∷ fs) n k is le = (omega (arith, is.0, le), is.1)
 pub nested_cut : {A : Type 0} (fs : List Frame) (n : ℕ) (xs : List A) → n ≤ length xs → AreNested fs n → AreNested fs (length (take n xs))
 nested_cut fs n xs le is = subst (AreNested fs) (omega (arith, length-take n xs, le)) is
 
-pub next_waits : (m : Frames) (o : Option ℕ) (f : Frame) (last : Option Failure) → running m (at_next o f last) ≡ m.waiting
+pub next_waits : (m : Frames) (o : Option ℕ) (f : Frame) (last : Option Failure) → running_frames m (at_next o f last) ≡ m.waiting
 next_waits m None f last = refl
 next_waits m (Some i) f last = refl
 
-failed_waits : (rules : List Rule) (m : Frames) (f : Frame) (x : Failure) (halts stopped : Bool) → running m (rule_failed rules f x halts stopped) ≡ m.waiting
+failed_waits : (rules : List Rule) (m : Frames) (f : Frame) (x : Failure) (halts stopped : Bool) → running_frames m (rule_failed rules f x halts stopped) ≡ m.waiting
 failed_waits rules m f x halts true = refl
 failed_waits rules m f x true false = refl
 failed_waits rules m f x false false = by_cut f.cut
   where
-    by_cut : (b : Bool) → running m (elim b [ true ↦ Ended (Failed x) | false ↦ next_rule rules f (Some x) ]) ≡ m.waiting
+    by_cut : (b : Bool) → running_frames m (elim b [ true ↦ Ended (Failed x) | false ↦ next_rule rules f (Some x) ]) ≡ m.waiting
     by_cut true = refl
     by_cut false = next_waits m (next_named rules f.name (suc f.rule)) f (Some x)
 
-resumed_runs : (m : Frames) (f : Frame) (o : Outcome) → running m (resumed f o) ≡ f ∷ m.waiting
+resumed_runs : (m : Frames) (f : Frame) (o : Outcome) → running_frames m (resumed f o) ≡ f ∷ m.waiting
 resumed_runs m f EndedWell = refl
 resumed_runs m f (Failed x) = refl
 resumed_runs m f (Halted x) = refl
 resumed_runs m f NoneApplied = refl
 
-pub move_sound : (rules : List Rule) (m : Frames) → IsSound m → IsSound (move rules m)
+pub move_sound : (rules : List Rule) (m : Frames) → ListsRecoveries m → ListsRecoveries (move rules m)
 move_sound rules m = by_control m.control
   where
     Sound : Control → Type 0
-    Sound c = AreNested (running m c) (length m.undo)
+    Sound c = AreNested (running_frames m c) (length m.undo)
 
-    by_step : (f : Frame) (b : Bool) → Sound (GoesOn f) → IsSound (elim b [ true ↦ record m { control = GoesOn f } | false ↦ record m { undo = take f.base m.undo; control = Ended EndedWell } ])
+    by_step : (f : Frame) (b : Bool) → Sound (GoesOn f) → ListsRecoveries (elim b [ true ↦ record m { control = GoesOn f } | false ↦ record m { undo = take f.base m.undo; control = Ended EndedWell } ])
     by_step f true is = is
     by_step f false is = nested_cut m.waiting f.base m.undo is.0 is.1
 
     by_undo : (f : Frame) (x : Failure) (halts b : Bool) → Sound (Fails f x halts)
-        → IsSound (elim b [ true ↦ record m { control = Fails f x halts } | false ↦ record m { control = rule_failed rules f x halts m.stopped } ])
+        → ListsRecoveries (elim b [ true ↦ record m { control = Fails f x halts } | false ↦ record m { control = rule_failed rules f x halts m.stopped } ])
     by_undo f x halts true is = is
     by_undo f x halts false is =
         subst (λ fs. AreNested fs (length m.undo)) (sym (failed_waits rules (record m { control = rule_failed rules f x halts m.stopped }) f x halts m.stopped))
         (nested_more m.waiting f.base (length m.undo) is.1 is.0)
 
-    by_waiting : (o : Outcome) (ws : List Frame) → AreNested ws (length m.undo) → m.waiting ≡ ws → IsSound (taken_up m o ws)
+    by_waiting : (o : Outcome) (ws : List Frame) → AreNested ws (length m.undo) → m.waiting ≡ ws → ListsRecoveries (taken_up m o ws)
     by_waiting o [] is e = subst (λ ws. AreNested ws (length m.undo)) (sym e) tt
     by_waiting o (f ∷ fs) is e = subst (λ ws. AreNested ws (length m.undo)) (sym (resumed_runs (record m { waiting = fs; control = resumed f o }) f o)) is
 
-    by_control : (c : Control) → Sound c → IsSound (move_by rules m c)
+    by_control : (c : Control) → Sound c → ListsRecoveries (move_by rules m c)
     by_control (Tests f last) is = is
     by_control (GoesOn f) is = by_step f (nat_lt f.step (length (rule_at rules f.rule).steps)) is
     by_control (Fails f x halts) is = by_undo f x halts (nat_lt f.base (length m.undo)) is
@@ -209,7 +209,7 @@ move_counts rules m = by_control m.control
     by_control (Runs c) = (refl, refl)
     by_control (Ended o) = by_waiting o m.waiting
 
-pub keeps_move : (rules : List Rule) (old m : Frames) → Keeps rules old m → Keeps rules old (move rules m)
+pub keeps_move : (rules : List Rule) (old m : Frames) → KeepsRest rules old m → KeepsRest rules old (move rules m)
 keeps_move rules old m kept = record {
   same = λ env s. move_keeps rules env m s ∙ kept.same env s;
   sound = λ is. move_sound rules m (kept.sound is);
@@ -219,7 +219,7 @@ keeps_move rules old m kept = record {
   fewer = omega (arith, move_fewer rules m, kept.fewer);
 }
 
-pub keeps_all : (rules : List Rule) (m : Frames) → Keeps rules m m
+pub keeps_all : (rules : List Rule) (m : Frames) → KeepsRest rules m m
 keeps_all rules m = record { same = λ env s. refl; sound = λ is. is; there = λ is. is; begun = refl; stopped = refl; fewer = omega arith }
 
 -- what one turn says of the next: it stays where it waits, and is nearer to it where it does not

@@ -19,8 +19,8 @@ use Rattle.chain_core.specs.declared.kinds.Kind.TheVariants.{Cut, Succeed, Fail,
 use Rattle.chain_core.specs.declared.stack.Frame.{Frame}
 use Rattle.chain_core.specs.declared.frames.Control.TheVariants.{Ended}
 use Rattle.chain_core.specs.declared.frames.Frames.{Frames}
-use Rattle.chain_core.specs.Rest.{rest, course, within, at_end, in_frame, later, caller_at, named_of_did, named_of_step, failed_so}
-use Rattle.chain_core.specs.Moves.{next_named, first_rule, called, control_of, step_by, step_of, waiting_for, at_point, at_call}
+use Rattle.chain_core.specs.Rest.{rest, course, in_frames, at_end, in_frame, later, caller_at, named_of_did, named_of_step, failed_so}
+use Rattle.chain_core.specs.Moves.{next_named, first_rule, called, control_of, step_by, counted_step, waiting_for, at_point, at_call}
 use Rattle.chain_core.specs.Answers.{IsKind, IsCoded}
 use Rattle.chain_core.proofs.Moving.{Finds, finds_next}
 
@@ -29,7 +29,7 @@ use Rattle.chain_core.proofs.Moving.{Finds, finds_next}
 -- what all frames make of how a step of the innermost one ended
 abbrev pub stepped : List Rule → Env → Bool → List Frame → List Call → Meaning Stepped → Meaning Named
 stepped rules env by_itself [] undo step = mapped named_of_step (behind undo step)
-stepped rules env by_itself (f ∷ fs) undo step = within rules env by_itself fs (take f.base undo) (in_frame rules env (length fs) f (drop f.base undo) step)
+stepped rules env by_itself (f ∷ fs) undo step = in_frames rules env by_itself fs (take f.base undo) (in_frame rules env (length fs) f (drop f.base undo) step)
 
 -- a frame waits, or the call is by itself
 abbrev pub TakesSteps : Bool → List Frame → Type 0
@@ -42,7 +42,7 @@ mapped_behind f cs (waits w) = refl
 mapped_behind f cs unfit = refl
 
 pub as_step : (rules : List Rule) (env : Env) (b : Bool) (ws : List Frame) (undo : List Call) (n : Meaning Named) → TakesSteps b ws
-    → within rules env b ws undo n ≡ stepped rules env b ws undo (mapped from_named n)
+    → in_frames rules env b ws undo n ≡ stepped rules env b ws undo (mapped from_named n)
 as_step rules env b [] undo n is = ap (λ x. at_end x (behind undo n)) is ∙ ap (mapped named_of_step) (mapped_behind from_named undo n)
 as_step rules env b (f ∷ fs) undo n is = refl
 
@@ -75,11 +75,11 @@ depth_none n e = omega (arith, ltb-false n deepest e)
 
 pub called_is : (rules : List Rule) (env : Env) (m : Frames) (c : Call) (s : Course)
     → rest rules env (record m { control = called rules (length m.waiting) c }) s
-    ≡ within rules env m.by_itself m.waiting m.undo (call_within (deepest - length m.waiting) rules env c.name c.args (course m s))
+    ≡ in_frames rules env m.by_itself m.waiting m.undo (call_within (deepest - length m.waiting) rules env c.name c.args (course m s))
 called_is rules env m c s = by_depth (nat_lt (length m.waiting) deepest) refl
   where
     all : Meaning Named → Meaning Named
-    all n = within rules env m.by_itself m.waiting m.undo n
+    all n = in_frames rules env m.by_itself m.waiting m.undo n
 
     tries : List Rule → Meaning Named
     tries rs = all (try_rules (caller_at rules env (length m.waiting)) env c.args rs none_applied (course m s))
@@ -130,13 +130,13 @@ module _ (rules : List Rule) (env : Env) (m : Frames) (takes : TakesSteps m.by_i
 -- ---- a step of a frame
 
 pub step_is : (rules : List Rule) (env : Env) (m : Frames) (f : Frame) (vs : List Value) (c : Call) (k : Kind) (s : Course) → IsKind c k → (doing c ≡ failing → IsCoded vs × (c.args ≡ map text_of vs))
-    → rest rules env (step_of rules m f c k) s
-    ≡ within rules env m.by_itself m.waiting (take f.base m.undo)
+    → rest rules env (counted_step rules m f c k) s
+    ≡ in_frames rules env m.by_itself m.waiting (take f.base m.undo)
     (in_frame rules env (length m.waiting) f (drop f.base m.undo) (begin_step (caller_at rules env (length m.waiting)) env.user vs c (course m s)))
 step_is rules env m f vs c k s is coded = by_budget (nat_le m.begun most_steps)
   where
     all : Meaning Stepped → Meaning Named
-    all x = within rules env m.by_itself m.waiting (take f.base m.undo) (in_frame rules env (length m.waiting) f (drop f.base m.undo) x)
+    all x = in_frames rules env m.by_itself m.waiting (take f.base m.undo) (in_frame rules env (length m.waiting) f (drop f.base m.undo) x)
 
     does_as : Doing → Meaning Named
     does_as d = all (do_as d (caller_at rules env (length m.waiting)) env.user vs c (course m s))

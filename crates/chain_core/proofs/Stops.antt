@@ -7,7 +7,7 @@ use Rattle.grid_model.specs.Meanings.{gives}
 use Rattle.grid_model.specs.Deeds.{Act, Deed, changes, deed, by_mark, fits}
 use Rattle.grid_model.specs.Operations.Table.{row}
 use Rattle.grid_model.specs.Services.{Service, nothing, operation, no_path, service}
-use Rattle.grid_model.specs.Doing.{Course, Did, with_result, where_fits, taking, take_mark, do_act, do_service, do_call}
+use Rattle.grid_model.specs.Doing.{Course, Did, with_result, where_mark_fits, taking, take_mark, do_act, do_service, do_call}
 use Rattle.grid_model.specs.declared.calls.Call.{Call}
 use Rattle.grid_model.specs.declared.marks.Mark.{Mark}
 use Rattle.grid_model.specs.declared.marks.Mark.TheVariants.{Ran, Fault, Bad, Stop}
@@ -26,7 +26,7 @@ mark_stops s d (Fault slot sent) rest = refl
 mark_stops s d (Bad slot len found sent) rest = refl
 mark_stops s d Stop rest = refl
 
-fitted : (b : Bool) (x did : Did) → where_fits b x ≡ gives did → x ≡ did
+fitted : (b : Bool) (x did : Did) → where_mark_fits b x ≡ gives did → x ≡ did
 fitted true x did e = gives_is e
 fitted false x did e = absurd (unfit_not_gives e)
 

@@ -15,7 +15,7 @@ use Rattle.chain_core.specs.declared.frames.Control.{Control}
 use Rattle.chain_core.specs.declared.frames.Control.TheVariants.{Tests, Fails, Runs, Ended}
 use Rattle.chain_core.specs.declared.frames.Frames.{Frames}
 use Rattle.chain_core.specs.Moves.{next_by, was_stopped}
-use Rattle.chain_core.specs.Seen.{Takes}
+use Rattle.chain_core.specs.Seen.{TakesEvent}
 
 tests_over : (rules : List Rule) (m : Frames) (x : Control) (f : Frame) (last : Option Failure) (e : Event) (k : Kind)
     → next_by rules (record m { control = x }) (Tests f last) e k ≡ next_by rules m (Tests f last) e k
@@ -71,17 +71,17 @@ abbrev pub away : Frames → Frames
 away m = record m { control = Ended NoneApplied }
 
 module _ (rules : List Rule) (m n : Frames) (e : Event) where
-  takes_as : (c : Control) → m.control ≡ c → Takes rules m c e n → Takes rules m m.control e n
-  takes_as c is = subst (λ x. Takes rules m x e n) (sym is)
+  takes_as : (c : Control) → m.control ≡ c → TakesEvent rules m c e n → TakesEvent rules m m.control e n
+  takes_as c is = subst (λ x. TakesEvent rules m x e n) (sym is)
 
-  pub tests_takes : (f : Frame) (last : Option Failure) → m.control ≡ Tests f last → n ≡ next_by rules (away m) (Tests f last) e Name → Takes rules m m.control e n
+  pub tests_takes : (f : Frame) (last : Option Failure) → m.control ≡ Tests f last → n ≡ next_by rules (away m) (Tests f last) e Name → TakesEvent rules m m.control e n
   tests_takes f last is made = takes_as (Tests f last) is (Name, tt, made ∙ tests_over rules m (Ended NoneApplied) f last e Name)
 
-  pub runs_takes : (c : Call) → m.control ≡ Runs c → n ≡ next_by rules (away m) (Runs c) e Name → Takes rules m m.control e n
+  pub runs_takes : (c : Call) → m.control ≡ Runs c → n ≡ next_by rules (away m) (Runs c) e Name → TakesEvent rules m m.control e n
   runs_takes c is made = takes_as (Runs c) is (Name, tt, made ∙ runs_over rules m (Ended NoneApplied) c e Name)
 
-  pub fails_takes : (f : Frame) (y : Failure) (halts : Bool) → m.control ≡ Fails f y halts → n ≡ next_by rules (away m) (Fails f y halts) e Name → Takes rules m m.control e n
+  pub fails_takes : (f : Frame) (y : Failure) (halts : Bool) → m.control ≡ Fails f y halts → n ≡ next_by rules (away m) (Fails f y halts) e Name → TakesEvent rules m m.control e n
   fails_takes f y halts is made = takes_as (Fails f y halts) is (Name, tt, made ∙ fails_over rules m (Ended NoneApplied) f y halts e Name)
 
-  pub ended_takes : (o : Outcome) → m.control ≡ Ended o → n ≡ record m { control = Ended o } → Takes rules m m.control e n
+  pub ended_takes : (o : Outcome) → m.control ≡ Ended o → n ≡ record m { control = Ended o } → TakesEvent rules m m.control e n
   ended_takes o is made = takes_as (Ended o) is (Name, tt, made ∙ ended_over rules m o e Name)

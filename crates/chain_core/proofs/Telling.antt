@@ -20,8 +20,8 @@ use Rattle.chain_core.specs.declared.stack.Frame.{Frame}
 use Rattle.chain_core.specs.declared.frames.Control.{Control}
 use Rattle.chain_core.specs.declared.frames.Control.TheVariants.{Tests, GoesOn, Fails, Runs, Ended}
 use Rattle.chain_core.specs.declared.frames.Frames.{Frames}
-use Rattle.chain_core.specs.Rest.{rest_by, course, within, at_end, after_rule, rule_at, named_of_did, outcome_of}
-use Rattle.chain_core.specs.Answers.{asked, asked_by, shown, Tells, WaitsWith, IsUsable, IsThere, is_settled_by, none_waits}
+use Rattle.chain_core.specs.Rest.{rest_by, course, in_frames, at_end, after_rule, rule_at, named_of_did, outcome_of}
+use Rattle.chain_core.specs.Answers.{asked, asked_by, shown_outcome, Tells, WaitsWith, IsUsable, IsThere, is_settled_by, none_waits}
 
 -- ---- what waits in all frames
 
@@ -41,11 +41,11 @@ end_unfit false = refl
 joined : (n : ℕ) (undo : List Call) (w : Waiting) → before (take n undo) (before (drop n undo) w) ≡ before undo w
 joined n undo w = ap (λ cs. record w { undo = cs }) (sym (append_assoc (take n undo) (drop n undo) w.undo) ∙ ap (λ cs. cs ++ w.undo) (take-append-drop n undo))
 
-pub within_waits : (rules : List Rule) (env : Env) (b : Bool) (fs : List Frame) (undo : List Call) (w : Waiting) → within rules env b fs undo (waits w) ≡ waits (before undo w)
+pub within_waits : (rules : List Rule) (env : Env) (b : Bool) (fs : List Frame) (undo : List Call) (w : Waiting) → in_frames rules env b fs undo (waits w) ≡ waits (before undo w)
 within_waits rules env b [] undo w = end_waits b (before undo w)
 within_waits rules env b (f ∷ fs) undo w = within_waits rules env b fs (take f.base undo) (before (drop f.base undo) w) ∙ ap waits (joined f.base undo w)
 
-pub within_unfit : (rules : List Rule) (env : Env) (b : Bool) (fs : List Frame) (undo : List Call) → within rules env b fs undo unfit ≡ unfit
+pub within_unfit : (rules : List Rule) (env : Env) (b : Bool) (fs : List Frame) (undo : List Call) → in_frames rules env b fs undo unfit ≡ unfit
 within_unfit rules env b [] undo = end_unfit b
 within_unfit rules env b (f ∷ fs) undo = within_unfit rules env b fs (take f.base undo)
 
@@ -70,13 +70,13 @@ module _ (rules : List Rule) (m : Frames) where
 
   run_waits : (c : Call) → WaitsBy (Runs c) c
   run_waits c = (
-    λ env s w e. ap (λ x. within rules env m.by_itself m.waiting m.undo (mapped named_of_did x)) e ∙ within_waits rules env m.by_itself m.waiting m.undo w ∙ ap waits (call_alone env.user c (course m s) w m.undo e),
-    λ env s e. ap (λ x. within rules env m.by_itself m.waiting m.undo (mapped named_of_did x)) e ∙ within_unfit rules env m.by_itself m.waiting m.undo,
+    λ env s w e. ap (λ x. in_frames rules env m.by_itself m.waiting m.undo (mapped named_of_did x)) e ∙ within_waits rules env m.by_itself m.waiting m.undo w ∙ ap waits (call_alone env.user c (course m s) w m.undo e),
+    λ env s e. ap (λ x. in_frames rules env m.by_itself m.waiting m.undo (mapped named_of_did x)) e ∙ within_unfit rules env m.by_itself m.waiting m.undo,
   )
 
   module _ (f : Frame) (x : Failure) (halts : Bool) (us : List Call) (c : Call) (is : m.undo ≡ us ++ c ∷ []) (not_above : f.base ≤ length us) where
     abbrev undoes : Env → Meaning Course → Meaning Named
-    undoes env b = within rules env m.by_itself m.waiting (take f.base m.undo) (mapped (undone x halts f.cut) b >>= after_rule rules env (length m.waiting) f)
+    undoes env b = in_frames rules env m.by_itself m.waiting (take f.base m.undo) (mapped (undone x halts f.cut) b >>= after_rule rules env (length m.waiting) f)
 
     own_is : drop f.base m.undo ≡ drop f.base us ++ c ∷ []
     own_is = ap (drop f.base) is ∙ drop-append-le f.base us (c ∷ []) not_above
@@ -107,7 +107,7 @@ last_of_list (x ∷ y ∷ cs) more = let rest = last_of_list (y ∷ cs) (omega a
 
 -- ---- the end
 
-shown_end : (b : Bool) (o : Outcome) (s : Course) → at_end b (gives (record { state = s; outcome = outcome_of o })) ≡ gives (record { state = s; outcome = outcome_of (shown b o) })
+shown_end : (b : Bool) (o : Outcome) (s : Course) → at_end b (gives (record { state = s; outcome = outcome_of o })) ≡ gives (record { state = s; outcome = outcome_of (shown_outcome b o) })
 shown_end true EndedWell s = refl
 shown_end true (Failed x) s = refl
 shown_end true (Halted x) s = refl
@@ -140,5 +140,5 @@ tells rules m usable = by_control m.control refl usable.settled usable.there
     by_control (Runs c) is settled there = as_waits rules m (Runs c) c is (run_waits rules m c)
     by_control (Ended o) is settled there = λ env s.
         ap (λ y. rest_by rules env m y (course m s)) is
-        ∙ ap (λ fs. within rules env m.by_itself fs m.undo (gives (record { state = course m s; outcome = outcome_of o }))) (no_frame m.waiting settled)
+        ∙ ap (λ fs. in_frames rules env m.by_itself fs m.undo (gives (record { state = course m s; outcome = outcome_of o }))) (no_frame m.waiting settled)
         ∙ shown_end m.by_itself o (course m s)

@@ -20,19 +20,19 @@ use Rattle.chain_core.specs.declared.stack.Frame.{Frame}
 use Rattle.chain_core.specs.declared.frames.Control.{Control}
 use Rattle.chain_core.specs.declared.frames.Control.TheVariants.{Tests, GoesOn, Fails, Runs, Ended}
 use Rattle.chain_core.specs.declared.frames.Frames.{Frames}
-use Rattle.chain_core.specs.Moves.{next_named, next_rule, first_rule, called, control_of, step_by, step_of, waiting_for, was_stopped, is_stopped, failed_as, next_by, next, at_point, at_call}
-use Rattle.chain_core.specs.Answers.{IsSound, IsThere, IsUsable, AreNested, running, is_settled_by}
+use Rattle.chain_core.specs.Moves.{next_named, next_rule, first_rule, called, control_of, step_by, counted_step, waiting_for, was_stopped, is_stopped, failed_as, next_by, next, at_point, at_call}
+use Rattle.chain_core.specs.Answers.{ListsRecoveries, IsThere, IsUsable, AreNested, running_frames, is_settled_by}
 use Rattle.chain_core.specs.Settling.{Settles}
 use Rattle.chain_core.proofs.Moving.{IsBelow, next_below}
 use Rattle.chain_core.proofs.Settling.{nested_cut, next_waits, rule_there}
 
 -- what holds of the machine whether or not it waits
 abbrev pub Holds : List Rule → Frames → Type 0
-Holds rules m = IsSound m × IsThere rules m.control
+Holds rules m = ListsRecoveries m × IsThere rules m.control
 
 -- only frames that wait have recoveries, and a rule that is tested is there
 abbrev Rests : List Rule → Frames → Control → Type 0
-Rests rules m c = (running m c ≡ m.waiting) × IsThere rules c
+Rests rules m c = (running_frames m c ≡ m.waiting) × IsThere rules c
 
 first_rests : (rules : List Rule) (m : Frames) (o : Option ℕ) (c : Call) → IsBelow rules o → Rests rules m (first_rule o c)
 first_rests rules m None c is = (refl, tt)
@@ -58,7 +58,7 @@ rests_hold rules m c is nested = (subst (λ fs. AreNested fs (length m.undo)) (s
 
 -- ---- a step of a frame
 
-step_holds : (rules : List Rule) (m : Frames) (f : Frame) (c : Call) (k : Kind) → AreNested (f ∷ m.waiting) (length m.undo) → Holds rules (step_of rules m f c k)
+step_holds : (rules : List Rule) (m : Frames) (f : Frame) (c : Call) (k : Kind) → AreNested (f ∷ m.waiting) (length m.undo) → Holds rules (counted_step rules m f c k)
 step_holds rules m f c k nested = by_budget (nat_le m.begun most_steps)
   where
     by_kind : (k : Kind) → Holds rules (step_by rules m f c k)
@@ -82,7 +82,7 @@ pub next_holds : (rules : List Rule) (m : Frames) (e : Event) (k : Kind) → IsU
 next_holds rules m e k usable = by_control m.control e usable.settled (usable.sound, usable.there)
   where
     HoldsBy : Control → Type 0
-    HoldsBy c = AreNested (running m c) (length m.undo) × IsThere rules c
+    HoldsBy c = AreNested (running_frames m c) (length m.undo) × IsThere rules c
 
     by_stop : (f : Frame) (x : Failure) (halts : Bool) (b : Bool) → AreNested (f ∷ m.waiting) (length m.undo) → f.base < length m.undo
         → Holds rules (elim b as (λ _. Frames) [ true ↦ record m { control = Fails f x halts; stopped = true } | false ↦ record m { control = Fails f x halts; undo = take (length m.undo - 1) m.undo } ])

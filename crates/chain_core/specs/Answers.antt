@@ -1,5 +1,6 @@
 -- What the machine asks for, and what answers it.
-use Rattle.std.specs.Prelude.{◌≡◌, ℕ, ◌<◌, ◌≤◌, ◌^◌, ℤ, pos, negsuc, Bool, true, false, ◌&&◌, List, [], ◌∷◌, ◌++◌, length, map, get_or, nat_lt, Option, Some, None, Result, Ok, Err}
+use Rattle.std.specs.Prelude.{◌≡◌, ℕ, ◌<◌, ◌≤◌, ◌^◌, ℤ, pos, negsuc, Bool, true, false, ◌&&◌, List, [], ◌∷◌, ◌++◌, length, map, get_or}
+use Rattle.std.specs.Prelude.{nat_lt, Option, Some, None, Result, Ok, Err}
 use Rattle.std.specs.Option.{option_to_list}
 use Rattle.grid_model.specs.Names.{Text}
 use Rattle.grid_model.specs.Grid.{Grid}
@@ -29,31 +30,31 @@ use Rattle.chain_core.specs.Rest.{rest, course, rule_at, outcome_of}
 -- ---- what is asked for
 
 -- a call by itself fails where no rule of its name applies
-abbrev pub shown : Bool → Outcome → Outcome
-shown true told.NoneApplied = told.Failed NoRule
-shown by_itself o = o
+abbrev pub shown_outcome : Bool → Outcome → Outcome
+shown_outcome true told.NoneApplied = told.Failed NoRule
+shown_outcome by_itself o = o
 
 abbrev pub asked_by : Bool → Control → Action
 asked_by by_itself (Tests f last) = Test f.rule
 asked_by by_itself (GoesOn f) = Eval f.rule f.step
 asked_by by_itself (Fails f x halts) = Undo
 asked_by by_itself (Runs c) = Run c
-asked_by by_itself (Ended o) = End (shown by_itself o)
+asked_by by_itself (Ended o) = End (shown_outcome by_itself o)
 
 -- the action that is to be done next
 abbrev pub asked : Frames → Action
 asked m = asked_by m.by_itself m.control
 
 -- the arguments of the innermost one of these frames
-abbrev pub args_in : List Text → List Frame → List Text
-args_in none [] = none
-args_in none (f ∷ fs) = f.args
+abbrev pub innermost_args : List Text → List Frame → List Text
+innermost_args none [] = none
+innermost_args none (f ∷ fs) = f.args
 
 abbrev pub args_by : Frames → Control → List Text
 args_by m (Tests f last) = f.args
 args_by m (GoesOn f) = f.args
 args_by m (Fails f x halts) = f.args
-args_by m other = args_in m.none m.waiting
+args_by m other = innermost_args m.none m.waiting
 
 -- the arguments of the call of rules that is running
 abbrev pub args_of : Frames → List Text
@@ -62,14 +63,14 @@ args_of m = args_by m m.control
 -- ---- what answers it
 
 -- a number that a literal or a size may be
-abbrev pub IsNumber : ℤ → Type 0
-IsNumber (pos n) = n < 2 ^ 64
-IsNumber (negsuc n) = n < 2 ^ 63
+abbrev pub IsInt64 : ℤ → Type 0
+IsInt64 (pos n) = n < 2 ^ 64
+IsInt64 (negsuc n) = n < 2 ^ 63
 
 -- the arguments of a `fail`, which is checked: none, or a number
 abbrev pub IsCoded : List Value → Type 0
 IsCoded [] = Unit {0}
-IsCoded (number_value z ∷ []) = IsNumber z
+IsCoded (number_value z ∷ []) = IsInt64 z
 IsCoded other = ⊥
 
 -- the code of a `fail` with these arguments, as their texts tell it
@@ -121,15 +122,15 @@ abbrev pub ComputesAt : List Rule → Env → Frames → Grid → Call → List 
 ComputesAt rules env m g c own = (i j : ℕ) × (asked m ≡ Eval i j) × Computes (scope_in rules env m i) g (step_at (rule_at rules i) j) c own
 
 -- The event is what the action that was asked for came to, which began here and left this.
-abbrev pub Answers : List Rule → Env → Frames → Event → Course → Course → Type 0
-Answers rules env m (event.Tested b) s t =
+abbrev pub IsAnswer : List Rule → Env → Frames → Event → Course → Course → Type 0
+IsAnswer rules env m (event.Tested b) s t =
     (i : ℕ) × (asked m ≡ Test i) × (holds (scope_in rules env m i) s.grid (rule_at rules i).cond ≡ b) × (t ≡ s)
-Answers rules env m (event.Computed c recovery) s t = ComputesAt rules env m s.grid c (option_to_list recovery) × (t ≡ s)
-Answers rules env m event.LongText s t =
+IsAnswer rules env m (event.Computed c recovery) s t = ComputesAt rules env m s.grid c (option_to_list recovery) × (t ≡ s)
+IsAnswer rules env m event.LongText s t =
     (i j : ℕ) × (asked m ≡ Eval i j) × IsTooLong (scope_in rules env m i) s.grid (step_at (rule_at rules i) j) × (t ≡ s)
-Answers rules env m (event.Ran r) s t =
+IsAnswer rules env m (event.Ran r) s t =
     (c : Call) × (asked m ≡ Run c) × (do_call env.user c (course m s) ≡ gives (record { state = t; failure = failure_in r }))
-Answers rules env m (event.Undone y) s t =
+IsAnswer rules env m (event.Undone y) s t =
     (us : List Call) × (c : Call) × (asked m ≡ Undo) × (m.undo ≡ us ++ c ∷ []) × Undoes env.user c y (course m s) t
 
 -- ---- the kinds of calls
@@ -143,9 +144,9 @@ IsKind c Serve = (x : Service) × (doing c ≡ serving x) × (service c ≡ Some
 IsKind c Name = doing c ≡ naming
 
 -- the kind is that of the call that was computed, where this was waited for
-abbrev pub Fits : Control → Event → Kind → Type 0
-Fits (GoesOn f) (event.Computed c recovery) k = IsKind c k
-Fits c other k = Unit {0}
+abbrev pub KindFits : Control → Event → Kind → Type 0
+KindFits (GoesOn f) (event.Computed c recovery) k = IsKind c k
+KindFits c other k = Unit {0}
 
 -- ---- when the machine may be used
 
@@ -170,14 +171,14 @@ AreNested [] n = Unit {0}
 AreNested (f ∷ fs) n = (f.base ≤ n) × AreNested fs f.base
 
 -- the frames with recoveries of their own
-abbrev pub running : Frames → Control → List Frame
-running m (GoesOn f) = f ∷ m.waiting
-running m (Fails f x halts) = f ∷ m.waiting
-running m other = m.waiting
+abbrev pub running_frames : Frames → Control → List Frame
+running_frames m (GoesOn f) = f ∷ m.waiting
+running_frames m (Fails f x halts) = f ∷ m.waiting
+running_frames m other = m.waiting
 
 -- the recoveries that are listed are those of the frames
-abbrev pub IsSound : Frames → Type 0
-IsSound m = AreNested (running m m.control) (length m.undo)
+abbrev pub ListsRecoveries : Frames → Type 0
+ListsRecoveries m = AreNested (running_frames m m.control) (length m.undo)
 
 -- a rule that is tested is there
 abbrev pub IsThere : List Rule → Control → Type 0
@@ -187,7 +188,7 @@ IsThere rules other = Unit {0}
 -- the machine waits for an event, over these rules, and its frames share the list of recoveries
 pub record IsUsable (rules : List Rule) (m : Frames) : Type 0 where
   pub settled : is_settled rules m ≡ true
-  pub sound : IsSound m
+  pub sound : ListsRecoveries m
   pub there : IsThere rules m.control
 
 -- ---- what an action tells

@@ -3,7 +3,7 @@ use Rattle.std.specs.Prelude.{◌≡◌, ℕ, suc, ◌<◌, ◌^◌, ℤ, pos, n
 use Rattle.std.specs.Fmt.{decimal, signed_decimal}
 use Rattle.grid_model.specs.Values.{number_value}
 use Rattle.grid_model.specs.Chains.{code_of}
-use Rattle.chain_core.specs.Answers.{IsNumber}
+use Rattle.chain_core.specs.Answers.{IsInt64}
 
 -- the code of a number
 abbrev pub code_for : ℤ → ℤ
@@ -19,4 +19,4 @@ TellsNegative digits code = (n : ℕ) → n < 2 ^ 63 → digits ≡ decimal (suc
 
 -- the same with a sign or without
 abbrev pub TellsNumber : List ℕ → ℤ → Type 0
-TellsNumber text code = (z : ℤ) → IsNumber z → text ≡ signed_decimal z → code_for z ≡ code
+TellsNumber text code = (z : ℤ) → IsInt64 z → text ≡ signed_decimal z → code_for z ≡ code

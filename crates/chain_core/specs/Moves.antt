@@ -114,8 +114,8 @@ step_by rules m f c Succeed = record m { undo = take f.base m.undo; control = En
 step_by rules m f c k = waiting_for m f (control_of rules (suc (length m.waiting)) c k)
 
 -- a step of a frame, which is counted already
-abbrev pub step_of : List Rule → Frames → Frame → Call → Kind → Frames
-step_of rules m f c k = elim (nat_le m.begun most_steps) [ true ↦ step_by rules m f c k | false ↦ waiting_for m f (Ended (Halted Spent)) ]
+abbrev pub counted_step : List Rule → Frames → Frame → Call → Kind → Frames
+counted_step rules m f c k = elim (nat_le m.begun most_steps) [ true ↦ step_by rules m f c k | false ↦ waiting_for m f (Ended (Halted Spent)) ]
 
 -- ---- events
 
@@ -146,7 +146,7 @@ abbrev pub next_by : List Rule → Frames → Control → Event → Kind → Fra
 next_by rules m (Tests f last) (event.Tested true) k = record m { control = GoesOn (record f { step = 0; base = length m.undo; cut = false }) }
 next_by rules m (Tests f last) (event.Tested false) k = record m { control = next_rule rules f last }
 next_by rules m (GoesOn f) (event.Computed c recovery) k =
-    step_of rules (record m { undo = m.undo ++ option_to_list recovery; begun = m.begun + 1 }) (record f { step = suc f.step }) c k
+    counted_step rules (record m { undo = m.undo ++ option_to_list recovery; begun = m.begun + 1 }) (record f { step = suc f.step }) c k
 next_by rules m (GoesOn f) event.LongText k = record m { begun = m.begun + 1; control = Fails f LongText false }
 next_by rules m (Runs c) (event.Ran (Ok u)) k = record m { control = Ended EndedWell }
 next_by rules m (Runs c) (event.Ran (Err x)) k =

@@ -23,12 +23,12 @@ readings =
     ∷ []
 
 -- the arguments are of the form
-abbrev pub takes : Reading → List Text → Bool
-takes Nop [] = true
-takes Path (p ∷ []) = true
-takes Paths (a ∷ b ∷ []) = true
-takes Place (p ∷ r ∷ []) = true
-takes Copy (a ∷ b ∷ r ∷ []) = true
-takes Triple (word ∷ name ∷ a ∷ v ∷ u ∷ []) = is_some (word_in thing_words word)
-takes Access (word ∷ name ∷ p ∷ []) = is_some (word_in level_words word)
-takes reading args = false
+abbrev pub fits_reading : Reading → List Text → Bool
+fits_reading Nop [] = true
+fits_reading Path (p ∷ []) = true
+fits_reading Paths (a ∷ b ∷ []) = true
+fits_reading Place (p ∷ r ∷ []) = true
+fits_reading Copy (a ∷ b ∷ r ∷ []) = true
+fits_reading Triple (word ∷ name ∷ a ∷ v ∷ u ∷ []) = is_some (word_in thing_words word)
+fits_reading Access (word ∷ name ∷ p ∷ []) = is_some (word_in level_words word)
+fits_reading reading args = false

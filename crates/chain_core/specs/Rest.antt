@@ -7,7 +7,9 @@ use Rattle.grid_model.specs.Bounds.{deepest}
 use Rattle.grid_model.specs.Meanings.{Meaning, gives, ◌>>=◌, behind, mapped}
 use Rattle.grid_model.specs.Values.{Env}
 use Rattle.grid_model.specs.Doing.{Course, Did, do_call, back}
-use Rattle.grid_model.specs.Chains.{Outcome, Named, Caller, Stepped, Chained, ended_well, failed, halted, none_applied, goes_on, cuts, succeeds, fails, from_named, undone, after_step, chain, after_chain, scope_of, try_rules, rules_named, call_within}
+use Rattle.grid_model.specs.Chains.{Outcome, Named, Caller, Stepped, Chained, ended_well, failed, halted, none_applied, goes_on, cuts}
+use Rattle.grid_model.specs.Chains.{succeeds, fails, from_named, undone, after_step, chain, after_chain, scope_of, try_rules, rules_named}
+use Rattle.grid_model.specs.Chains.{call_within}
 use Rattle.grid_model.specs.declared.calls.Call.{Call}
 use Rattle.grid_model.specs.declared.refusal.Failure.{Failure}
 use Rattle.chain_core.specs.declared.actions.Outcome as told
@@ -86,10 +88,10 @@ at_end true n = mapped named_of_step (mapped from_named n)
 at_end false n = n
 
 -- what all frames, from the innermost one outwards, make of how a call of rules ended, where these recoveries are listed
-abbrev pub within : List Rule → Env → Bool → List Frame → List Call → Meaning Named → Meaning Named
-within rules env by_itself [] undo n = at_end by_itself (behind undo n)
-within rules env by_itself (f ∷ fs) undo n =
-    within rules env by_itself fs (take f.base undo) (in_frame rules env (length fs) f (drop f.base undo) (mapped from_named n))
+abbrev pub in_frames : List Rule → Env → Bool → List Frame → List Call → Meaning Named → Meaning Named
+in_frames rules env by_itself [] undo n = at_end by_itself (behind undo n)
+in_frames rules env by_itself (f ∷ fs) undo n =
+    in_frames rules env by_itself fs (take f.base undo) (in_frame rules env (length fs) f (drop f.base undo) (mapped from_named n))
 
 -- how many steps were begun, of all that were started
 abbrev pub steps_begun : Frames → ℕ
@@ -100,8 +102,8 @@ abbrev pub took_stop : Frames → Bool
 took_stop m = m.stopped
 
 -- the recoveries that are listed
-abbrev pub listed : Frames → List Call
-listed m = m.undo
+abbrev pub listed_recoveries : Frames → List Call
+listed_recoveries m = m.undo
 
 -- where a command is that came so far, as the machine counts its steps and its stops
 abbrev pub course : Frames → Course → Course
@@ -109,7 +111,7 @@ course m s = record s { begun = m.begun; stopped = m.stopped }
 
 -- what all frames that wait make of a call of rules, where these recoveries are listed
 abbrev pub outside : List Rule → Env → Frames → List Call → Meaning Named → Meaning Named
-outside rules env m undo n = within rules env m.by_itself m.waiting undo n
+outside rules env m undo n = in_frames rules env m.by_itself m.waiting undo n
 
 -- the same of a chain of this frame, which is further in
 abbrev pub outside_of : List Rule → Env → Frames → Frame → Meaning Chained → Meaning Named

@@ -12,7 +12,7 @@ use Rattle.chain_core.specs.declared.actions.Start.TheVariants.{Point, Exec}
 use Rattle.chain_core.specs.declared.frames.Frames.{Frames}
 use Rattle.chain_core.specs.declared.kinds.Kind.{Kind}
 use Rattle.chain_core.specs.Rest.{rest, course, named_of_step}
-use Rattle.chain_core.specs.Answers.{Answers, IsCoded, IsKind, asked}
+use Rattle.chain_core.specs.Answers.{IsAnswer, IsCoded, IsKind, asked}
 use Rattle.chain_core.specs.Ending.{IsMet, events_left}
 use Rattle.chain_core.specs.Moves.{at_point, at_call}
 
@@ -28,11 +28,11 @@ Begins rules old (Exec c) new = (env : Env) (vs : List Value) (s : Course) → H
 
 -- From where the action left the command, as much is to be done as was from where it began.
 abbrev pub Continues : List Rule → Frames → Event → Frames → Type 0
-Continues rules old e new = (env : Env) (s t : Course) → Answers rules env old e s t → rest rules env new t ≡ rest rules env old s
+Continues rules old e new = (env : Env) (s t : Course) → IsAnswer rules env old e s t → rest rules env new t ≡ rest rules env old s
 
 -- An event of the action that was asked for, and no stop of a recovery, leaves fewer to come.
-abbrev pub Ends : List Rule → Frames → Event → Frames → Type 0
-Ends rules old e new = IsMet (asked old) e → events_left rules new < events_left rules old
+abbrev pub LeavesFewer : List Rule → Frames → Event → Frames → Type 0
+LeavesFewer rules old e new = IsMet (asked old) e → events_left rules new < events_left rules old
 
 -- the machine once it was started, before it settled
 abbrev pub Starts : List Rule → Frames → Start → Frames → Type 0

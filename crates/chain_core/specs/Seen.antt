@@ -9,7 +9,7 @@ use Rattle.chain_core.specs.declared.frames.Frames.{Frames}
 use Rattle.chain_core.specs.declared.frames.Control.{Control}
 use Rattle.chain_core.specs.declared.kinds.Kind.{Kind}
 use Rattle.chain_core.specs.Moves.{next_by}
-use Rattle.chain_core.specs.Answers.{Fits}
+use Rattle.chain_core.specs.Answers.{KindFits}
 
 -- rules without their places
 abbrev pub plain_rules : List Rule → List meaning.Rule
@@ -20,5 +20,5 @@ abbrev pub rules_of : RuleBase → List meaning.Rule
 rules_of b = plain_rules b.rules
 
 -- the machine, which waited for this, took the event
-abbrev pub Takes : List meaning.Rule → Frames → Control → Event → Frames → Type 0
-Takes rules old c e new = (k : Kind) × Fits c e k × (new ≡ next_by rules old c e k)
+abbrev pub TakesEvent : List meaning.Rule → Frames → Control → Event → Frames → Type 0
+TakesEvent rules old c e new = (k : Kind) × KindFits c e k × (new ≡ next_by rules old c e k)

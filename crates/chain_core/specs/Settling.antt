@@ -6,12 +6,12 @@ use Rattle.grid_model.specs.Doing.{Course}
 use Rattle.chain_core.specs.declared.frames.Frames.{Frames}
 use Rattle.chain_core.specs.Rest.{rest}
 use Rattle.chain_core.specs.Ending.{events_left}
-use Rattle.chain_core.specs.Answers.{is_settled, IsSound, IsThere}
+use Rattle.chain_core.specs.Answers.{is_settled, ListsRecoveries, IsThere}
 
 -- what is still to be done is the same, and so are the counts; and no more events come
-pub record Keeps (rules : List Rule) (old new : Frames) : Type 0 where
+pub record KeepsRest (rules : List Rule) (old new : Frames) : Type 0 where
   pub same : (env : Env) (s : Course) → rest rules env new s ≡ rest rules env old s
-  pub sound : IsSound old → IsSound new
+  pub sound : ListsRecoveries old → ListsRecoveries new
   pub there : IsThere rules old.control → IsThere rules new.control
   pub begun : new.begun ≡ old.begun
   pub stopped : new.stopped ≡ old.stopped
@@ -19,5 +19,5 @@ pub record Keeps (rules : List Rule) (old new : Frames) : Type 0 where
 
 -- and it waits
 pub record Settles (rules : List Rule) (old new : Frames) : Type 0 where
-  pub keeps : Keeps rules old new
+  pub keeps : KeepsRest rules old new
   pub settled : is_settled rules new ≡ true

@@ -1,12 +1,12 @@
 //! How the machine takes what came of an action.
 ghost use Rattle.chain_core.specs.Answers.{IsKind, IsUsable};
-ghost use Rattle.chain_core.specs.Moves.{next_by, step_of, waiting_for};
+ghost use Rattle.chain_core.specs.Moves.{next_by, counted_step, waiting_for};
 ghost use Rattle.chain_core.specs.declared.actions.Event.{Event};
 ghost use Rattle.chain_core.specs.declared.actions.Event.TheVariants as event;
 ghost use Rattle.chain_core.specs.declared.frames.Control.TheVariants as control;
 ghost use Rattle.chain_core.specs.declared.kinds.Kind.{Kind};
 ghost use Rattle.chain_core.specs.Rest.{rule_at};
-ghost use Rattle.chain_core.specs.Seen.{rules_of, Takes};
+ghost use Rattle.chain_core.specs.Seen.{rules_of, TakesEvent};
 ghost use Rattle.grid_model.specs.RuleText.{Rule};
 ghost use Rattle.grid_model.specs.declared.calls.Call.{Call};
 ghost use Rattle.std.specs.Prelude.{◌≡◌, ◌+◌, ◌<◌, List, length, IfOk, OnOk};
@@ -52,7 +52,7 @@ impl Frames {
         call: Call,
         kind: Kind,
     ) -> Result<(), AllocError>
-        ensures { OnOk result (self.new ≡ step_of (rules_of rules.now) self.old frame call kind) }
+        ensures { OnOk result (self.new ≡ counted_step (rules_of rules.now) self.old frame call kind) }
     {
         if MOST_STEPS < self.begun {
             return self.wait(frame, Control::Ended(Outcome::Halted(Failure::Spent)));
@@ -165,7 +165,7 @@ impl Frames {
         event: Event,
     ) -> Result<(), AllocError>
         requires { frame.step < length (rule_at (rules_of rules.now) frame.rule).steps }
-        ensures { OnOk result (Takes (rules_of rules.now) self.old (control.GoesOn frame) event self.new) }
+        ensures { OnOk result (TakesEvent (rules_of rules.now) self.old (control.GoesOn frame) event self.new) }
     {
         match event {
             Event::Computed { call, recovery } => {
@@ -191,7 +191,7 @@ impl Frames {
         event: Event,
     ) -> Result<(), AllocError>
         requires { IsUsable (rules_of rules.now) self.old }
-        ensures { OnOk result (Takes (rules_of rules.now) self.old self.old.control event self.new) }
+        ensures { OnOk result (TakesEvent (rules_of rules.now) self.old self.old.control event self.new) }
     {
         match mem::replace(&mut self.control, Control::Ended(Outcome::NoneApplied)) {
             Control::GoesOn(frame) => self.stepped(alloc, rules, frame, event),

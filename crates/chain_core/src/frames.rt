@@ -1,5 +1,5 @@
-ghost use Rattle.chain_core.specs.Answers.{args_of, asked, shown};
-ghost use Rattle.chain_core.specs.Rest.{listed, steps_begun, took_stop};
+ghost use Rattle.chain_core.specs.Answers.{args_of, asked, shown_outcome};
+ghost use Rattle.chain_core.specs.Rest.{listed_recoveries, steps_begun, took_stop};
 ghost use Rattle.std.specs.Prelude.{◌≡◌, false, IfOk};
 
 use crate::actions::{Action, Outcome};
@@ -58,7 +58,7 @@ impl Frames {
     /// The recoveries that a stop would have done now, in the order in which they were fixed: with `Undo` the last of
     /// them is the one that is to be run.
     pub fn undo(&self) -> &Calls
-        ensures { result.now ≡ listed self.now }
+        ensures { result.now ≡ listed_recoveries self.now }
     {
         &self.undo
     }
@@ -97,7 +97,7 @@ impl Frames {
 
 /// How a call by itself ended: it fails where no rule of its name applies.
 fn shown(by_itself: bool, outcome: &Outcome) -> Outcome
-    ensures { result ≡ shown by_itself outcome.now }
+    ensures { result ≡ shown_outcome by_itself outcome.now }
 {
     match outcome {
         Outcome::NoneApplied => {

@@ -1,7 +1,7 @@
 //! The machine: what begins, and what each event leads to.
 ghost use Rattle.chain_core.specs.Answers.{asked, IsUsable, IsKind, Tells};
 ghost use Rattle.chain_core.specs.Moves.{at_call, at_point};
-ghost use Rattle.chain_core.specs.Running.{Begins, Continues, Ends, Starts};
+ghost use Rattle.chain_core.specs.Running.{Begins, Continues, LeavesFewer, Starts};
 ghost use Rattle.chain_core.specs.Seen.{rules_of};
 ghost use Rattle.chain_core.specs.Settling.{Settles};
 ghost use Rattle.chain_core.specs.declared.kinds.Kind.{Kind};
@@ -97,7 +97,7 @@ impl Frames {
         ensures tells { IfOk result (λ action. Tells (rules_of rules.now) self.new action) }
         ensures usable { OnOk result (IsUsable (rules_of rules.now) self.new) }
         ensures continues { OnOk result (Continues (rules_of rules.now) self.old event self.new) }
-        ensures ends { OnOk result (Ends (rules_of rules.now) self.old event self.new) }
+        ensures ends { OnOk result (LeavesFewer (rules_of rules.now) self.old event self.new) }
     {
         self.take(alloc, rules, event)?;
         self.ask(alloc, rules)

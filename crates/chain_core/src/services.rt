@@ -1,5 +1,5 @@
 //! Which calls are of micro-services.
-ghost use Rattle.chain_core.specs.Readings.{readings, takes};
+ghost use Rattle.chain_core.specs.Readings.{readings, fits_reading};
 ghost use Rattle.grid_model.specs.Names.{same_text};
 ghost use Rattle.grid_model.specs.Services.{service, word_in, thing_words, level_words};
 ghost use Rattle.std.specs.Prelude.{◌≡◌, is_some};
@@ -91,7 +91,7 @@ fn is_level(word: &Text) -> bool
 
 /// The arguments are of the form.
 fn takes(reading: Reading, args: &[Text]) -> bool
-    ensures { result ≡ takes reading args.now }
+    ensures { result ≡ fits_reading reading args.now }
 {
     match reading {
         Reading::Nop => args.is_empty(),

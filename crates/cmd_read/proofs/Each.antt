@@ -8,8 +8,8 @@ use Rattle.grid_model.proofs.NameSpelling.{begun, IsRefusedAt-begun}
 use Rattle.grid_model.proofs.PathSpelling.{IsRefusedAt-first}
 use Rattle.grid_model.proofs.PathReading.{part_of, IsRead, IsRead-more, IsRefusedAt-more, SpellsPath-from_read}
 use Rattle.grid_model.proofs.Comparing.{same_text-Decides}
-use Rattle.cmd_read.specs.Table.{Form, a_text, a_number, a_path, a_path_text, a_new_name, a_resource_or_none, a_mode, a_level, a_user_kind, a_coordinating_kind, a_state, a_kind_with_path, a_kind_with_name, the_word, Value, has_form, Means, Asks, Way, among, table, named_resource}
-use Rattle.cmd_read.specs.Reading.{fits, furthest, Makes, Spoils, IsSpoilt, chosen, session_of, ReadsVerb, ReadsIn, ReadsBehind, Reads}
+use Rattle.cmd_read.specs.Table.{Form, a_text, a_number, a_path, a_path_text, a_new_name, a_resource_or_none, a_mode, a_level, a_user_kind, a_coordinating_kind, a_state, a_kind_with_path, a_kind_with_name, the_word, FormValue, has_form, Means, VerbFrom, Way, among, table, named_resource}
+use Rattle.cmd_read.specs.Reading.{fits_forms, furthest, Makes, Spoils, IsSpoilt, chosen, session_of, ReadsVerb, ReadsIn, ReadsBehind, Reads}
 use Rattle.grid_model.specs.declared.requests.Verb.{Verb}
 use Rattle.grid_model.specs.declared.requests.Request.{Request}
 use Rattle.cmd_read.specs.declared.error.ReadError.{ReadError}
@@ -63,7 +63,7 @@ some_of None e = absurd (cc e)
 some_of (Some x) e = (x, refl)
 
 abbrev WordOr : Form → Text → Type 0
-WordOr f w = ((x : Value f) × Means f w x) ⊎ ((why : ReadError) × Spoils f w why)
+WordOr f w = ((x : FormValue f) × Means f w x) ⊎ ((why : ReadError) × Spoils f w why)
 
 path_word : (w : Text) → PathOr w → WordOr a_path w
 path_word w (inl h) = inl h
@@ -95,7 +95,7 @@ word_or (the_word t) w h = inl (tt, (same_text-Decides t w).0 h)
 
 -- ---- the words behind a verb
 
-abbrev WordsOr : (fs : List Form) → List Text → Asks fs → Type 0
+abbrev WordsOr : (fs : List Form) → List Text → VerbFrom fs → Type 0
 WordsOr fs ws v = ((verb : Verb) × Makes fs ws v verb) ⊎ ((why : ReadError) × IsSpoilt fs ws why)
 
 both_true : (a b : Bool) → (a && b) ≡ true → (a ≡ true) × (b ≡ true)
@@ -103,27 +103,27 @@ both_true true true e = (refl, refl)
 both_true true false e = absurd (cc e)
 both_true false b e = absurd (cc e)
 
-more_or : (f : Form) (fs : List Form) (w : Text) (ws : List Text) (v : Asks (f ∷ fs)) (x : Value f) → Means f w x → WordsOr fs ws (v x) → WordsOr (f ∷ fs) (w ∷ ws) v
+more_or : (f : Form) (fs : List Form) (w : Text) (ws : List Text) (v : VerbFrom (f ∷ fs)) (x : FormValue f) → Means f w x → WordsOr fs ws (v x) → WordsOr (f ∷ fs) (w ∷ ws) v
 more_or f fs w ws v x m (inl h) = inl (h.0, (x, m, h.1))
 more_or f fs w ws v x m (inr h) = inr (h.0, inr ((x, m), h.1))
 
-next_or : (f : Form) (fs : List Form) (w : Text) (ws : List Text) (v : Asks (f ∷ fs)) → WordOr f w → ((x : Value f) → WordsOr fs ws (v x)) → WordsOr (f ∷ fs) (w ∷ ws) v
+next_or : (f : Form) (fs : List Form) (w : Text) (ws : List Text) (v : VerbFrom (f ∷ fs)) → WordOr f w → ((x : FormValue f) → WordsOr fs ws (v x)) → WordsOr (f ∷ fs) (w ∷ ws) v
 next_or f fs w ws v (inl h) more = more_or f fs w ws v h.0 h.1 (more h.0)
 next_or f fs w ws v (inr h) more = inr (h.0, inl h.1)
 
-words_or : (fs : List Form) (ws : List Text) (v : Asks fs) → fits fs ws ≡ true → WordsOr fs ws v
+words_or : (fs : List Form) (ws : List Text) (v : VerbFrom fs) → fits_forms fs ws ≡ true → WordsOr fs ws v
 words_or [] [] v h = inl (v, refl)
 words_or [] (w ∷ ws) v h = absurd (cc h)
 words_or (f ∷ fs) [] v h = absurd (cc h)
-words_or (f ∷ fs) (w ∷ ws) v h = let k = both_true (has_form f w) (fits fs ws) h in next_or f fs w ws v (word_or f w k.0) (λ x. words_or fs ws (v x) k.1)
+words_or (f ∷ fs) (w ∷ ws) v h = let k = both_true (has_form f w) (fits_forms fs ws) h in next_or f fs w ws v (word_or f w k.0) (λ x. words_or fs ws (v x) k.1)
 
-found_by : (first way : Way) (ws : List Text) (o : Option Way) (b : Bool) → fits first.forms ws ≡ b → cond b (Some first) o ≡ Some way → (o ≡ Some way → fits way.forms ws ≡ true) → fits way.forms ws ≡ true
-found_by first way ws o true e is more = let same : first ≡ way = cc is in subst (λ (k : Way). fits k.forms ws ≡ true) same e
+found_by : (first way : Way) (ws : List Text) (o : Option Way) (b : Bool) → fits_forms first.forms ws ≡ b → cond b (Some first) o ≡ Some way → (o ≡ Some way → fits_forms way.forms ws ≡ true) → fits_forms way.forms ws ≡ true
+found_by first way ws o true e is more = let same : first ≡ way = cc is in subst (λ (k : Way). fits_forms k.forms ws ≡ true) same e
 found_by first way ws o false e is more = more is
 
-chosen_fits : (ways : List Way) (ws : List Text) (way : Way) → chosen ways ws ≡ Some way → fits way.forms ws ≡ true
+chosen_fits : (ways : List Way) (ws : List Text) (way : Way) → chosen ways ws ≡ Some way → fits_forms way.forms ws ≡ true
 chosen_fits [] ws way e = absurd (cc e)
-chosen_fits (first ∷ ways) ws way e = found_by first way ws (chosen ways ws) (fits first.forms ws) refl e (λ k. chosen_fits ways ws way k)
+chosen_fits (first ∷ ways) ws way e = found_by first way ws (chosen ways ws) (fits_forms first.forms ws) refl e (λ k. chosen_fits ways ws way k)
 
 abbrev VerbOr : Option (List Way) → List Text → Type 0
 VerbOr o ws = (answer : Result Verb ReadError) × ReadsVerb o ws answer

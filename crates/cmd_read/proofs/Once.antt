@@ -5,8 +5,8 @@ use Rattle.grid_model.specs.Names.{Text, SpellsPath, SpellsName}
 use Rattle.grid_model.proofs.PathSpelling.{SpellsPath-unique}
 use Rattle.grid_model.proofs.Refusals.{IsRefusedAt-unique}
 use Rattle.grid_model.specs.Places.{IsRefusedAt}
-use Rattle.cmd_read.specs.Table.{Form, a_text, a_number, a_path, a_path_text, a_new_name, a_resource_or_none, a_mode, a_level, a_user_kind, a_coordinating_kind, a_state, a_kind_with_path, a_kind_with_name, the_word, Value, Means, Asks, Way, among, table}
-use Rattle.cmd_read.specs.Reading.{Makes, Spoils, IsSpoilt, AsksBy, IsRefusedBy, chosen, furthest, session_of, ReadsVerb, ReadsIn, ReadsBehind, Reads}
+use Rattle.cmd_read.specs.Table.{Form, a_text, a_number, a_path, a_path_text, a_new_name, a_resource_or_none, a_mode, a_level, a_user_kind, a_coordinating_kind, a_state, a_kind_with_path, a_kind_with_name, the_word, FormValue, Means, VerbFrom, Way, among, table}
+use Rattle.cmd_read.specs.Reading.{Makes, Spoils, IsSpoilt, WordsAsk, IsRefusedBy, chosen, furthest, session_of, ReadsVerb, ReadsIn, ReadsBehind, Reads}
 use Rattle.grid_model.specs.declared.requests.Verb.{Verb}
 use Rattle.grid_model.specs.declared.requests.Request.{Request}
 use Rattle.cmd_read.specs.declared.error.ReadError.{ReadError}
@@ -15,7 +15,7 @@ use Rattle.cmd_read.specs.declared.error.ReadError.TheVariants.{BadPath, BadName
 some_once : {A : Type 0} (o : Option A) (x y : A) → o ≡ Some x → o ≡ Some y → x ≡ y
 some_once o x y h k = cc (h, k)
 
-means_once : (f : Form) (w : Text) (x y : Value f) → Means f w x → Means f w y → x ≡ y
+means_once : (f : Form) (w : Text) (x y : FormValue f) → Means f w x → Means f w y → x ≡ y
 means_once a_text w x y h k = sym h ∙ k
 means_once a_number w x y h k = some_once _ x y h k
 means_once a_path w x y h k = SpellsPath-unique w x y h k
@@ -31,15 +31,15 @@ means_once a_kind_with_path w x y h k = some_once _ x y h k
 means_once a_kind_with_name w x y h k = some_once _ x y h k
 means_once (the_word t) w x y h k = refl
 
-makes_once : (fs : List Form) (ws : List Text) (v : Asks fs) (a b : Verb) → Makes fs ws v a → Makes fs ws v b → a ≡ b
+makes_once : (fs : List Form) (ws : List Text) (v : VerbFrom fs) (a b : Verb) → Makes fs ws v a → Makes fs ws v b → a ≡ b
 makes_once [] [] v a b h k = sym h ∙ k
 makes_once [] (w ∷ ws) v a b h k = absurd h
 makes_once (f ∷ fs) [] v a b h k = absurd h
 makes_once (f ∷ fs) (w ∷ ws) v a b h k =
-    let P : Value f → Type 0 = λ z. Makes fs ws (v z) a in
+    let P : FormValue f → Type 0 = λ z. Makes fs ws (v z) a in
     makes_once fs ws (v k.0) a b (subst P (means_once f w h.0 k.0 h.1 k.1) h.2) k.2
 
-spoils_not : (f : Form) (w : Text) (why : ReadError) (x : Value f) → Spoils f w why → ¬ Means f w x
+spoils_not : (f : Form) (w : Text) (why : ReadError) (x : FormValue f) → Spoils f w why → ¬ Means f w x
 spoils_not a_path w (BadPath at) x h m = h.spells_nothing x m
 spoils_not a_path_text w (BadPath at) x h m = h.spells_nothing m.1 m.2
 spoils_not a_new_name w (BadName at) x h m = h.spells_nothing x m
@@ -71,13 +71,13 @@ spoilt_once (f ∷ fs) (w ∷ ws) a b (inr h) (inr k) = spoilt_once fs ws a b h.
 spoilt_once [] ws a b h k = absurd h
 spoilt_once (f ∷ fs) [] a b h k = absurd h
 
-makes_not : (fs : List Form) (ws : List Text) (v : Asks fs) (verb : Verb) (why : ReadError) → Makes fs ws v verb → ¬ IsSpoilt fs ws why
+makes_not : (fs : List Form) (ws : List Text) (v : VerbFrom fs) (verb : Verb) (why : ReadError) → Makes fs ws v verb → ¬ IsSpoilt fs ws why
 makes_not (f ∷ fs) (w ∷ ws) v verb why m (inl h) = spoils_not f w why m.0 h m.1
 makes_not (f ∷ fs) (w ∷ ws) v verb why m (inr h) = makes_not fs ws (v m.0) verb why m.2 h.1
 makes_not [] ws v verb why m h = absurd h
 makes_not (f ∷ fs) [] v verb why m h = absurd h
 
-asks_once : (o : Option Way) (ws : List Text) (a b : Verb) → AsksBy o ws a → AsksBy o ws b → a ≡ b
+asks_once : (o : Option Way) (ws : List Text) (a b : Verb) → WordsAsk o ws a → WordsAsk o ws b → a ≡ b
 asks_once None ws a b h k = absurd h
 asks_once (Some way) ws a b h k = makes_once way.forms ws way.makes a b h k
 
@@ -85,7 +85,7 @@ refused_once : (o : Option Way) (n : ℕ) (ws : List Text) (a b : ReadError) →
 refused_once None n ws a b h k = h ∙ sym k
 refused_once (Some way) n ws a b h k = spoilt_once way.forms ws a b h k
 
-asks_not : (o : Option Way) (n : ℕ) (ws : List Text) (verb : Verb) (why : ReadError) → AsksBy o ws verb → ¬ IsRefusedBy o n ws why
+asks_not : (o : Option Way) (n : ℕ) (ws : List Text) (verb : Verb) (why : ReadError) → WordsAsk o ws verb → ¬ IsRefusedBy o n ws why
 asks_not None n ws verb why h k = absurd h
 asks_not (Some way) n ws verb why h k = makes_not way.forms ws way.makes verb why h k
 

@@ -3,7 +3,7 @@ use Rattle.std.specs.Prelude.{◌≡◌, ◌⊎◌, ℕ, ◌+◌, Bool, true, fa
 use Rattle.std.specs.List.{find}
 use Rattle.grid_model.specs.Names.{Text, SpellsPath, SpellsName}
 use Rattle.grid_model.specs.Places.{IsRefusedAt}
-use Rattle.cmd_read.specs.Table.{Form, a_path, a_path_text, a_new_name, Value, Means, Asks, Way, has_form, among, number_of, table}
+use Rattle.cmd_read.specs.Table.{Form, a_path, a_path_text, a_new_name, FormValue, Means, VerbFrom, Way, has_form, among, number_of, table}
 use Rattle.grid_model.specs.declared.requests.Verb.{Verb}
 use Rattle.grid_model.specs.declared.requests.Request.{Request}
 use Rattle.cmd_read.specs.declared.error.ReadError.{ReadError}
@@ -19,11 +19,11 @@ abbrev pub session_of : Text → Option ℕ
 session_of w = as_session (number_of w)
 
 -- there are as many words as forms, and each is of its form
-abbrev pub fits : List Form → List Text → Bool
-fits [] [] = true
-fits [] (w ∷ ws) = false
-fits (f ∷ fs) [] = false
-fits (f ∷ fs) (w ∷ ws) = has_form f w && fits fs ws
+abbrev pub fits_forms : List Form → List Text → Bool
+fits_forms [] [] = true
+fits_forms [] (w ∷ ws) = false
+fits_forms (f ∷ fs) [] = false
+fits_forms (f ∷ fs) (w ∷ ws) = has_form f w && fits_forms fs ws
 
 -- how many words from the left are of their forms
 abbrev pub fitting : List Form → List Text → ℕ
@@ -38,14 +38,14 @@ furthest (way ∷ ways) ws = max (fitting way.forms ws) (furthest ways ws)
 
 -- the first way that the words fit
 abbrev pub chosen : List Way → List Text → Option Way
-chosen ways ws = find (λ way. fits way.forms ws) ways
+chosen ways ws = find (λ way. fits_forms way.forms ws) ways
 
 -- The words stand for values, of which this verb is made.
-abbrev pub Makes : (fs : List Form) → List Text → Asks fs → Verb → Type 0
+abbrev pub Makes : (fs : List Form) → List Text → VerbFrom fs → Verb → Type 0
 Makes [] [] v verb = v ≡ verb
 Makes [] (w ∷ ws) v verb = ⊥
 Makes (f ∷ fs) [] v verb = ⊥
-Makes (f ∷ fs) (w ∷ ws) v verb = (x : Value f) × Means f w x × Makes fs ws (v x) verb
+Makes (f ∷ fs) (w ∷ ws) v verb = (x : FormValue f) × Means f w x × Makes fs ws (v x) verb
 
 -- The word is to be a path or a new name, and is none.
 abbrev pub Spoils : Form → Text → ReadError → Type 0
@@ -56,17 +56,17 @@ Spoils f w other = ⊥
 
 -- This is why the first of the words is refused that is to be a path or a new name and is none.
 abbrev pub IsSpoilt : List Form → List Text → ReadError → Type 0
-IsSpoilt (f ∷ fs) (w ∷ ws) why = Spoils f w why ⊎ (((x : Value f) × Means f w x) × IsSpoilt fs ws why)
+IsSpoilt (f ∷ fs) (w ∷ ws) why = Spoils f w why ⊎ (((x : FormValue f) × Means f w x) × IsSpoilt fs ws why)
 IsSpoilt fs ws why = ⊥
 
 -- the words behind a verb ask for this in the way, if there is one
-abbrev pub AsksBy : Option Way → List Text → Verb → Type 0
-AsksBy None ws verb = ⊥
-AsksBy (Some way) ws verb = Makes way.forms ws way.makes verb
+abbrev pub WordsAsk : Option Way → List Text → Verb → Type 0
+WordsAsk None ws verb = ⊥
+WordsAsk (Some way) ws verb = Makes way.forms ws way.makes verb
 
 -- They ask for this in one of the ways.
 abbrev pub AsksFor : List Way → List Text → Verb → Type 0
-AsksFor ways ws verb = AsksBy (chosen ways ws) ws verb
+AsksFor ways ws verb = WordsAsk (chosen ways ws) ws verb
 
 -- the words are refused so in the way, or where there is none by the number of the first wrong one
 abbrev pub IsRefusedBy : Option Way → ℕ → List Text → ReadError → Type 0

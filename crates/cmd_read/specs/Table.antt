@@ -74,21 +74,21 @@ pub data Form : Type 0 where
   the_word : Text → Form
 
 -- what a word of the form stands for
-abbrev pub Value : Form → Type 0
-Value a_text = Text
-Value a_number = ℕ
-Value a_path = Path
-Value a_path_text = Text
-Value a_new_name = Text
-Value a_resource_or_none = Option Text
-Value a_mode = Mode
-Value a_level = Level
-Value a_user_kind = UserKind
-Value a_coordinating_kind = ResourceKind
-Value a_state = Bool
-Value a_kind_with_path = ItemKind
-Value a_kind_with_name = ItemKind
-Value (the_word t) = Unit {0}
+abbrev pub FormValue : Form → Type 0
+FormValue a_text = Text
+FormValue a_number = ℕ
+FormValue a_path = Path
+FormValue a_path_text = Text
+FormValue a_new_name = Text
+FormValue a_resource_or_none = Option Text
+FormValue a_mode = Mode
+FormValue a_level = Level
+FormValue a_user_kind = UserKind
+FormValue a_coordinating_kind = ResourceKind
+FormValue a_state = Bool
+FormValue a_kind_with_path = ItemKind
+FormValue a_kind_with_name = ItemKind
+FormValue (the_word t) = Unit {0}
 
 -- whether the word is of the form; of a path and of a new name that is not asked yet
 abbrev pub has_form : Form → Text → Bool
@@ -108,7 +108,7 @@ abbrev pub named_resource : Text → Option Text
 named_resource w = elim (same_text (codes "-") w) [ true ↦ None | false ↦ Some w ]
 
 -- The word stands for the value.
-abbrev pub Means : (f : Form) → Text → Value f → Type 0
+abbrev pub Means : (f : Form) → Text → FormValue f → Type 0
 Means a_text w text = w ≡ text
 Means a_number w n = number_of w ≡ Some n
 Means a_path w path = SpellsPath w path
@@ -125,17 +125,17 @@ Means a_kind_with_name w kind = among kinds_with_name w ≡ Some kind
 Means (the_word t) w nothing = t ≡ w
 
 -- a verb, asked for by a value of each form
-abbrev pub Asks : List Form → Type 0
-Asks [] = Verb
-Asks (f ∷ fs) = Value f → Asks fs
+abbrev pub VerbFrom : List Form → Type 0
+VerbFrom [] = Verb
+VerbFrom (f ∷ fs) = FormValue f → VerbFrom fs
 
 -- a way to ask for a verb: the forms of the words behind it, and the verb that they make
 pub record Way : Type 0 where
   pub forms : List Form
-  pub makes : Asks forms
+  pub makes : VerbFrom forms
 
 -- the same, written in one line
-abbrev pub way : (fs : List Form) → Asks fs → Way
+abbrev pub way : (fs : List Form) → VerbFrom fs → Way
 way fs v = record { forms = fs; makes = v }
 
 -- a row of the table: the second word of a line, and the ways to ask for its verb
@@ -143,24 +143,24 @@ abbrev pub Row : Type 0
 Row = Text × List Way
 
 -- a row with one way
-abbrev pub row : Text → (fs : List Form) → Asks fs → Row
-row t fs v = (t, way fs v ∷ [])
+abbrev pub one_way_row : Text → (fs : List Form) → VerbFrom fs → Row
+one_way_row t fs v = (t, way fs v ∷ [])
 
 -- sessions and the run
 abbrev pub of_sessions : List Row
 of_sessions =
-    row (codes "login") (a_text ∷ []) verb.Login
-    ∷ row (codes "logout") [] verb.Logout
-    ∷ row (codes "quit") [] verb.Quit
+    one_way_row (codes "login") (a_text ∷ []) verb.Login
+    ∷ one_way_row (codes "logout") [] verb.Logout
+    ∷ one_way_row (codes "quit") [] verb.Quit
     ∷ []
 
 -- users and groups
 abbrev pub of_users : List Row
 of_users =
-    row (codes "mkuser") (a_new_name ∷ a_user_kind ∷ []) verb.MkUser
-    ∷ row (codes "mkgroup") (a_new_name ∷ []) verb.MkGroup
-    ∷ row (codes "addmember") (a_text ∷ a_text ∷ []) verb.AddMember
-    ∷ row (codes "rmmember") (a_text ∷ a_text ∷ []) verb.RmMember
+    one_way_row (codes "mkuser") (a_new_name ∷ a_user_kind ∷ []) verb.MkUser
+    ∷ one_way_row (codes "mkgroup") (a_new_name ∷ []) verb.MkGroup
+    ∷ one_way_row (codes "addmember") (a_text ∷ a_text ∷ []) verb.AddMember
+    ∷ one_way_row (codes "rmmember") (a_text ∷ a_text ∷ []) verb.RmMember
     ∷ []
 
 -- with a slot where the resource keeps files itself, and without one where it chooses among children
@@ -174,50 +174,50 @@ ways_to_make =
 abbrev pub of_resources : List Row
 of_resources =
     (codes "mkresc", ways_to_make)
-    ∷ row (codes "addchild") (a_text ∷ a_text ∷ []) verb.AddChild
-    ∷ row (codes "modresc") (a_text ∷ a_state ∷ []) verb.ModResc
+    ∷ one_way_row (codes "addchild") (a_text ∷ a_text ∷ []) verb.AddChild
+    ∷ one_way_row (codes "modresc") (a_text ∷ a_state ∷ []) verb.ModResc
     ∷ []
 
 -- rules, queries and single calls
 abbrev pub of_rules : List Row
 of_rules =
-    row (codes "rules") (a_number ∷ []) verb.Rules
-    ∷ row (codes "showrules") [] verb.ShowRules
-    ∷ row (codes "sweep") [] verb.Sweep
-    ∷ row (codes "query") (a_text ∷ []) verb.Query
-    ∷ row (codes "exec") (a_text ∷ []) verb.Exec
+    one_way_row (codes "rules") (a_number ∷ []) verb.Rules
+    ∷ one_way_row (codes "showrules") [] verb.ShowRules
+    ∷ one_way_row (codes "sweep") [] verb.Sweep
+    ∷ one_way_row (codes "query") (a_text ∷ []) verb.Query
+    ∷ one_way_row (codes "exec") (a_text ∷ []) verb.Exec
     ∷ []
 
 -- collections and access
 abbrev pub of_collections : List Row
 of_collections =
-    row (codes "mkdir") (a_path ∷ []) verb.MkDir
-    ∷ row (codes "rmdir") (a_path ∷ []) verb.RmDir
-    ∷ row (codes "mv") (a_path ∷ a_path ∷ []) verb.Mv
-    ∷ row (codes "ls") (a_path ∷ []) verb.Ls
-    ∷ row (codes "chmod") (a_level ∷ a_text ∷ a_path ∷ []) verb.ChMod
-    ∷ row (codes "inherit") (a_path ∷ []) verb.Inherit
-    ∷ row (codes "noinherit") (a_path ∷ []) verb.NoInherit
+    one_way_row (codes "mkdir") (a_path ∷ []) verb.MkDir
+    ∷ one_way_row (codes "rmdir") (a_path ∷ []) verb.RmDir
+    ∷ one_way_row (codes "mv") (a_path ∷ a_path ∷ []) verb.Mv
+    ∷ one_way_row (codes "ls") (a_path ∷ []) verb.Ls
+    ∷ one_way_row (codes "chmod") (a_level ∷ a_text ∷ a_path ∷ []) verb.ChMod
+    ∷ one_way_row (codes "inherit") (a_path ∷ []) verb.Inherit
+    ∷ one_way_row (codes "noinherit") (a_path ∷ []) verb.NoInherit
     ∷ []
 
 -- objects and replicas
 abbrev pub of_objects : List Row
 of_objects =
-    row (codes "put") (a_path ∷ a_text ∷ a_mode ∷ a_number ∷ []) verb.Put
-    ∷ row (codes "get") (a_path ∷ a_resource_or_none ∷ []) verb.Get
-    ∷ row (codes "repl") (a_path ∷ a_text ∷ []) verb.Repl
-    ∷ row (codes "chksum") (a_path ∷ []) verb.ChkSum
-    ∷ row (codes "trim") (a_path ∷ a_text ∷ []) verb.Trim
-    ∷ row (codes "rm") (a_path ∷ []) verb.Rm
+    one_way_row (codes "put") (a_path ∷ a_text ∷ a_mode ∷ a_number ∷ []) verb.Put
+    ∷ one_way_row (codes "get") (a_path ∷ a_resource_or_none ∷ []) verb.Get
+    ∷ one_way_row (codes "repl") (a_path ∷ a_text ∷ []) verb.Repl
+    ∷ one_way_row (codes "chksum") (a_path ∷ []) verb.ChkSum
+    ∷ one_way_row (codes "trim") (a_path ∷ a_text ∷ []) verb.Trim
+    ∷ one_way_row (codes "rm") (a_path ∷ []) verb.Rm
     ∷ []
 
 -- uploads in parts
 abbrev pub of_uploads : List Row
 of_uploads =
-    row (codes "open") (a_path ∷ a_text ∷ a_mode ∷ []) verb.Open
-    ∷ row (codes "part") (a_number ∷ []) verb.Part
-    ∷ row (codes "close") [] verb.Close
-    ∷ row (codes "abort") [] verb.Abort
+    one_way_row (codes "open") (a_path ∷ a_text ∷ a_mode ∷ []) verb.Open
+    ∷ one_way_row (codes "part") (a_number ∷ []) verb.Part
+    ∷ one_way_row (codes "close") [] verb.Close
+    ∷ one_way_row (codes "abort") [] verb.Abort
     ∷ []
 
 -- what is said of an item, which stands there by its path or by its name

@@ -1,7 +1,8 @@
 ghost use Rattle.std.specs.Prelude.{◌≡◌, ◌≢◌, ℕ, [], ◌∷◌, IfOk, IfErr};
 ghost use Rattle.grid_model.specs.Names.{Text as Word};
 ghost use Rattle.grid_model.specs.declared.grid.ItemKind.{ItemKind};
-ghost use Rattle.cmd_read.specs.Table.{way, ways_to_make, ways_to_triples, ways_to_items, a_text, a_new_name, a_number, a_path, a_resource_or_none, a_mode, a_level, a_user_kind, a_state};
+ghost use Rattle.cmd_read.specs.Table.{way, ways_to_make, ways_to_triples, ways_to_items, a_text, a_new_name, a_number, a_path};
+ghost use Rattle.cmd_read.specs.Table.{a_resource_or_none, a_mode, a_level, a_user_kind, a_state};
 ghost use Rattle.cmd_read.specs.Reading.{AsksFor, Refuses};
 ghost use Rattle.grid_model.specs.declared.requests.Verb.{Verb};
 ghost use Rattle.grid_model.specs.declared.requests.Verb.TheVariants.{MkUser, ModResc, ChMod, Put, Open, Get};

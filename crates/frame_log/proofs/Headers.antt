@@ -4,13 +4,13 @@ use Rattle.std.proofs.lemmas.List.{drop_all, drop_more, drop-drop, get_or-take, 
 use Rattle.std.proofs.lemmas.Nat.{be_bytes_8}
 use Rattle.std.specs.Int.{w64, to_be_bytes, from_be_bytes}
 use Rattle.grid_outside.specs.Disk.{ReadsAt}
-use Rattle.frame_log.specs.Log.{Breaks, no_gate, no_length, no_body}
+use Rattle.frame_log.specs.Log.{BreaksLog, no_gate, no_length, no_body}
 use Rattle.frame_log.specs.Steps.{IsOpenAt, BreaksAt}
 
 -- past the end there is no gate
 pub gate_missing : (before : List (List ℕ)) (gate at : ℕ) (bytes : List ℕ) → length bytes ≤ gate → at ≡ gate → BreaksAt before gate at bytes
 gate_missing before gate at bytes past is =
-    let P : List ℕ → Type 0 = λ rest. Breaks before rest 0 in
+    let P : List ℕ → Type 0 = λ rest. BreaksLog before rest 0 in
     record { offset = 0; breaks = subst P (sym (drop_all gate bytes past)) (no_gate before); at_is = omega arith }
 
 -- a gate that was read
@@ -43,7 +43,7 @@ module _ (gate n m len : ℕ) (bytes state size : List ℕ) (one : length state 
   -- the length runs past the end
   pub length_cut : (before : List (List ℕ)) (at : ℕ) → at ≡ gate + 1 → length bytes - (gate + 1) < 8 → BreaksAt before gate at bytes
   length_cut before at is less =
-      let P : List ℕ → Type 0 = λ rest. Breaks before rest 1 in
+      let P : List ℕ → Type 0 = λ rest. BreaksLog before rest 1 in
       record {
         offset = 1;
         breaks = subst P (sym (gate_read gate n bytes state one some read open_gate)) (no_length before (drop (gate + 1) bytes) (omega (arith, length-drop (gate + 1) bytes)));
@@ -53,7 +53,7 @@ module _ (gate n m len : ℕ) (bytes state size : List ℕ) (one : length state 
   -- the body runs past the end
   pub body_cut : (before : List (List ℕ)) (at : ℕ) → at ≡ gate + 1 → 8 ≤ m → ((i : ℕ) → get_or size i 0 < 256) → len ≡ from_be_bytes w64 size → len < 2 ^ 64 → length bytes - (gate + 9) < len → BreaksAt before gate at bytes
   body_cut before at is all small len_is short less =
-      let P : List ℕ → Type 0 = λ rest. Breaks before rest 1 in
+      let P : List ℕ → Type 0 = λ rest. BreaksLog before rest 1 in
       record {
         offset = 1;
         breaks = subst P (sym (header_read all small len_is short).is) (no_body before len (drop (gate + 9) bytes) short (omega (arith, length-drop (gate + 9) bytes)));

@@ -9,7 +9,7 @@ use Rattle.frame_log.specs.declared.records.Record.{Record}
 use Rattle.frame_log.specs.Extent.{bodies}
 use Rattle.frame_log.specs.Records.{placed_body}
 use Rattle.frame_log.specs.Steps.{IsFront, IsShutAt}
-use Rattle.frame_log.specs.Log.{frame, frames, IsShort, IsLog, Breaks, no_gate, no_record, no_length, no_body, IsBroken, Reading, log_of, no_log, ReadsAs, ReadsOnlyAs}
+use Rattle.frame_log.specs.Log.{frame, frames, IsShort, IsLog, BreaksLog, no_gate, no_record, no_length, no_body, IsBroken, Reading, log_of, no_log, ReadsAs, ReadsOnlyAs}
 
 -- no whole record begins here
 abbrev pub Stops : List ℕ → Type 0
@@ -50,7 +50,7 @@ same_front (x ∷ xs) (y ∷ ys) s t small short stops ends e =
 shut_stops : (gate : ℕ) (rest : List ℕ) → gate ≢ 1 → Stops (gate ∷ rest)
 shut_stops gate rest shut body after short e = shut (ap (λ (l : List ℕ). get_or l 0 0) e)
 
-breaks_stops : {before : List (List ℕ)} {tail : List ℕ} {offset : ℕ} → Breaks before tail offset → Stops tail
+breaks_stops : {before : List (List ℕ)} {tail : List ℕ} {offset : ℕ} → BreaksLog before tail offset → Stops tail
 breaks_stops (no_gate before) body after short e = cc
 breaks_stops (no_record gate rest shut) body after short e = shut (ap (λ (l : List ℕ). get_or l 0 0) e)
 breaks_stops (no_length before rest less) body after short e =
@@ -60,20 +60,20 @@ breaks_stops (no_body before size rest small less) body after short e =
     absurd (omega (arith, sizes.0, ap length sizes.1, length-append body after))
 
 -- behind whole records a gate that isn't open ends a log
-not_breaks : {before : List (List ℕ)} {tail : List ℕ} {offset : ℕ} → Breaks before tail offset → (gate : ℕ) (rest : List ℕ) → tail ≡ gate ∷ rest → gate ≢ 1 → before ≢ [] → ⊥
+not_breaks : {before : List (List ℕ)} {tail : List ℕ} {offset : ℕ} → BreaksLog before tail offset → (gate : ℕ) (rest : List ℕ) → tail ≡ gate ∷ rest → gate ≢ 1 → before ≢ [] → ⊥
 not_breaks (no_gate before) gate rest e shut some = cc
 not_breaks (no_record other after closed) gate rest e shut some = some refl
 not_breaks (no_length before after less) gate rest e shut some = shut (sym (ap (λ (l : List ℕ). get_or l 0 0) e))
 not_breaks (no_body before size after small less) gate rest e shut some = shut (sym (ap (λ (l : List ℕ). get_or l 0 0) e))
 
 -- the gate says how far from it the place lies
-offset_is : {before : List (List ℕ)} {tail : List ℕ} {offset : ℕ} → Breaks before tail offset → ((offset ≡ 0) × (get_or tail 0 0 ≢ 1)) ⊎ ((offset ≡ 1) × (get_or tail 0 0 ≡ 1))
+offset_is : {before : List (List ℕ)} {tail : List ℕ} {offset : ℕ} → BreaksLog before tail offset → ((offset ≡ 0) × (get_or tail 0 0 ≢ 1)) ⊎ ((offset ≡ 1) × (get_or tail 0 0 ≡ 1))
 offset_is (no_gate before) = inl (refl, λ e. omega arith)
 offset_is (no_record gate rest shut) = inl (refl, shut)
 offset_is (no_length before rest less) = inr (refl, refl)
 offset_is (no_body before size rest small less) = inr (refl, refl)
 
-same_offset : (before after : List (List ℕ)) (s t : List ℕ) (m n : ℕ) → Breaks before s m → Breaks after t n → s ≡ t → m ≡ n
+same_offset : (before after : List (List ℕ)) (s t : List ℕ) (m n : ℕ) → BreaksLog before s m → BreaksLog after t n → s ≡ t → m ≡ n
 same_offset before after s t m n one two e =
     let head : get_or s 0 0 ≡ get_or t 0 0 = ap (λ (l : List ℕ). get_or l 0 0) e in
     elim (offset_is one) [

@@ -26,15 +26,15 @@ pub record IsLog (base : ℕ) (records : List (List ℕ)) (bytes : List ℕ) : T
   pub is : drop base bytes ≡ frames records ++ gate ∷ rest
 
 -- What stands behind whole records where there is no log, and how far from the gate's place that shows.
-pub data Breaks : List (List ℕ) → List ℕ → ℕ → Type 0 where
+pub data BreaksLog : List (List ℕ) → List ℕ → ℕ → Type 0 where
   -- the gate is missing
-  no_gate : (before : List (List ℕ)) → Breaks before [] 0
+  no_gate : (before : List (List ℕ)) → BreaksLog before [] 0
   -- the first gate isn't open
-  no_record : (gate : ℕ) (rest : List ℕ) → gate ≢ 1 → Breaks [] (gate ∷ rest) 0
+  no_record : (gate : ℕ) (rest : List ℕ) → gate ≢ 1 → BreaksLog [] (gate ∷ rest) 0
   -- the length runs past the end
-  no_length : (before : List (List ℕ)) (rest : List ℕ) → length rest < 8 → Breaks before (1 ∷ rest) 1
+  no_length : (before : List (List ℕ)) (rest : List ℕ) → length rest < 8 → BreaksLog before (1 ∷ rest) 1
   -- the body runs past the end
-  no_body : (before : List (List ℕ)) (size : ℕ) (rest : List ℕ) → size < 2 ^ 64 → length rest < size → Breaks before (1 ∷ to_be_bytes w64 size ++ rest) 1
+  no_body : (before : List (List ℕ)) (size : ℕ) (rest : List ℕ) → size < 2 ^ 64 → length rest < size → BreaksLog before (1 ∷ to_be_bytes w64 size ++ rest) 1
 
 -- From the base on there is no log, and this is the place where that shows.
 pub record IsBroken (base at : ℕ) (bytes : List ℕ) : Type 0 where
@@ -43,7 +43,7 @@ pub record IsBroken (base at : ℕ) (bytes : List ℕ) : Type 0 where
   pub rest : List ℕ
   pub offset : ℕ
   pub is : drop base bytes ≡ frames before ++ rest
-  pub breaks : Breaks before rest offset
+  pub breaks : BreaksLog before rest offset
   pub at_is : at ≡ base + length (frames before) + offset
 
 -- what bytes are read as from a base on: a log of these records, or none, with the place where that shows

@@ -1,7 +1,7 @@
 -- What reading record by record knows on its way.
 use Rattle.std.specs.Prelude.{◌≡◌, ◌≢◌, ℕ, ◌+◌, ◌^◌, ◌<◌, List, ◌∷◌, ◌++◌, length, drop, All}
 use Rattle.std.specs.Int.{w64, to_be_bytes}
-use Rattle.frame_log.specs.Log.{frame, frames, IsShort, Breaks}
+use Rattle.frame_log.specs.Log.{frame, frames, IsShort, BreaksLog}
 
 -- at this place stands a gate that isn't open
 pub record IsShutAt (gate : ℕ) (bytes : List ℕ) : Type 0 where
@@ -23,7 +23,7 @@ pub record IsRecordAt (gate : ℕ) (body bytes : List ℕ) : Type 0 where
 -- with these records before the gate's place the log breaks behind them
 pub record BreaksAt (before : List (List ℕ)) (gate at : ℕ) (bytes : List ℕ) : Type 0 where
   pub offset : ℕ
-  pub breaks : Breaks before (drop gate bytes) offset
+  pub breaks : BreaksLog before (drop gate bytes) offset
   pub at_is : at ≡ gate + offset
 
 -- from the base to the gate's place the bytes are these records

@@ -9,7 +9,7 @@ use Rattle.grid_model.specs.Rows.{Cat, entry_cmp, user, has_user, is_member, ite
 use Rattle.grid_model.specs.RowPaths.{collection_path}
 use Rattle.grid_model.specs.RowGrids.{grid_of, user_name, item_place}
 use Rattle.grid_model.specs.Applying.{IsMade, gives_access, is_given}
-use Rattle.grid_model.specs.Levels.{greatest, is_admin, speaks_for, levels_given, level}
+use Rattle.grid_model.specs.Levels.{greatest, is_admin, speaks_for, levels_given, level_at}
 use Rattle.grid_model.specs.declared.deltas.UserRow.{UserRow}
 use Rattle.grid_model.specs.declared.deltas.MemberRow.{MemberRow}
 use Rattle.grid_model.specs.declared.deltas.EntryRow.{EntryRow}
@@ -150,7 +150,7 @@ own_or b l = elim b [ true ↦ Own | false ↦ l ]
 -- the level of a user in the grid, by the rows
 pub level-rows : (c : Cat) → IsMade c → (k : ItemKind) (id number : ℕ) → gives_access k ≡ true → item_there c k id ≡ true → has_user c number ≡ true
     → (admin : Bool) → admin ≡ is_admin (option_map (λ r. r.kind) (user c number))
-    → level (grid_of c) (user_name c number) (item_place c (collection_path c) k id) ≡ elim admin [ true ↦ Own | false ↦ greatest (levels_by_rows c number (access_of c k id)) ]
+    → level_at (grid_of c) (user_name c number) (item_place c (collection_path c) k id) ≡ elim admin [ true ↦ Own | false ↦ greatest (levels_by_rows c number (access_of c k id)) ]
 level-rows c made k id number gives there known admin is =
     let s = sound-made made.0 c made.1 in
     ap (λ b. own_or b (greatest (levels_given (grid_of c) (user_name c number) (item_place c (collection_path c) k id)))) (ap is_admin (get-user_name c s number known) ∙ sym is)

@@ -1,6 +1,6 @@
 ghost use Rattle.std.specs.Prelude.{◌≡◌, IsTrue};
 ghost use Rattle.grid_model.specs.Applying.{IsMade, gives_access};
-ghost use Rattle.grid_model.specs.Levels.{level, may};
+ghost use Rattle.grid_model.specs.Levels.{level_at, may};
 ghost use Rattle.grid_model.specs.RowGrids.{grid_of, item_place, user_name};
 ghost use Rattle.grid_model.specs.RowPaths.{collection_path};
 ghost use Rattle.grid_model.specs.Rows.{has_user, id_of, item_there, kind_of};
@@ -18,7 +18,9 @@ pub fn level(tables: &Tables, user: u32, item: Item) -> Level
     requires user { IsTrue (has_user tables.now user) }
     requires gives { IsTrue (gives_access (kind_of item)) }
     requires there { IsTrue (item_there tables.now (kind_of item) (id_of item)) }
-    ensures { result ≡ level (grid_of tables.now) (user_name tables.now user) (item_place tables.now (collection_path tables.now) (kind_of item) (id_of item)) }
+    ensures {
+        result ≡ level_at (grid_of tables.now) (user_name tables.now user) (item_place tables.now (collection_path tables.now) (kind_of item) (id_of item))
+    }
 {
     if is_admin(tables, user) {
         return Level::Own;
@@ -32,7 +34,9 @@ pub fn may(tables: &Tables, user: u32, item: Item, wanted: Level) -> bool
     requires user { IsTrue (has_user tables.now user) }
     requires gives { IsTrue (gives_access (kind_of item)) }
     requires there { IsTrue (item_there tables.now (kind_of item) (id_of item)) }
-    ensures { result ≡ may (grid_of tables.now) (user_name tables.now user) (item_place tables.now (collection_path tables.now) (kind_of item) (id_of item)) wanted }
+    ensures {
+        result ≡ may (grid_of tables.now) (user_name tables.now user) (item_place tables.now (collection_path tables.now) (kind_of item) (id_of item)) wanted
+    }
 {
     contains(level(tables, user, item), wanted)
 }

@@ -13,7 +13,7 @@ use Rattle.std.specs.List.{flat_map}
 use Rattle.std.proofs.Math.Seq.{take-append_seam}
 use Rattle.std.specs.Prelude.{take}
 use Rattle.grid_journal.specs.Stands.{Replays, none_left, taken, refused}
-use Rattle.grid_journal.specs.Replaying.{Leads, IsAtFault, TakesAll, RefusesNext, StopsAt}
+use Rattle.grid_journal.specs.Replaying.{Leads, IsAtFault, TakesAll, RefusesNext, ReplayStopsAt}
 use Rattle.grid_journal.specs.declared.replay.ReplayError.{ReplayError}
 use Rattle.grid_journal.specs.declared.replay.ReplayError.TheVariants.{Fault, Memory}
 use Rattle.frame_log.specs.Records.{placed_body}
@@ -90,6 +90,6 @@ at_placed [] i x lt is = absurd (omega arith)
 at_placed (y ∷ ys) zero x lt is = (omega arith, ap placed_body is)
 at_placed (y ∷ ys) (suc i) x lt is = let rest = at_placed ys i x (omega arith) is in (omega (arith, rest.0), rest.1)
 
-pub stops_later : (P Q : ℕ → Type 0) (error : ReplayError) → ((at : ℕ) → P at → Q at) → StopsAt P error → StopsAt Q error
+pub stops_later : (P Q : ℕ → Type 0) (error : ReplayError) → ((at : ℕ) → P at → Q at) → ReplayStopsAt P error → ReplayStopsAt Q error
 stops_later P Q (Fault at) on h = on at h
 stops_later P Q Memory on h = tt

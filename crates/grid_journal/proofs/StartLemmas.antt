@@ -19,7 +19,7 @@ use Rattle.grid_model.specs.declared.grid.UserKind.TheVariants.{Rodsadmin, Rodsg
 use Rattle.grid_model.proofs.NameSpelling.{IsName-from_test}
 use Rattle.grid_model.proofs.Comparing.{other_text}
 use Rattle.grid_journal.specs.Stands.{magic, HasHead, taken, none_left, Stands, stands}
-use Rattle.grid_journal.specs.Start.{start, start_users, start_collections, start_entries, start_leaf, start_deltas, main_with}
+use Rattle.grid_journal.specs.Start.{start, start_users, start_collections, start_entries, start_deltas, main_with}
 use Rattle.grid_journal.proofs.DeltaLemmas.{then_all}
 
 -- ---- names are texts of shown bytes
@@ -83,9 +83,6 @@ module _ (zone admin : Text) (stores : ℕ) (zone_name : IsTrue (is_name zone)) 
   abbrev with_collections : Cat
   with_collections = record with_users { collections = start_collections zone admin }
 
-  abbrev with_entries : Cat
-  with_entries = record with_collections { entries = start_entries }
-
   step_zone : apply empty_cat (delta.Zone zone stores) ≡ Ok with_zone
   step_zone =
       ap (λ b. where_fits (true && b && nat_lt 0 stores && nat_le stores 16) 1 with_zone) zone_name
@@ -110,9 +107,6 @@ module _ (zone admin : Text) (stores : ℕ) (zone_name : IsTrue (is_name zone)) 
   step_admin_home : apply with_home (delta.Collection (record { id = 3; parent = 2; name = admin; inherit = false })) ≡ Ok with_collections
   step_admin_home = ap (λ b. where_fits (b && true) 5 with_collections) admin_name
 
-  step_leaf : apply with_entries (delta.Resource start_leaf) ≡ Ok (start zone admin stores)
-  step_leaf = ap (λ b. where_fits (b && true) 15 (start zone admin stores)) some_store
-
   pub start_applies : apply_all empty_cat (start_deltas zone admin stores) ≡ Ok (start zone admin stores)
   start_applies =
       ap (then_all (drop 1 (start_deltas zone admin stores))) step_zone
@@ -122,7 +116,6 @@ module _ (zone admin : Text) (stores : ℕ) (zone_name : IsTrue (is_name zone)) 
       ∙ ap (then_all (drop 5 (start_deltas zone admin stores))) step_zone_row
       ∙ ap (then_all (drop 6 (start_deltas zone admin stores))) step_home
       ∙ ap (then_all (drop 7 (start_deltas zone admin stores))) step_admin_home
-      ∙ ap (then_all (drop 12 (start_deltas zone admin stores))) step_leaf
 
 -- ---- their spellings
 
@@ -140,7 +133,7 @@ pub start_fits : (zone admin : Text) (stores : ℕ) → (text zone).fits ≡ tru
 start_fits zone admin stores z a s =
     let zone_fits = and_from _ _ z (and_from _ true (lt-ltb stores 256 s) refl) in
     all_fit_from (start_deltas zone admin stores)
-    (zone_fits, (and_from _ true a refl, (refl, (refl, (and_from _ true z refl, (refl, (and_from _ true a refl, (refl, (refl, (refl, (refl, (refl, (refl, tt)))))))))))))
+    (zone_fits, (and_from _ true a refl, (refl, (refl, (and_from _ true z refl, (refl, (and_from _ true a refl, (refl, (refl, (refl, (refl, (refl, tt))))))))))))
 
 -- ---- main of a new grid
 

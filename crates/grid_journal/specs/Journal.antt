@@ -1,7 +1,8 @@
 -- A catalogue that is kept in a log and held in memory.
-use Rattle.std.specs.Prelude.{◌≡◌, Bool, ◌&&◌, List, IsSome, IsTrue, Ok}
+use Rattle.std.specs.Prelude.{◌≡◌, ℕ, ◌+◌, Bool, ◌&&◌, List, length, IsSome, IsTrue, Ok}
 use Rattle.std.specs.List.{AllByRecursion}
 use Rattle.frame_log.specs.Extent.{Extent, IsLogOf, placed}
+use Rattle.frame_log.specs.Log.{IsLog, frames}
 use Rattle.grid_model.specs.Names.{Text}
 use Rattle.grid_model.specs.Deltas.{delta_fits}
 use Rattle.grid_model.specs.Rows.{Cat, empty_cat}
@@ -32,6 +33,12 @@ pub record Keeps (kept : Cat) (journal : Journal) (main : Text) : Type 0 where
   pub replays : Replays empty_cat (placed 16 records) (Ok kept)
   pub zone : IsSome kept.zone
   pub staged : apply_all kept journal.staged ≡ Ok journal.cat
+
+-- the log on main closes at this place
+pub record ClosesAt (main : Text) (place : ℕ) : Type 0 where
+  pub records : List (List ℕ)
+  pub log : IsLog 16 records main
+  pub place_is : place ≡ 16 + length (frames records)
 
 -- the delta has a spelling and sets no rules
 abbrev pub can_be_kept : Delta → Bool

@@ -13,9 +13,9 @@ use Rattle.grid_journal.specs.declared.replay.ReplayError.{ReplayError}
 use Rattle.grid_journal.specs.declared.replay.ReplayError.TheVariants.{Fault, Memory}
 
 -- it stopped at a place with this property, or for want of memory
-abbrev pub StopsAt : (ℕ → Type 0) → ReplayError → Type 0
-StopsAt P (Fault at) = P at
-StopsAt P Memory = Unit {0}
+abbrev pub ReplayStopsAt : (ℕ → Type 0) → ReplayError → Type 0
+ReplayStopsAt P (Fault at) = P at
+ReplayStopsAt P Memory = Unit {0}
 
 -- the record leads from one catalogue to another
 abbrev pub Leads : ℕ × Text → Cat → Cat → Type 0

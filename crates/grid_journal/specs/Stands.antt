@@ -1,6 +1,7 @@
 -- What the bytes of the two disks stand for: a catalogue, or none, with the side and the place where that shows. The format
 -- is this project's own.
-use Rattle.std.specs.Prelude.{◌≡◌, ◌≢◌, ◌⊎◌, ℕ, ◌+◌, ◌%◌, ◌<◌, Bool, true, false, not, IsTrue, List, [], ◌∷◌, ◌++◌, length, take, flat_map, slice_get, Some, None, IsSome, Result, Ok, Err, IsErr, codes}
+use Rattle.std.specs.Prelude.{◌≡◌, ◌≢◌, ◌⊎◌, ℕ, ◌+◌, ◌%◌, ◌<◌, Bool, true, false, not, IsTrue, List, [], ◌∷◌, ◌++◌, length, take, flat_map}
+use Rattle.std.specs.Prelude.{slice_get, Some, None, IsSome, Result, Ok, Err, IsErr, codes}
 use Rattle.std.specs.List.{list_all}
 use Rattle.frame_log.specs.Log.{IsLog, IsBroken}
 use Rattle.frame_log.specs.Extent.{placed}

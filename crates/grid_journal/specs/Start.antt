@@ -10,10 +10,8 @@ use Rattle.grid_model.specs.declared.deltas.Delta.TheVariants as delta
 use Rattle.grid_model.specs.declared.deltas.UserRow.{UserRow}
 use Rattle.grid_model.specs.declared.deltas.CollectionRow.{CollectionRow}
 use Rattle.grid_model.specs.declared.deltas.EntryRow.{EntryRow}
-use Rattle.grid_model.specs.declared.deltas.ResourceRow.{ResourceRow}
 use Rattle.grid_model.specs.declared.deltas.Numbers.{Numbers}
 use Rattle.grid_model.specs.declared.grid.UserKind.TheVariants.{Rodsadmin, Rodsgroup}
-use Rattle.grid_model.specs.declared.grid.ResourceKind.TheVariants.{Storage}
 use Rattle.grid_model.specs.declared.grid.Level.TheVariants.{Read, Own}
 use Rattle.grid_model.specs.declared.grid.ItemKind.TheVariants.{Collection}
 use Rattle.grid_journal.specs.Stands.{magic}
@@ -43,10 +41,6 @@ start_entries =
     ∷ record { kind = Collection; id = 3; user = 1; level = Own }
     ∷ []
 
--- the one leaf, `d0` on the first store. It stands here as long as there is no command that makes resources
-abbrev pub start_leaf : ResourceRow
-start_leaf = record { id = 1; name = codes "d0"; kind = Storage; slot = 0; up = true; parent = 0; place = 0 }
-
 -- no vault number was drawn, and no run was begun
 abbrev pub start_numbers : Numbers
 start_numbers = record { next_vault = 1; run = 0; last = 0 }
@@ -63,7 +57,7 @@ start zone admin stores = record {
   replicas = [];
   triples = [];
   entries = start_entries;
-  resources = start_leaf ∷ [];
+  resources = [];
   rules = [];
   orphans = [];
   numbers = start_numbers;
@@ -84,7 +78,6 @@ start_deltas zone admin stores =
     ∷ delta.Entry (record { kind = Collection; id = 1; user = 2; level = Read })
     ∷ delta.Entry (record { kind = Collection; id = 2; user = 2; level = Read })
     ∷ delta.Entry (record { kind = Collection; id = 3; user = 1; level = Own })
-    ∷ delta.Resource start_leaf
     ∷ delta.Numbers start_numbers
     ∷ []
 

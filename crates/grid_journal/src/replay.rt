@@ -5,7 +5,7 @@ ghost use Rattle.frame_log.specs.Records.{placed_body};
 ghost use Rattle.grid_model.specs.Deltas.{SpellsDeltas, spelling};
 ghost use Rattle.grid_model.specs.Rows.{empty_cat};
 ghost use Rattle.grid_model.specs.declared.deltas.Delta.{Delta as DeltaOf};
-ghost use Rattle.grid_journal.specs.Replaying.{StopsAt, Leads, IsAtFault, TakesAll, RefusesNext};
+ghost use Rattle.grid_journal.specs.Replaying.{ReplayStopsAt, Leads, IsAtFault, TakesAll, RefusesNext};
 ghost use Rattle.grid_journal.specs.Stands.{Replays, sets_rules};
 ghost use Rattle.grid_journal.specs.declared.replay.ReplayError.TheVariants.{Memory as NoMemory};
 
@@ -37,7 +37,7 @@ pub(crate) fn replay(alloc: Global, records: &[Record]) -> Result<Tables, Replay
     requires places { map placed_body records.now ≡ placed 16 (bodies (map placed_body records.now)) }
     requires end { 16 + length (frames (bodies (map placed_body records.now))) < 2 ^ 64 }
     ensures { MatchResult result (λ tables. Replays empty_cat (map placed_body records.now) (Ok tables))
-        (λ error. StopsAt (λ at. Replays empty_cat (map placed_body records.now) (Err at)) error) }
+        (λ error. ReplayStopsAt (λ at. Replays empty_cat (map placed_body records.now) (Err at)) error) }
 {
     let mut tables = Tables::empty(alloc);
     for logged in records {
@@ -50,7 +50,7 @@ pub(crate) fn replay(alloc: Global, records: &[Record]) -> Result<Tables, Replay
 fn replay_record(alloc: Global, tables: &mut Tables, logged: &Record) -> Result<(), ReplayError>
     requires { logged.now.place + length logged.now.body.items < 2 ^ 64 }
     ensures { MatchResult result (λ _. Leads (placed_body logged.now) tables.old tables.new)
-        (λ error. StopsAt (IsAtFault (placed_body logged.now) tables.old) error) }
+        (λ error. ReplayStopsAt (IsAtFault (placed_body logged.now) tables.old) error) }
 {
     let body = logged.body.as_slice();
     let deltas = match decode(alloc, body) {

@@ -1,15 +1,13 @@
-ghost use Rattle.std.specs.Prelude.{◌≡◌, true, false, IsTrue, IfOk};
+ghost use Rattle.std.specs.Prelude.{◌≡◌, false, IsTrue, IfOk};
 ghost use Rattle.std.specs.List.{list_all};
 ghost use Rattle.grid_model.specs.Names.{is_name};
 ghost use Rattle.grid_model.specs.Deltas.{delta_fits, text};
 ghost use Rattle.grid_model.specs.declared.deltas.Delta.TheVariants as delta;
 ghost use Rattle.grid_model.specs.declared.grid.ItemKind.TheVariants.{Collection};
-ghost use Rattle.grid_model.specs.declared.grid.ResourceKind.TheVariants.{Storage};
 ghost use Rattle.grid_journal.specs.Start.{start_deltas as deltas_of_start};
 
 use grid_model::{
-    CollectionRow, Delta, Deltas, EntryRow, ItemKind, Level, Numbers, ResourceKind, ResourceRow,
-    Text, UserKind, UserRow,
+    CollectionRow, Delta, Deltas, EntryRow, ItemKind, Level, Numbers, Text, UserKind, UserRow,
 };
 use std::alloc::{AllocError, Global};
 
@@ -31,7 +29,6 @@ pub(crate) fn start_deltas(
     let admin_home = Text::copy_of(alloc, admin.as_slice())?;
     let everybody = Text::copy_of(alloc, b"public")?;
     let home = Text::copy_of(alloc, b"home")?;
-    let leaf = Text::copy_of(alloc, b"d0")?;
     let root = Text::from_vec(Vec::new(alloc));
     let deltas = vec![in alloc;
         Delta::Zone {
@@ -48,7 +45,6 @@ pub(crate) fn start_deltas(
         entry(1, 2, Level::Read),
         entry(2, 2, Level::Read),
         entry(3, 1, Level::Own),
-        first_leaf(leaf),
         Delta::Numbers(Numbers {
             next_vault: 1,
             run: 0,
@@ -94,20 +90,5 @@ fn entry(id: u64, user: u32, level: Level) -> Delta
         id,
         user,
         level,
-    })
-}
-
-// The leaf with this name on the first store.
-fn first_leaf(name: Text) -> Delta
-    ensures { result ≡ delta.Resource (record { id = 1; name = name; kind = Storage; slot = 0; up = true; parent = 0; place = 0 }) }
-{
-    Delta::Resource(ResourceRow {
-        id: 1,
-        name,
-        kind: ResourceKind::Storage,
-        slot: 0,
-        up: true,
-        parent: 0,
-        place: 0,
     })
 }

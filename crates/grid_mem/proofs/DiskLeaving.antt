@@ -8,7 +8,7 @@ use Rattle.grid_mem.specs.Calls.{held_after}
 use Rattle.grid_mem.specs.CallLaws.{le_of}
 use Rattle.grid_mem.specs.DiskCalls.{disk_kind, disk_after, deed_fits, MayDo, IsSure, unsynced_after, unsynced_at}
 use Rattle.grid_mem.specs.DiskLaws.{disk_laws}
-use Rattle.grid_mem.specs.MemDisk.{disk_of, history_of}
+use Rattle.grid_mem.specs.MemDisk.{disk_of, disk_history}
 use Rattle.grid_mem.proofs.DiskRules.{write_allowed, write_restored, cut_allowed, cut_restored, only_synced, synced_allowed}
 use Rattle.grid_mem.proofs.Knowing.{left_is_known}
 
@@ -40,7 +40,7 @@ disk_step over held (CutTo len) done u holds fits image = (
 )
 disk_step over held Sync done u holds fits image = ((λ step. sync_forth over done held u image step), (λ allowed. sync_back over done held u holds image allowed))
 
-pub disk_leaves : (d : MemDisk) (t : ℕ) (image : List ℕ) → (disk_of d).left t image ↔ MayLeave (unsynced_at t (history_of d)) image
+pub disk_leaves : (d : MemDisk) (t : ℕ) (image : List ℕ) → (disk_of d).left t image ↔ MayLeave (unsynced_at t (disk_history d)) image
 unfolding disk_of
 disk_leaves d t image =
     left_is_known disk_kind (λ over bytes call. unsynced_after over bytes call.deed call.done) MayLeave MayLeave

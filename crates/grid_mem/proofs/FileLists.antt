@@ -12,7 +12,7 @@ use Rattle.std.proofs.lemmas.Iterator.Adapters.{position_from-zero}
 use Rattle.grid_outside.specs.Files.{File, Files, file_at}
 use Rattle.grid_mem.specs.declared.mem_file.MemFile.{MemFile}
 use Rattle.grid_mem.specs.MemFile.{file_of, entry_of, files_of, IsCopy}
-use Rattle.grid_mem.specs.StoreCalls.{IsDone, put, appended, can_append, is_begun, bytes_of}
+use Rattle.grid_mem.specs.StoreCalls.{IsDoneIfFit, put, appended, can_append, is_begun, bytes_of}
 use Rattle.grid_mem.specs.CallLaws.{both}
 use Rattle.grid_outside.proofs.Spans.{nat_cases}
 use Rattle.grid_mem.specs.FilesLaws.{at_same, at_other, at_removed, at_kept, same_files}
@@ -140,10 +140,10 @@ filtered (m ∷ ms) name =
     ]) refl
 
 -- it was done, or its file was not in the state that it needs
-pub was_done : (fits : Bool) (next old new : Files) → fits ≡ true → new ≡ next → IsDone fits next old true new
+pub was_done : (fits : Bool) (next old new : Files) → fits ≡ true → new ≡ next → IsDoneIfFit fits next old true new
 was_done fits next old new fit is = record { asked = sym fit; files = is ∙ ap (λ (b : Bool). if b then next else old) (sym fit) }
 
-pub was_refused : (fits : Bool) (next old new : Files) → fits ≡ false → new ≡ old → IsDone fits next old false new
+pub was_refused : (fits : Bool) (next old new : Files) → fits ≡ false → new ≡ old → IsDoneIfFit fits next old false new
 was_refused fits next old new fit is = record { asked = sym fit; files = is ∙ ap (λ (b : Bool). if b then next else old) (sym fit) }
 
 -- some file has the name

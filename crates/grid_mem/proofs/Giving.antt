@@ -3,12 +3,12 @@ use Rattle.std.proofs.Common.{◌≡◌, ◌⊎◌, inl, inr, ℕ, ◌+◌, ◌-
 use Rattle.std.proofs.lemmas.Bool.{cases_lt}
 use Rattle.std.proofs.lemmas.List.{take_more, take_all, replicate_more, get_or_past, append-nil, take-append-drop, nil_from_length, take_at, drop-drop}
 use Rattle.std.specs.Prelude.{nat_lt}
-use Rattle.grid_outside.specs.Source.{Takes}
+use Rattle.grid_outside.specs.Source.{TakesFront}
 use Rattle.grid_mem.specs.CallLaws.{lt_of, lt_is}
-use Rattle.grid_mem.specs.MemAmbient.{given}
+use Rattle.grid_mem.specs.MemAmbient.{first_values}
 
 -- one value more
-pub given-add_one : (listed : List ℕ) (last count : ℕ) → given listed last (count + 1) ≡ given listed last count ++ get_or listed count last ∷ []
+pub given-add_one : (listed : List ℕ) (last count : ℕ) → first_values listed last (count + 1) ≡ first_values listed last count ++ get_or listed count last ∷ []
 given-add_one listed last count = elim (cases_lt count (length listed)) [
   | inl lt ↦
       let none : (count + 1) - length listed ≡ 0 = omega arith in
@@ -25,10 +25,10 @@ given-add_one listed last count = elim (cases_lt count (length listed)) [
 
 -- the time or word that is given is the next one
 pub one_given : (listed : List ℕ) (last count next value : ℕ) → next ≡ min (count + 1) (2 ^ 64 - 1) → IsTrue (nat_lt next (2 ^ 64 - 1)) → value ≡ get_or listed count last
-    → given listed last next ≡ given listed last count ++ value ∷ []
+    → first_values listed last next ≡ first_values listed last count ++ value ∷ []
 one_given listed last count next value counted below is =
     let more : next ≡ count + 1 = omega (arith, lt_of next (2 ^ 64 - 1) below) in
-    ap (given listed last) more ∙ given-add_one listed last count ∙ ap (λ (x : ℕ). given listed last count ++ x ∷ []) (sym is)
+    ap (first_values listed last) more ∙ given-add_one listed last count ∙ ap (λ (x : ℕ). first_values listed last count ++ x ∷ []) (sym is)
 
 -- it told before
 pub told : (count next : ℕ) → next ≡ min (count + 1) (2 ^ 64 - 1) → IsTrue (nat_lt next (2 ^ 64 - 1)) → nat_lt count (2 ^ 64 - 1) ≡ true
@@ -36,7 +36,7 @@ told count next counted below = lt_is count (2 ^ 64 - 1) (omega (arith, lt_of ne
 
 -- a read takes what stands at the front of the buffer afterwards
 pub takes_front : (bytes : List ℕ) (taken count : ℕ) (front back : List ℕ) → length front ≡ count → front ≡ take count (drop taken bytes) → (count ≡ 0 → (drop taken bytes ≡ []) ⊎ (length (front ++ back) ≡ 0))
-    → Takes (drop taken bytes) count (front ++ back) (drop (taken + count) bytes)
+    → TakesFront (drop taken bytes) count (front ++ back) (drop (taken + count) bytes)
 takes_front bytes taken count front back size is at_end = record {
   split = sym (take-append-drop count (drop taken bytes)) ∙ ap (λ (xs : List ℕ). xs ++ drop count (drop taken bytes)) (sym is ∙ sym (take_at front back count size))
       ∙ ap (λ (xs : List ℕ). take count (front ++ back) ++ xs) (drop-drop count taken bytes);

@@ -1,7 +1,7 @@
 -- What Ok of a store's calls says of the file.
 use Rattle.std.proofs.Common.{◌≡◌, ℕ, ◌+◌, ◌^◌, ◌<◌, true, false, Vec, List, [], ◌++◌, length, Option, Some, None, is_none, refl, ap, subst, ◌∙◌}
 use Rattle.std.specs.declared.alloc.Global.{Global}
-use Rattle.grid_outside.specs.Files.{File, Files, StoreState, file_at, begun, finished, Created, Appended, Finished, IsGone}
+use Rattle.grid_outside.specs.Files.{File, Files, StoreState, file_at, unfinished, finished, Created, Appended, Finished, IsGone}
 use Rattle.grid_mem.specs.declared.store_deed.StoreDeed.TheVariants.{Create, Append, Finish, Remove}
 use Rattle.grid_mem.specs.CallLaws.{both, lt_of}
 use Rattle.grid_mem.specs.FilesLaws.{at_same, at_removed}
@@ -12,7 +12,7 @@ none_of : {A : Type 0} (o : Option A) → is_none o ≡ true → o ≡ None
 none_of None e = refl
 none_of (Some x) e = absurd (cc e)
 
-begun_of : (o : Option File) → is_begun o ≡ true → o ≡ begun (bytes_of o)
+begun_of : (o : Option File) → is_begun o ≡ true → o ≡ unfinished (bytes_of o)
 begun_of None e = absurd (cc e)
 begun_of (Some f) e = λ i. Some (record { bytes = f.bytes; finished = open_mark f.finished e i })
 
@@ -29,7 +29,7 @@ appended_of old new name written bytes same fits is =
       front = bytes_of (file_at old name);
       was = begun_of (file_at old name) parts.0;
       fits = subst (λ (xs : List ℕ). length (bytes_of (file_at old name)) + length xs < 2 ^ 61) same (lt_of _ _ parts.1);
-      is = ap (λ (fs : Files). file_at fs name) is ∙ at_same old name (record { bytes = bytes_of (file_at old name) ++ written.items; finished = false }) ∙ ap (λ (xs : List ℕ). begun (bytes_of (file_at old name) ++ xs)) same;
+      is = ap (λ (fs : Files). file_at fs name) is ∙ at_same old name (record { bytes = bytes_of (file_at old name) ++ written.items; finished = false }) ∙ ap (λ (xs : List ℕ). unfinished (bytes_of (file_at old name) ++ xs)) same;
     }
 
 pub finished_of : (old new : StoreState) (name : ℕ) → store_fits old.holds (Finish name) ≡ true → new.holds ≡ store_done old.holds (Finish name)

@@ -6,7 +6,7 @@ use Rattle.grid_outside.specs.Sink.{AddsPart}
 use Rattle.grid_mem.specs.declared.mem_sink.MemSink.{MemSink}
 use Rattle.grid_mem.specs.SinkCalls.{Putting, sink_kind, sink_after, putting_after, putting_at, MayStand}
 use Rattle.grid_mem.specs.SinkLaws.{sink_laws}
-use Rattle.grid_mem.specs.MemSink.{sink_of, history_of}
+use Rattle.grid_mem.specs.MemSink.{sink_of, sink_history}
 use Rattle.grid_mem.proofs.Knowing.{left_is_known}
 
 -- what a step leads to from an image that was allowed
@@ -42,7 +42,7 @@ sink_step false held put done u still image = (
   (λ stands. (held, still_stands u held still, stands, λ over. absurd (cc over))),
 )
 
-pub sink_leaves : (s : MemSink) (t : ℕ) (image : List ℕ) → (sink_of s).left t image ↔ MayStand (putting_at t (history_of s)) image
+pub sink_leaves : (s : MemSink) (t : ℕ) (image : List ℕ) → (sink_of s).left t image ↔ MayStand (putting_at t (sink_history s)) image
 unfolding sink_of
 sink_leaves s t image =
     left_is_known sink_kind (λ over bytes call. putting_after over bytes call.deed call.done) MayStand IsStill

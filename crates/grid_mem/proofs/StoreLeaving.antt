@@ -4,7 +4,7 @@ use Rattle.std.specs.Prelude.{nat_eq}
 use Rattle.std.specs.Ordering.{nat_cmp}
 use Rattle.std.specs.FinMap.{get-empty}
 use Rattle.std.proofs.lemmas.Bool.Decides.{nat_tests}
-use Rattle.grid_outside.specs.Files.{File, Files, file_at, IsShort, Writes, Removes}
+use Rattle.grid_outside.specs.Files.{File, Files, file_at, IsHashable, Writes, Removes}
 use Rattle.grid_outside.specs.StoreModel.{Known, exactly, MayBe, after_writing, after_removing}
 use Rattle.grid_mem.specs.declared.mem_file.MemFile.{MemFile}
 use Rattle.grid_mem.specs.declared.mem_store.MemStore.{MemStore}
@@ -14,7 +14,7 @@ use Rattle.grid_outside.proofs.Spans.{nat_cases}
 use Rattle.grid_mem.specs.FilesLaws.{at_same, at_other, same_files}
 use Rattle.grid_mem.specs.MemFile.{file_of, files_of}
 use Rattle.grid_mem.specs.MemFiles.{contents}
-use Rattle.grid_mem.specs.MemStore.{store_of, history_of}
+use Rattle.grid_mem.specs.MemStore.{store_of, store_history}
 use Rattle.grid_mem.specs.StoreCalls.{store_kind, store_after, call_fitted, name_of, StoreMay, StoreSure, known_after, known_files_after, known_files_at, MayBeFiles}
 use Rattle.grid_mem.specs.StoreLaws.{store_laws}
 use Rattle.grid_mem.proofs.Knowing.{left_is_known}
@@ -72,7 +72,7 @@ module _ (name : ℕ) (u : ℕ → Known) (image : Files) where
       record {
         others = λ other apart. sym (beside_replaced image name old other apart);
         stable = λ bytes e. rewrites.stable bytes (sym (at_replaced image name old) ∙ e);
-        short = λ short. rewrites.short (subst IsShort (at_replaced image name old) short);
+        short = λ short. rewrites.short (subst IsHashable (at_replaced image name old) short);
       },
     )
 
@@ -89,7 +89,7 @@ module _ (name : ℕ) (u : ℕ → Known) (image : Files) where
 -- what is known fits what is held, and all is short
 pub record IsKnown (u : ℕ → Known) (held : Files) : Type 0 where
   pub allows : MayBeFiles u held
-  pub short : (name : ℕ) → IsShort (file_at held name)
+  pub short : (name : ℕ) → IsHashable (file_at held name)
   pub known_short : (name : ℕ) → IsKnownShort (u name)
 
 -- what a step leads to from an image that was allowed
@@ -120,7 +120,7 @@ module _ (held : Files) (u : ℕ → Known) (known : IsKnown u held) (image : Fi
     before_sure_write : (next : Files) → Writes name held next → file_at image name ≡ file_at next name → (before : Files) × MayBeFiles u before × Writes name before image
     before_sure_write next writes same = write_back name u image others (file_at held name) (known.allows name) (record {
       stable = λ bytes e. same ∙ writes.stable bytes e;
-      short = λ short. subst IsShort (sym same) (writes.short short);
+      short = λ short. subst IsHashable (sym same) (writes.short short);
     })
 
     before_sure_remove : (next : Files) → Removes name held next → file_at image name ≡ file_at next name → (before : Files) × MayBeFiles u before × Removes name before image
@@ -163,7 +163,7 @@ module _ (held : Files) (u : ℕ → Known) (known : IsKnown u held) (image : Fi
       let back = before_remove name (to_other false held (Remove name) done u image allowed) (to_own false held (Remove name) done u image allowed) in (back.0, back.1, back.2, λ over. absurd (cc over))
 
 -- a call that is over leaves what is known short
-known_stays_short : (deed : StoreDeed) (done : Bool) (file : Option File) (known : Known) → IsShort file → IsKnownShort known → IsKnownShort (known_after true file deed done known)
+known_stays_short : (deed : StoreDeed) (done : Bool) (file : Option File) (known : Known) → IsHashable file → IsKnownShort known → IsKnownShort (known_after true file deed done known)
 known_stays_short (Create name) done file known short was = written_short known was
 known_stays_short (Append name bytes) done file known short was = written_short known was
 known_stays_short (Finish name) true file known short was = short
@@ -171,15 +171,15 @@ known_stays_short (Finish name) false file known short was = written_short known
 known_stays_short (Remove name) true file known short was = short
 known_stays_short (Remove name) false file known short was = removed_short known was
 
-write_short : (name : ℕ) (old new : Files) → Writes name old new → ((n : ℕ) → IsShort (file_at old n)) → (n : ℕ) → IsShort (file_at new n)
-write_short name old new writes short = at_each (λ n. IsShort (file_at new n)) name (writes.short (short name)) (λ other apart. subst IsShort (sym (writes.others other apart)) (short other))
+write_short : (name : ℕ) (old new : Files) → Writes name old new → ((n : ℕ) → IsHashable (file_at old n)) → (n : ℕ) → IsHashable (file_at new n)
+write_short name old new writes short = at_each (λ n. IsHashable (file_at new n)) name (writes.short (short name)) (λ other apart. subst IsHashable (sym (writes.others other apart)) (short other))
 
-remove_short : (name : ℕ) (old new : Files) → Removes name old new → ((n : ℕ) → IsShort (file_at old n)) → (n : ℕ) → IsShort (file_at new n)
+remove_short : (name : ℕ) (old new : Files) → Removes name old new → ((n : ℕ) → IsHashable (file_at old n)) → (n : ℕ) → IsHashable (file_at new n)
 remove_short name old new removes short =
-    at_each (λ n. IsShort (file_at new n)) name (elim removes.there_or_not [ inl kept ↦ subst IsShort (sym kept) (short name) | inr gone ↦ subst IsShort (sym gone) tt ])
-    (λ other apart. subst IsShort (sym (removes.others other apart)) (short other))
+    at_each (λ n. IsHashable (file_at new n)) name (elim removes.there_or_not [ inl kept ↦ subst IsHashable (sym kept) (short name) | inr gone ↦ subst IsHashable (sym gone) tt ])
+    (λ other apart. subst IsHashable (sym (removes.others other apart)) (short other))
 
-may_short : (deed : StoreDeed) (old new : Files) → StoreMay deed old new → ((n : ℕ) → IsShort (file_at old n)) → (n : ℕ) → IsShort (file_at new n)
+may_short : (deed : StoreDeed) (old new : Files) → StoreMay deed old new → ((n : ℕ) → IsHashable (file_at old n)) → (n : ℕ) → IsHashable (file_at new n)
 may_short (Create name) old new may short = write_short name old new may short
 may_short (Append name bytes) old new may short = write_short name old new may short
 may_short (Finish name) old new may short = write_short name old new may short
@@ -201,13 +201,13 @@ stays_known held deed done u known fits =
     }
 
 -- each file of a list is short
-files_short : (ms : List MemFile) (name : ℕ) → IsShort (file_at (files_of ms) name)
-files_short [] name = subst IsShort (sym (get-empty nat_cmp name)) tt
+files_short : (ms : List MemFile) (name : ℕ) → IsHashable (file_at (files_of ms) name)
+files_short [] name = subst IsHashable (sym (get-empty nat_cmp name)) tt
 files_short (m ∷ ms) name =
-    at_each (λ n. IsShort (file_at (files_of (m ∷ ms)) n)) m.name (subst IsShort (sym (at_same (files_of ms) m.name (file_of m))) m.short)
-    (λ other apart. subst IsShort (sym (at_other (files_of ms) m.name other (file_of m) apart)) (files_short ms other)) name
+    at_each (λ n. IsHashable (file_at (files_of (m ∷ ms)) n)) m.name (subst IsHashable (sym (at_same (files_of ms) m.name (file_of m))) m.short)
+    (λ other apart. subst IsHashable (sym (at_other (files_of ms) m.name other (file_of m) apart)) (files_short ms other)) name
 
-pub store_leaves : (s : MemStore) (t : ℕ) (image : Files) → (store_of s).left t image ↔ MayBeFiles (known_files_at t (history_of s)) image
+pub store_leaves : (s : MemStore) (t : ℕ) (image : Files) → (store_of s).left t image ↔ MayBeFiles (known_files_at t (store_history s)) image
 unfolding store_of
 store_leaves s t image =
     let start = contents s.history.start in

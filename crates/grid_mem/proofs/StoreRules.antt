@@ -2,20 +2,20 @@
 use Rattle.std.proofs.Common.{◌≡◌, ◌≢◌, ◌⊎◌, inl, inr, ℕ, Bool, true, false, Option, Some, None, refl, sym, subst, ◌∙◌}
 use Rattle.std.proofs.Common.{List}
 use Rattle.std.specs.FinMap.{insert, remove}
-use Rattle.grid_outside.specs.Files.{File, Files, file_at, finished, IsShort}
+use Rattle.grid_outside.specs.Files.{File, Files, file_at, finished, IsHashable}
 use Rattle.grid_outside.specs.StoreModel.{Known, exactly, there_or_not, anything, MayBe, after_writing, after_removing}
 use Rattle.grid_mem.specs.FilesLaws.{at_same, at_other, at_removed, at_kept}
 
 -- what is known of the file is of fewer than 2^61 bytes
 abbrev pub IsKnownShort : Known → Type 0
-IsKnownShort (exactly file) = IsShort file
-IsKnownShort (there_or_not file) = IsShort (Some file)
+IsKnownShort (exactly file) = IsHashable file
+IsKnownShort (there_or_not file) = IsHashable (Some file)
 IsKnownShort anything = Unit {0}
 
 -- a file that is finished stays, and a short one stays short
 pub record Rewrites (old new : Option File) : Type 0 where
   pub stable : (bytes : List ℕ) → old ≡ finished bytes → new ≡ finished bytes
-  pub short : IsShort old → IsShort new
+  pub short : IsHashable old → IsHashable new
 
 -- it is there as it was, or not there
 abbrev pub Loses : Option File → Option File → Type 0
@@ -24,7 +24,7 @@ Loses old new = (new ≡ old) ⊎ (new ≡ None)
 none_is_not : (bytes : List ℕ) {A : Type 0} → None ≡ finished bytes → A
 none_is_not bytes e = absurd (cc e)
 
-from_none : (new : Option File) → IsShort new → Rewrites None new
+from_none : (new : Option File) → IsHashable new → Rewrites None new
 from_none new short = record { stable = λ bytes e. none_is_not bytes e; short = λ was. short }
 
 -- the file as it is, by its mark
@@ -34,20 +34,20 @@ finished_is file mark = λ i. Some (record { bytes = file.bytes; finished = mark
 unfinished_is_not : (file : File) (bytes : List ℕ) {A : Type 0} → file.finished ≡ false → Some file ≡ finished bytes → A
 unfinished_is_not file bytes mark e = absurd (cc (mark, e))
 
-written_one : (file : File) (mark : Bool) → file.finished ≡ mark → (old new : Option File) → IsShort (Some file) → old ≡ Some file → Rewrites old new → MayBe (elim mark [ true ↦ exactly (Some file) | false ↦ anything ]) new
+written_one : (file : File) (mark : Bool) → file.finished ≡ mark → (old new : Option File) → IsHashable (Some file) → old ≡ Some file → Rewrites old new → MayBe (elim mark [ true ↦ exactly (Some file) | false ↦ anything ]) new
 written_one file true is old new short was rewrites = rewrites.stable file.bytes (was ∙ finished_is file is) ∙ sym (finished_is file is)
-written_one file false is old new short was rewrites = rewrites.short (subst IsShort (sym was) short)
+written_one file false is old new short was rewrites = rewrites.short (subst IsHashable (sym was) short)
 
 unwritten_one : (file : File) (mark : Bool) → file.finished ≡ mark → (new : Option File) → MayBe (elim mark [ true ↦ exactly (Some file) | false ↦ anything ]) new → (old : Option File) × (old ≡ Some file) × Rewrites old new
-unwritten_one file true is new allowed = (Some file, refl, record { stable = λ bytes e. allowed ∙ e; short = λ short. subst IsShort (sym allowed) short })
+unwritten_one file true is new allowed = (Some file, refl, record { stable = λ bytes e. allowed ∙ e; short = λ short. subst IsHashable (sym allowed) short })
 unwritten_one file false is new allowed = (Some file, refl, record { stable = λ bytes e. unfinished_is_not file bytes is e; short = λ short. allowed })
 
 -- a create, an append or a finish: from what was allowed before to what is allowed after
 pub written : (known : Known) (old new : Option File) → IsKnownShort known → MayBe known old → Rewrites old new → MayBe (after_writing known) new
-written (exactly None) old new short was rewrites = rewrites.short (subst IsShort (sym was) tt)
+written (exactly None) old new short was rewrites = rewrites.short (subst IsHashable (sym was) tt)
 written (exactly (Some file)) old new short was rewrites = written_one file file.finished refl old new short was rewrites
-written (there_or_not file) old new short (inl was) rewrites = rewrites.short (subst IsShort (sym was) short)
-written (there_or_not file) old new short (inr was) rewrites = rewrites.short (subst IsShort (sym was) tt)
+written (there_or_not file) old new short (inl was) rewrites = rewrites.short (subst IsHashable (sym was) short)
+written (there_or_not file) old new short (inr was) rewrites = rewrites.short (subst IsHashable (sym was) tt)
 written anything old new short was rewrites = rewrites.short was
 
 -- and back
@@ -57,7 +57,7 @@ unwritten (exactly (Some file)) new allowed = unwritten_one file file.finished r
 unwritten (there_or_not file) new allowed = (None, inr refl, from_none new allowed)
 unwritten anything new allowed = (None, tt, from_none new allowed)
 
-written_short_one : (file : File) (mark : Bool) → IsShort (Some file) → IsKnownShort (elim mark [ true ↦ exactly (Some file) | false ↦ anything ])
+written_short_one : (file : File) (mark : Bool) → IsHashable (Some file) → IsKnownShort (elim mark [ true ↦ exactly (Some file) | false ↦ anything ])
 written_short_one file true short = short
 written_short_one file false short = tt
 
@@ -76,8 +76,8 @@ removed (exactly (Some file)) old new was (inr gone) = inr gone
 removed (there_or_not file) old new (inl was) (inl same) = inl (same ∙ was)
 removed (there_or_not file) old new (inr was) (inl same) = inr (same ∙ was)
 removed (there_or_not file) old new was (inr gone) = inr gone
-removed anything old new was (inl same) = subst IsShort (sym same) was
-removed anything old new was (inr gone) = subst IsShort (sym gone) tt
+removed anything old new was (inl same) = subst IsHashable (sym same) was
+removed anything old new was (inr gone) = subst IsHashable (sym gone) tt
 
 -- and back
 pub unremoved : (known : Known) (new : Option File) → MayBe (after_removing known) new → (old : Option File) × MayBe known old × Loses old new

@@ -4,15 +4,15 @@ use Rattle.grid_outside.specs.Ambient.{AmbientState}
 use Rattle.grid_mem.specs.declared.mem_ambient.MemAmbient.{MemAmbient}
 
 -- the first so many values: those listed, and then the last one
-abbrev pub given : List ℕ → ℕ → ℕ → List ℕ
-given listed last count = take count listed ++ replicate (count - length listed) last
+abbrev pub first_values : List ℕ → ℕ → ℕ → List ℕ
+first_values listed last count = take count listed ++ replicate (count - length listed) last
 
 -- Its meaning as an ambient. It tells while both counters are below their last value.
 abbrev pub ambient_of : MemAmbient → AmbientState
 ambient_of a = record {
   tells = nat_lt a.times_given (2 ^ 64 - 1) && nat_lt a.words_given (2 ^ 64 - 1);
-  times = given a.times.items a.last_time a.times_given;
-  words = given a.words.items a.last_word a.words_given;
+  times = first_values a.times.items a.last_time a.times_given;
+  words = first_values a.words.items a.last_word a.words_given;
 }
 
 -- the time that the call of this number gives, from 0

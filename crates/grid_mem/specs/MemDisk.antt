@@ -14,9 +14,9 @@ unfoldable pub disk_of : MemDisk → DiskState
 disk_of d = state_of disk_kind disk_laws true d.faults d.last d.start.items d.bytes.items d.calls.items d.valid d.same
 
 -- the bytes at the start, and the calls with a moment since
-abbrev pub history_of : MemDisk → History DiskDeed (List ℕ)
-history_of d = record { start = d.start.items; calls = d.calls.items }
+abbrev pub disk_history : MemDisk → History DiskDeed (List ℕ)
+disk_history d = record { start = d.start.items; calls = d.calls.items }
 
 -- which calls are to fail, and how many there were
-abbrev pub schedule_of : MemDisk → Schedule
-schedule_of d = d.schedule
+abbrev pub disk_schedule : MemDisk → Schedule
+disk_schedule d = d.schedule

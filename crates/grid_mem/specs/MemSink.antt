@@ -14,9 +14,9 @@ unfoldable pub sink_of : MemSink → SinkState
 sink_of s = state_of sink_kind sink_laws true s.faults s.last s.start.items s.bytes.items s.calls.items s.valid s.same
 
 -- the bytes at the start, and the puts since, each by its bytes
-abbrev pub history_of : MemSink → History (Vec ℕ Global) (List ℕ)
-history_of s = record { start = s.start.items; calls = s.calls.items }
+abbrev pub sink_history : MemSink → History (Vec ℕ Global) (List ℕ)
+sink_history s = record { start = s.start.items; calls = s.calls.items }
 
 -- which calls are to fail, and how many there were
-abbrev pub schedule_of : MemSink → Schedule
-schedule_of s = s.schedule
+abbrev pub sink_schedule : MemSink → Schedule
+sink_schedule s = s.schedule

@@ -9,5 +9,5 @@ abbrev pub source_of : MemSource → SourceState
 source_of s = record { faults = s.faults; tells = true; left = drop s.taken s.bytes.items }
 
 -- which calls are to fail, and how many there were
-abbrev pub schedule_of : MemSource → Schedule
-schedule_of s = s.schedule
+abbrev pub source_schedule : MemSource → Schedule
+source_schedule s = s.schedule

@@ -18,12 +18,12 @@ unfoldable pub store_of : MemStore → StoreState
 store_of s = state_of store_kind store_laws (is_none s.lies) s.faults s.last (contents s.history.start) (contents s.files) s.history.calls.items s.valid s.same
 
 -- the files at the start, and the calls with a moment since
-abbrev pub history_of : MemStore → History StoreDeed Files
-history_of s = record { start = contents s.history.start; calls = s.history.calls.items }
+abbrev pub store_history : MemStore → History StoreDeed Files
+store_history s = record { start = contents s.history.start; calls = s.history.calls.items }
 
 -- which calls are to fail, and how many there were
-abbrev pub schedule_of : MemStore → Schedule
-schedule_of s = s.schedule
+abbrev pub store_schedule : MemStore → Schedule
+store_schedule s = s.schedule
 
 -- the lies that it tells, if it was made to lie
 abbrev pub lies_of : MemStore → Option Lies

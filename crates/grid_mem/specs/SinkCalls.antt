@@ -40,4 +40,5 @@ putting_after false bytes put done u = record { held = bytes; bytes = put.items 
 -- What is being put at the moment, to a sink with this history.
 abbrev pub putting_at : ℕ → History (Vec ℕ Global) (List ℕ) → Putting
 putting_at moment history =
-    known_at sink_kind (λ over bytes call. putting_after over bytes call.deed call.done) moment history.start history.calls (record { held = history.start; bytes = [] })
+    known_at sink_kind (λ over bytes call. putting_after over bytes call.deed call.done) moment history.start history.calls
+      (record { held = history.start; bytes = [] })

@@ -13,9 +13,9 @@ half n = omega arith
 pub adds_nothing : (put bytes : List ℕ) → AddsPart put bytes bytes
 adds_nothing put bytes = record { count = 0; within = omega arith; is = sym (append-nil bytes) }
 
-may : (put : Vec ℕ Global) (done : Bool) (bytes : List ℕ) → AddsPart put.items bytes (sink_after bytes put done)
-may put true bytes = record { count = length put.items; within = omega arith; is = ap (λ xs. bytes ++ xs) (sym (take-length put.items)) }
-may put false bytes = record { count = length put.items / 2; within = half (length put.items); is = refl }
+sink_may : (put : Vec ℕ Global) (done : Bool) (bytes : List ℕ) → AddsPart put.items bytes (sink_after bytes put done)
+sink_may put true bytes = record { count = length put.items; within = omega arith; is = ap (λ xs. bytes ++ xs) (sym (take-length put.items)) }
+sink_may put false bytes = record { count = length put.items / 2; within = half (length put.items); is = refl }
 
 pub sink_laws : Laws sink_kind
-sink_laws = record { may = λ put done bytes fits. may put done bytes; sure = λ put done bytes. refl }
+sink_laws = record { may = λ put done bytes fits. sink_may put done bytes; sure = λ put done bytes. refl }

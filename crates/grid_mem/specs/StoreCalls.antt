@@ -1,5 +1,6 @@
 -- The calls of a store in memory: what they do to what is held, when they fit, and what a stop may leave of them.
-use Rattle.std.specs.Prelude.{◌≡◌, ℕ, ◌+◌, ◌^◌, Bool, true, false, not, ◌&&◌, List, [], ◌++◌, length, nat_eq, nat_lt, Option, Some, None, is_none, ⊤, if◌then◌else◌}
+use Rattle.std.specs.Prelude.{◌≡◌, ℕ, ◌+◌, ◌^◌, Bool, true, false, not, ◌&&◌, List, [], ◌++◌, length, nat_eq, nat_lt, Option, Some, None}
+use Rattle.std.specs.Prelude.{is_none, ⊤, if◌then◌else◌}
 use Rattle.std.specs.FinMap.{insert, remove}
 use Rattle.grid_outside.specs.Files.{File, Files, file_at, Writes, Removes}
 use Rattle.grid_outside.specs.StoreModel.{Known, exactly, MayBe, after_writing, after_removing}
@@ -44,7 +45,7 @@ store_fits files (Finish name) = is_begun (file_at files name)
 store_fits files (Remove name) = true
 
 -- it was done exactly where it fitted, and made that of the files, or nothing
-pub record IsDone (fits : Bool) (next old : Files) (done : Bool) (new : Files) : Type 0 where
+pub record IsDoneIfFit (fits : Bool) (next old : Files) (done : Bool) (new : Files) : Type 0 where
   pub asked : done ≡ fits
   pub files : new ≡ (if fits then next else old)
 
@@ -101,7 +102,8 @@ known_files_after over files deed done known name =
 -- What is known of each file at the moment, of a store with this history.
 abbrev pub known_files_at : ℕ → History StoreDeed Files → ℕ → Known
 known_files_at moment history =
-    known_at store_kind (λ over files call. known_files_after over files call.deed call.done) moment history.start history.calls (λ name. exactly (file_at history.start name))
+    known_at store_kind (λ over files call. known_files_after over files call.deed call.done) moment history.start history.calls
+      (λ name. exactly (file_at history.start name))
 
 -- a stop may leave of each file what is known of it
 abbrev pub MayBeFiles : (ℕ → Known) → Files → Type 0

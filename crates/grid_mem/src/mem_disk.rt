@@ -30,15 +30,15 @@ impl MemDisk {
     ghost use Rattle.grid_outside.specs.Fault.{HasCause};
     ghost use Rattle.grid_mem.specs.Device.{IsNew};
     ghost use Rattle.grid_mem.specs.DiskCalls.{unsynced_at};
-    ghost use Rattle.grid_mem.specs.MemDisk.{disk_of, history_of, schedule_of};
+    ghost use Rattle.grid_mem.specs.MemDisk.{disk_of, disk_history, disk_schedule};
     ghost use Rattle.grid_mem.specs.Schedule.{IsFresh, CountsFaults};
 
     /// A disk that holds these bytes. Its calls of these numbers, from 1, are to fail. The only error is want of
     /// memory.
     pub fn new(alloc: Global, bytes: Vec<u8>, fails: Vec<u64>) -> Result<MemDisk, AllocError>
         ensures new { IfOk result (λ disk. IsNew bytes.items (disk_of disk)) }
-        ensures history { IfOk result (λ disk. history_of disk ≡ record { start = bytes.items; calls = [] }) }
-        ensures schedule { IfOk result (λ disk. IsFresh fails.items (schedule_of disk)) }
+        ensures history { IfOk result (λ disk. disk_history disk ≡ record { start = bytes.items; calls = [] }) }
+        ensures schedule { IfOk result (λ disk. IsFresh fails.items (disk_schedule disk)) }
     {
         let start = bytes.as_slice().to_vec(alloc)?;
         Ok(MemDisk {
@@ -61,7 +61,7 @@ impl MemDisk {
 
     /// Its calls with a moment, in order.
     pub fn calls(&self) -> &[Call<DiskDeed>]
-        ensures { result.now ≡ (history_of self.now).calls }
+        ensures { result.now ≡ (disk_history self.now).calls }
     {
         &self.calls
     }
@@ -69,9 +69,9 @@ impl MemDisk {
     /// A law, which does nothing: a stop at a moment may leave exactly what the rules of a disk allow after the calls
     /// up to that moment.
     pub fn leaves(&self)
-        ensures holds { (disk_of self.now).holds ≡ held_since disk_kind (history_of self.now) }
+        ensures holds { (disk_of self.now).holds ≡ held_since disk_kind (disk_history self.now) }
         ensures left { (t : ℕ) (image : List ℕ) → (disk_of self.now).left t image
-            ↔ MayLeave (unsynced_at t (history_of self.now)) image }
+            ↔ MayLeave (unsynced_at t (disk_history self.now)) image }
     {}
 
     // A call with a moment.
@@ -88,7 +88,7 @@ impl MemDisk {
         ensures faults { CountsFaults self.old.faults self.new.faults result }
         ensures schedule { self.new.schedule ≡ self.old.schedule }
         ensures recorded { Records moment (λ other. other ≡ deed)
-            (history_of self.old) (history_of self.new) result }
+            (disk_history self.old) (disk_history self.new) result }
     {
         let call = Call { moment, deed, done };
         match record(self.alloc, &mut self.calls, &mut self.bytes, call) {
@@ -160,7 +160,7 @@ impl Disk for MemDisk {
     ghost use Rattle.grid_outside.specs.Device.{Acts, Looks, IsSettled};
     ghost use Rattle.grid_outside.specs.Disk.{ReadsAt, Holds, Torn, Cut, Same};
     ghost use Rattle.grid_outside.specs.Fault.{HasCause};
-    ghost use Rattle.grid_mem.specs.MemDisk.{disk_of, history_of, schedule_of};
+    ghost use Rattle.grid_mem.specs.MemDisk.{disk_of, disk_history, disk_schedule};
     ghost use Rattle.grid_mem.specs.DiskCalls.{IsWrite};
     ghost use Rattle.grid_mem.specs.Schedule.{CountsFaults, FailsAsListed, FailsIfListed};
 
@@ -171,10 +171,10 @@ impl Disk for MemDisk {
         ensures length { IfOk result (λ n. IsTrue (disk_of self.old).tells →
             n ≡ length (disk_of self.old).holds) }
         ensures looks { Looks (disk_of self.old) (disk_of self.new) }
-        ensures history { history_of self.new ≡ history_of self.old }
+        ensures history { disk_history self.new ≡ disk_history self.old }
         ensures cause { HasCause (disk_of self.old).faults (disk_of self.new).faults result }
         ensures faults { CountsFaults (disk_of self.old).faults (disk_of self.new).faults result }
-        ensures listed { FailsAsListed (schedule_of self.old) (schedule_of self.new) result }
+        ensures listed { FailsAsListed (disk_schedule self.old) (disk_schedule self.new) result }
     {
         if self.schedule.admits_next() {
             return Ok(self.bytes.len() as u64);
@@ -189,10 +189,10 @@ impl Disk for MemDisk {
         ensures bytes { IfOk result (λ n. IsTrue (disk_of self.old).tells →
             ReadsAt (disk_of self.old).holds at n buf.new) }
         ensures looks { Looks (disk_of self.old) (disk_of self.new) }
-        ensures history { history_of self.new ≡ history_of self.old }
+        ensures history { disk_history self.new ≡ disk_history self.old }
         ensures cause { HasCause (disk_of self.old).faults (disk_of self.new).faults result }
         ensures faults { CountsFaults (disk_of self.old).faults (disk_of self.new).faults result }
-        ensures listed { FailsAsListed (schedule_of self.old) (schedule_of self.new) result }
+        ensures listed { FailsAsListed (disk_schedule self.old) (disk_schedule self.new) result }
     {
         if !self.schedule.admits_next() {
             self.faults = self.faults.saturating_add(1);
@@ -212,9 +212,9 @@ impl Disk for MemDisk {
         ensures acts { Acts moment (Torn at (length bytes.now)) (disk_of self.old) (disk_of self.new) }
         ensures cause { HasCause (disk_of self.old).faults (disk_of self.new).faults result }
         ensures faults { CountsFaults (disk_of self.old).faults (disk_of self.new).faults result }
-        ensures listed { FailsIfListed (schedule_of self.old) (schedule_of self.new) result }
+        ensures listed { FailsIfListed (disk_schedule self.old) (disk_schedule self.new) result }
         ensures recorded { Records moment (IsWrite at bytes.now)
-            (history_of self.old) (history_of self.new) result }
+            (disk_history self.old) (disk_history self.new) result }
     {
         let done = self.schedule.admits_next();
         let Ok(copy) = bytes.to_vec(self.alloc) else {
@@ -236,9 +236,9 @@ impl Disk for MemDisk {
         ensures acts { Acts moment (Cut len) (disk_of self.old) (disk_of self.new) }
         ensures cause { HasCause (disk_of self.old).faults (disk_of self.new).faults result }
         ensures faults { CountsFaults (disk_of self.old).faults (disk_of self.new).faults result }
-        ensures listed { FailsIfListed (schedule_of self.old) (schedule_of self.new) result }
+        ensures listed { FailsIfListed (disk_schedule self.old) (disk_schedule self.new) result }
         ensures recorded { Records moment (λ deed. deed ≡ DiskDeed.Cut len)
-            (history_of self.old) (history_of self.new) result }
+            (disk_history self.old) (disk_history self.new) result }
     {
         let done = self.schedule.admits_next();
         self.take(moment, DiskDeed::Cut { len }, done)
@@ -252,9 +252,9 @@ impl Disk for MemDisk {
         ensures acts { Acts moment Same (disk_of self.old) (disk_of self.new) }
         ensures cause { HasCause (disk_of self.old).faults (disk_of self.new).faults result }
         ensures faults { CountsFaults (disk_of self.old).faults (disk_of self.new).faults result }
-        ensures listed { FailsIfListed (schedule_of self.old) (schedule_of self.new) result }
+        ensures listed { FailsIfListed (disk_schedule self.old) (disk_schedule self.new) result }
         ensures recorded { Records moment (λ deed. deed ≡ DiskDeed.Sync)
-            (history_of self.old) (history_of self.new) result }
+            (disk_history self.old) (disk_history self.new) result }
     {
         let done = self.schedule.admits_next();
         self.take(moment, DiskDeed::Sync, done)

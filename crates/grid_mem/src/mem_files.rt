@@ -2,7 +2,7 @@ ghost use Rattle.std.specs.Prelude.{◌≡◌, ◌==◌, true, false, [], positi
 ghost use Rattle.std.specs.FinMap.{remove};
 ghost use Rattle.grid_outside.specs.Files.{file_at};
 ghost use Rattle.grid_mem.specs.MemFile.{files_of, file_of};
-ghost use Rattle.grid_mem.specs.StoreCalls.{store_fits, store_done, IsDone, put, can_append, appended, is_begun, bytes_of as file_bytes};
+ghost use Rattle.grid_mem.specs.StoreCalls.{store_fits, store_done, IsDoneIfFit, put, can_append, appended, is_begun, bytes_of as file_bytes};
 
 use crate::{MemFile, StoreDeed};
 use std::alloc::{AllocError, Global};
@@ -62,7 +62,7 @@ impl MemFiles {
 
     // Does a deed where its file is in the state that it needs, and says whether it did.
     pub(crate) fn apply(&mut self, alloc: Global, deed: &StoreDeed) -> Result<bool, AllocError>
-        ensures ok { IfOk result (λ done. IsDone (store_fits (contents self.old) deed.now)
+        ensures ok { IfOk result (λ done. IsDoneIfFit (store_fits (contents self.old) deed.now)
             (store_done (contents self.old) deed.now)
             (contents self.old) done (contents self.new)) }
         ensures err { OnErr result (contents self.new ≡ contents self.old) }
@@ -76,7 +76,7 @@ impl MemFiles {
     }
 
     fn create(&mut self, alloc: Global, name: u64) -> Result<bool, AllocError>
-        ensures ok { IfOk result (λ done. IsDone (is_none (file_at (contents self.old) name))
+        ensures ok { IfOk result (λ done. IsDoneIfFit (is_none (file_at (contents self.old) name))
             (put (contents self.old) name [] false)
             (contents self.old) done (contents self.new)) }
         ensures err { OnErr result (contents self.new ≡ contents self.old) }
@@ -93,7 +93,7 @@ impl MemFiles {
     }
 
     fn append(&mut self, name: u64, bytes: &[u8]) -> Result<bool, AllocError>
-        ensures ok { IfOk result (λ done. IsDone (can_append (contents self.old) name bytes.now)
+        ensures ok { IfOk result (λ done. IsDoneIfFit (can_append (contents self.old) name bytes.now)
             (appended (contents self.old) name bytes.now)
             (contents self.old) done (contents self.new)) }
         ensures err { OnErr result (contents self.new ≡ contents self.old) }
@@ -109,7 +109,7 @@ impl MemFiles {
     }
 
     fn finish(&mut self, name: u64) -> bool
-        ensures { IsDone (is_begun (file_at (contents self.old) name))
+        ensures { IsDoneIfFit (is_begun (file_at (contents self.old) name))
             (put (contents self.old) name (file_bytes (file_at (contents self.old) name)) true)
             (contents self.old) result (contents self.new) }
     {
@@ -124,7 +124,7 @@ impl MemFiles {
     }
 
     fn remove(&mut self, name: u64) -> bool
-        ensures { IsDone true (remove (contents self.old) name) (contents self.old) result (contents self.new) }
+        ensures { IsDoneIfFit true (remove (contents self.old) name) (contents self.old) result (contents self.new) }
     {
         self.files.retain(|file| file.name != name);
         true

@@ -29,15 +29,15 @@ impl MemSink {
     ghost use Rattle.grid_outside.specs.Sink.{AddsPart};
     ghost use Rattle.grid_mem.specs.Device.{IsNew};
     ghost use Rattle.grid_mem.specs.SinkCalls.{MayStand, putting_at, AddsHalf};
-    ghost use Rattle.grid_mem.specs.MemSink.{sink_of, history_of, schedule_of};
+    ghost use Rattle.grid_mem.specs.MemSink.{sink_of, sink_history, sink_schedule};
     ghost use Rattle.grid_mem.specs.Schedule.{IsFresh, CountsFaults};
 
     /// A sink that holds these bytes. Its calls of these numbers, from 1, are to fail. The only error is want of
     /// memory.
     pub fn new(alloc: Global, bytes: Vec<u8>, fails: Vec<u64>) -> Result<MemSink, AllocError>
         ensures new { IfOk result (λ sink. IsNew bytes.items (sink_of sink)) }
-        ensures history { IfOk result (λ sink. history_of sink ≡ record { start = bytes.items; calls = [] }) }
-        ensures schedule { IfOk result (λ sink. IsFresh fails.items (schedule_of sink)) }
+        ensures history { IfOk result (λ sink. sink_history sink ≡ record { start = bytes.items; calls = [] }) }
+        ensures schedule { IfOk result (λ sink. IsFresh fails.items (sink_schedule sink)) }
     {
         let start = bytes.as_slice().to_vec(alloc)?;
         Ok(MemSink {
@@ -61,9 +61,9 @@ impl MemSink {
     /// A law, which does nothing: a stop at a put's own moment may leave exactly what was held before with any first
     /// part of its bytes, and a stop at another moment exactly what is held then.
     pub fn leaves(&self)
-        ensures holds { (sink_of self.now).holds ≡ held_since sink_kind (history_of self.now) }
+        ensures holds { (sink_of self.now).holds ≡ held_since sink_kind (sink_history self.now) }
         ensures left { (t : ℕ) (image : List ℕ) → (sink_of self.now).left t image
-            ↔ MayStand (putting_at t (history_of self.now)) image }
+            ↔ MayStand (putting_at t (sink_history self.now)) image }
     {}
 
     // A call with a moment.
@@ -78,7 +78,7 @@ impl MemSink {
         ensures faults { CountsFaults self.old.faults self.new.faults result }
         ensures schedule { self.new.schedule ≡ self.old.schedule }
         ensures recorded { Records moment (λ other. other ≡ deed)
-            (history_of self.old) (history_of self.new) result }
+            (sink_history self.old) (sink_history self.new) result }
     {
         let call = Call { moment, deed, done };
         match record(self.alloc, &mut self.calls, &mut self.bytes, call) {
@@ -127,7 +127,7 @@ impl Sink for MemSink {
     ghost use Rattle.grid_outside.specs.Device.{Acts, IsSettled};
     ghost use Rattle.grid_outside.specs.Fault.{HasCause};
     ghost use Rattle.grid_outside.specs.Sink.{AddsPart};
-    ghost use Rattle.grid_mem.specs.MemSink.{sink_of, history_of, schedule_of};
+    ghost use Rattle.grid_mem.specs.MemSink.{sink_of, sink_history, sink_schedule};
     ghost use Rattle.grid_mem.specs.SinkCalls.{AddsHalf};
     ghost use Rattle.grid_mem.specs.Schedule.{CountsFaults, FailsIfListed};
 
@@ -143,9 +143,9 @@ impl Sink for MemSink {
         ensures acts { Acts moment (AddsPart bytes.now) (sink_of self.old) (sink_of self.new) }
         ensures cause { HasCause (sink_of self.old).faults (sink_of self.new).faults result }
         ensures faults { CountsFaults (sink_of self.old).faults (sink_of self.new).faults result }
-        ensures listed { FailsIfListed (schedule_of self.old) (schedule_of self.new) result }
+        ensures listed { FailsIfListed (sink_schedule self.old) (sink_schedule self.new) result }
         ensures recorded { Records moment (λ put. put.items ≡ bytes.now)
-            (history_of self.old) (history_of self.new) result }
+            (sink_history self.old) (sink_history self.new) result }
     {
         let done = self.schedule.admits_next();
         let Ok(deed) = bytes.to_vec(self.alloc) else {

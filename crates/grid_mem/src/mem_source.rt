@@ -14,7 +14,7 @@ pub struct MemSource {
 }
 
 impl MemSource {
-    ghost use Rattle.grid_mem.specs.MemSource.{source_of, schedule_of};
+    ghost use Rattle.grid_mem.specs.MemSource.{source_of, source_schedule};
     ghost use Rattle.grid_mem.specs.Schedule.{IsFresh};
 
     /// A source that gives these bytes. Its calls of these numbers, from 1, are to fail.
@@ -22,7 +22,7 @@ impl MemSource {
         ensures tells { IsTrue (source_of result).tells }
         ensures left { (source_of result).left ≡ bytes.items }
         ensures faults { (source_of result).faults ≡ 0 }
-        ensures schedule { IsFresh fails.items (schedule_of result) }
+        ensures schedule { IsFresh fails.items (source_schedule result) }
     {
         MemSource {
             bytes,
@@ -35,8 +35,8 @@ impl MemSource {
 
 impl Source for MemSource {
     ghost use Rattle.grid_outside.specs.Fault.{HasCause};
-    ghost use Rattle.grid_outside.specs.Source.{Takes};
-    ghost use Rattle.grid_mem.specs.MemSource.{source_of, schedule_of};
+    ghost use Rattle.grid_outside.specs.Source.{TakesFront};
+    ghost use Rattle.grid_mem.specs.MemSource.{source_of, source_schedule};
     ghost use Rattle.grid_mem.specs.Schedule.{CountsFaults, FailsAsListed};
 
     ghost source = { source_of };
@@ -46,13 +46,13 @@ impl Source for MemSource {
         ensures count { IfOk result (λ n. n ≤ length buf.new) }
         ensures tells { (source_of self.new).tells ≡ (source_of self.old).tells }
         ensures takes { IfOk result (λ n. IsTrue (source_of self.old).tells →
-            Takes (source_of self.old).left n buf.new (source_of self.new).left) }
+            TakesFront (source_of self.old).left n buf.new (source_of self.new).left) }
         ensures failed { OnErr result (IsTrue (source_of self.old).tells →
             (source_of self.new).left ≡ (source_of self.old).left) }
         ensures cause { HasCause (source_of self.old).faults (source_of self.new).faults result }
         ensures faults { CountsFaults (source_of self.old).faults (source_of self.new).faults result }
         ensures fills { IfOk result (λ n. n ≡ min (length buf.new) (length (source_of self.old).left)) }
-        ensures listed { FailsAsListed (schedule_of self.old) (schedule_of self.new) result }
+        ensures listed { FailsAsListed (source_schedule self.old) (source_schedule self.new) result }
     {
         if !self.schedule.admits_next() {
             self.faults = self.faults.saturating_add(1);

@@ -1,9 +1,10 @@
-ghost use Rattle.std.specs.Prelude.{◌≡◌, ◌↔◌, ◌⊎◌, ℕ, ◌+◌, ◌^◌, ◌<◌, ◌≤◌, true, false, [], ◌∷◌, ◌++◌, ◌&&◌, length, OnOk, OnErr, IfOk, IsErr, IsTrue, is_none, Some, None};
+ghost use Rattle.std.specs.Prelude.{◌≡◌, ◌↔◌, ◌⊎◌, ℕ, ◌+◌, ◌^◌, ◌<◌, ◌≤◌, true, false, [], ◌∷◌, ◌++◌, ◌&&◌, length, OnOk, OnErr, IfOk};
+ghost use Rattle.std.specs.Prelude.{IsErr, IsTrue, is_none, Some, None};
 ghost use Rattle.grid_outside.specs.Files.{File, Files, file_at};
 ghost use Rattle.grid_mem.specs.Calls.{is_record, held, held_after, held_since, Records};
 ghost use Rattle.grid_mem.specs.FilesCode.{files_prop};
 ghost use Rattle.grid_mem.specs.MemFiles.{contents};
-ghost use Rattle.grid_mem.specs.StoreCalls.{store_kind, store_fits, store_done, IsDone, StoreMay, StoreSure};
+ghost use Rattle.grid_mem.specs.StoreCalls.{store_kind, store_fits, store_done, IsDoneIfFit, StoreMay, StoreSure};
 
 use crate::reading::read_at;
 use crate::watch::Watch;
@@ -35,7 +36,7 @@ impl MemStore {
     ghost use Rattle.grid_outside.specs.Device.{Acts};
     ghost use Rattle.grid_outside.specs.Fault.{HasCause};
     ghost use Rattle.grid_mem.specs.Device.{IsNew};
-    ghost use Rattle.grid_mem.specs.MemStore.{store_of, history_of, schedule_of, lies_of, is_lying};
+    ghost use Rattle.grid_mem.specs.MemStore.{store_of, store_history, store_schedule, lies_of, is_lying};
     ghost use Rattle.grid_mem.specs.Schedule.{IsFresh, CountsFaults};
     ghost use Rattle.grid_mem.specs.StoreCalls.{MayBeFiles, known_files_at};
 
@@ -43,9 +44,9 @@ impl MemStore {
     /// memory.
     pub fn new(alloc: Global, files: MemFiles, fails: Vec<u64>) -> Result<MemStore, AllocError>
         ensures new { IfOk result (λ store. IsNew (contents files) (store_of store)) }
-        ensures history { IfOk result (λ store. history_of store ≡
+        ensures history { IfOk result (λ store. store_history store ≡
             record { start = contents files; calls = [] }) }
-        ensures schedule { IfOk result (λ store. IsFresh fails.items (schedule_of store)) }
+        ensures schedule { IfOk result (λ store. IsFresh fails.items (store_schedule store)) }
     {
         let start = files.clone()?;
         Ok(MemStore {
@@ -69,9 +70,9 @@ impl MemStore {
         watch: Rc<RefCell<StoreRecord>>,
     ) -> Result<MemStore, AllocError>
         ensures new { IfOk result (λ store. IsNew (contents files) (store_of store)) }
-        ensures history { IfOk result (λ store. history_of store ≡
+        ensures history { IfOk result (λ store. store_history store ≡
             record { start = contents files; calls = [] }) }
-        ensures schedule { IfOk result (λ store. IsFresh fails.items (schedule_of store)) }
+        ensures schedule { IfOk result (λ store. IsFresh fails.items (store_schedule store)) }
     {
         let mut store = MemStore::new(alloc, files, fails)?;
         store.watch = Watch::on(watch);
@@ -84,8 +85,8 @@ impl MemStore {
         ensures holds { (store_of result).holds ≡ (store_of self).holds }
         ensures last { (store_of result).last ≡ (store_of self).last }
         ensures faults { (store_of result).faults ≡ (store_of self).faults }
-        ensures history { history_of result ≡ history_of self }
-        ensures schedule { schedule_of result ≡ schedule_of self }
+        ensures history { store_history result ≡ store_history self }
+        ensures schedule { store_schedule result ≡ store_schedule self }
         ensures lies { lies_of result ≡ Some lies }
     {
         let mut store = self;
@@ -103,9 +104,9 @@ impl MemStore {
     /// A law, which does nothing: a stop at a moment may leave exactly the files of which each is as the rules of a
     /// store allow after the calls up to that moment.
     pub fn leaves(&self)
-        ensures holds { (store_of self.now).holds ≡ held_since store_kind (history_of self.now) }
+        ensures holds { (store_of self.now).holds ≡ held_since store_kind (store_history self.now) }
         ensures left { (t : ℕ) (image : Files) → (store_of self.now).left t image
-            ↔ MayBeFiles (known_files_at t (history_of self.now)) image }
+            ↔ MayBeFiles (known_files_at t (store_history self.now)) image }
     {}
 
     // Whether the next call lies about the file of this name.
@@ -133,7 +134,7 @@ impl MemStore {
         ensures schedule { self.new.schedule ≡ self.old.schedule }
         ensures lies { lies_of self.new ≡ lies_of self.old }
         ensures recorded { Records moment (λ other. other ≡ deed)
-            (history_of self.old) (history_of self.new) result }
+            (store_history self.old) (store_history self.new) result }
     {
         let asked = Call {
             moment,
@@ -171,7 +172,7 @@ impl Plugin for MemStore {
     ghost use Rattle.grid_outside.specs.Fault.{HasCause};
     ghost use Rattle.grid_outside.specs.Files.{Writes, Removes, Created, Appended, Finished, IsGone, ReadsFile, HasSize};
     ghost use Rattle.grid_outside.specs.Disk.{ReadsAt};
-    ghost use Rattle.grid_mem.specs.MemStore.{store_of, history_of, schedule_of, lies_of, is_lying};
+    ghost use Rattle.grid_mem.specs.MemStore.{store_of, store_history, store_schedule, lies_of, is_lying};
     ghost use Rattle.grid_mem.specs.StoreCalls.{IsAppend};
     ghost use Rattle.grid_mem.specs.Schedule.{CountsFaults, FailsIfListed, FailsIfListedOr};
 
@@ -186,10 +187,10 @@ impl Plugin for MemStore {
         ensures acts { Acts moment (Writes name) (store_of self.old) (store_of self.new) }
         ensures cause { HasCause (store_of self.old).faults (store_of self.new).faults result }
         ensures faults { CountsFaults (store_of self.old).faults (store_of self.new).faults result }
-        ensures listed { FailsIfListed (schedule_of self.old) (schedule_of self.new) result }
+        ensures listed { FailsIfListed (store_schedule self.old) (store_schedule self.new) result }
         ensures lies { lies_of self.new ≡ lies_of self.old }
         ensures recorded { Records moment (λ deed. deed ≡ StoreDeed.Create name)
-            (history_of self.old) (history_of self.new) result }
+            (store_history self.old) (store_history self.new) result }
     {
         let admitted = self.schedule.admits_next();
         self.take(moment, StoreDeed::Create { name }, admitted)?;
@@ -206,10 +207,10 @@ impl Plugin for MemStore {
         ensures acts { Acts moment (Writes name) (store_of self.old) (store_of self.new) }
         ensures cause { HasCause (store_of self.old).faults (store_of self.new).faults result }
         ensures faults { CountsFaults (store_of self.old).faults (store_of self.new).faults result }
-        ensures listed { FailsIfListed (schedule_of self.old) (schedule_of self.new) result }
+        ensures listed { FailsIfListed (store_schedule self.old) (store_schedule self.new) result }
         ensures lies { lies_of self.new ≡ lies_of self.old }
         ensures recorded { Records moment (IsAppend name bytes.now)
-            (history_of self.old) (history_of self.new) result }
+            (store_history self.old) (store_history self.new) result }
     {
         let admitted = self.schedule.admits_next();
         let Ok(copy) = bytes.to_vec(self.alloc) else {
@@ -231,10 +232,10 @@ impl Plugin for MemStore {
         ensures acts { Acts moment (Writes name) (store_of self.old) (store_of self.new) }
         ensures cause { HasCause (store_of self.old).faults (store_of self.new).faults result }
         ensures faults { CountsFaults (store_of self.old).faults (store_of self.new).faults result }
-        ensures listed { FailsIfListed (schedule_of self.old) (schedule_of self.new) result }
+        ensures listed { FailsIfListed (store_schedule self.old) (store_schedule self.new) result }
         ensures lies { lies_of self.new ≡ lies_of self.old }
         ensures recorded { Records moment (λ deed. deed ≡ StoreDeed.Finish name)
-            (history_of self.old) (history_of self.new) result }
+            (store_history self.old) (store_history self.new) result }
     {
         let admitted = self.schedule.admits_next();
         self.take(moment, StoreDeed::Finish { name }, admitted)?;
@@ -248,10 +249,10 @@ impl Plugin for MemStore {
         ensures bytes { IfOk result (λ n. IsTrue (store_of self.old).tells →
             ReadsFile name at n (store_of self.old).holds buf.new) }
         ensures looks { Looks (store_of self.old) (store_of self.new) }
-        ensures history { history_of self.new ≡ history_of self.old }
+        ensures history { store_history self.new ≡ store_history self.old }
         ensures cause { HasCause (store_of self.old).faults (store_of self.new).faults result }
         ensures faults { CountsFaults (store_of self.old).faults (store_of self.new).faults result }
-        ensures listed { FailsIfListedOr (schedule_of self.old) (schedule_of self.new)
+        ensures listed { FailsIfListedOr (store_schedule self.old) (store_schedule self.new)
             (file_at (store_of self.old).holds name ≡ None) result }
         ensures lies { lies_of self.new ≡ lies_of self.old }
         ensures truth { IfOk result (λ n. is_lying self.old name ≡ false →
@@ -278,10 +279,10 @@ impl Plugin for MemStore {
         ensures size { IfOk result (λ n. IsTrue (store_of self.old).tells →
             HasSize name n (store_of self.old).holds) }
         ensures looks { Looks (store_of self.old) (store_of self.new) }
-        ensures history { history_of self.new ≡ history_of self.old }
+        ensures history { store_history self.new ≡ store_history self.old }
         ensures cause { HasCause (store_of self.old).faults (store_of self.new).faults result }
         ensures faults { CountsFaults (store_of self.old).faults (store_of self.new).faults result }
-        ensures listed { FailsIfListedOr (schedule_of self.old) (schedule_of self.new)
+        ensures listed { FailsIfListedOr (store_schedule self.old) (store_schedule self.new)
             (file_at (store_of self.old).holds name ≡ None) result }
         ensures lies { lies_of self.new ≡ lies_of self.old }
         ensures truth { IfOk result (λ n. is_lying self.old name ≡ false →
@@ -308,10 +309,10 @@ impl Plugin for MemStore {
         ensures acts { Acts moment (Removes name) (store_of self.old) (store_of self.new) }
         ensures cause { HasCause (store_of self.old).faults (store_of self.new).faults result }
         ensures faults { CountsFaults (store_of self.old).faults (store_of self.new).faults result }
-        ensures listed { FailsIfListed (schedule_of self.old) (schedule_of self.new) result }
+        ensures listed { FailsIfListed (store_schedule self.old) (store_schedule self.new) result }
         ensures lies { lies_of self.new ≡ lies_of self.old }
         ensures recorded { Records moment (λ deed. deed ≡ StoreDeed.Remove name)
-            (history_of self.old) (history_of self.new) result }
+            (store_history self.old) (store_history self.new) result }
     {
         let admitted = self.schedule.admits_next();
         self.take(moment, StoreDeed::Remove { name }, admitted)?;
@@ -358,7 +359,7 @@ fn apply_if(
     files: &mut MemFiles,
     deed: &StoreDeed,
 ) -> Result<bool, AllocError>
-    ensures ok { IfOk result (λ done. IsDone (admitted && store_fits (contents files.old) deed.now)
+    ensures ok { IfOk result (λ done. IsDoneIfFit (admitted && store_fits (contents files.old) deed.now)
         (store_done (contents files.old) deed.now)
         (contents files.old) done (contents files.new)) }
     ensures err { OnErr result (contents files.new ≡ contents files.old) }

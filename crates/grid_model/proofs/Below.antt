@@ -6,7 +6,7 @@ use Rattle.std.specs.Option.{option_map_or}
 use Rattle.std.proofs.lemmas.Bool.Decides.{nat_tests}
 use Rattle.std.specs.Cmp.Lexicographic.{pointwise}
 use Rattle.std.proofs.lemmas.Bool.{and_right, lt-ltb, le-ltb}
-use Rattle.grid_model.specs.Names.{Text, Path, same_text, below, is_under, parent}
+use Rattle.grid_model.specs.Names.{Text, Path, same_text, path_below, is_under, parent}
 
 -- the collection is the path without its last name
 pub parent-push : (p : Path) (n : Text) → parent (p ++ n ∷ []) ≡ Some p
@@ -31,7 +31,7 @@ is_under-starts (n ∷ a) [] = sym (ap (λ b. b && false) (lt-zero (length a)))
 is_under-starts (n ∷ a) (m ∷ p) = by (is_under-starts a p) (same_text n m) ∙ ap (λ b. b && (same_text n m && pointwise same_text a (take (length a) p))) (sym (lt-suc (length a) (length p)))
   where
     by : is_under a p ≡ (nat_lt (length a) (length p) && pointwise same_text a (take (length a) p)) → (b : Bool)
-        → option_map_or (λ rest. nat_lt 0 (length rest)) (elim b [ true ↦ below a p | false ↦ None ]) false ≡ (nat_lt (length a) (length p) && (b && pointwise same_text a (take (length a) p)))
+        → option_map_or (λ rest. nat_lt 0 (length rest)) (elim b [ true ↦ path_below a p | false ↦ None ]) false ≡ (nat_lt (length a) (length p) && (b && pointwise same_text a (take (length a) p)))
     by rest true = rest
     by rest false = sym (and_right (nat_lt (length a) (length p)) false refl)
 

@@ -2,7 +2,7 @@
 use Rattle.std.proofs.Common.{◌≡◌, true, false, [], ◌∷◌, ◌++◌, Ok, Err, refl, lit≤}
 use Rattle.std.specs.Prelude.{codes, decimal, map, replicate}
 use Rattle.grid_model.specs.Names.{Text, Path}
-use Rattle.grid_model.specs.Grid.{start, first_leaf, Object}
+use Rattle.grid_model.specs.Grid.{start_grid, Object}
 use Rattle.grid_model.specs.Lines.{is_request}
 use Rattle.grid_model.specs.Inputs.{Takes, none_taken, takes_blank, ends_in_line, AreRequests, PromisesBody}
 use Rattle.grid_model.specs.Printing.{spaced, print_refusal, print_failure}

@@ -3,7 +3,7 @@ use Rattle.std.proofs.Common.{◌≡◌, true, false, [], ◌∷◌, Some, None,
 use Rattle.std.specs.Prelude.{codes, replicate}
 use Rattle.std.specs.declared.cmp.Ordering.TheVariants.{Less, Greater}
 use Rattle.grid_model.specs.Names.{Path, is_name, is_path, print_path, parent, is_under, path_cmp, text_cmp, same_text, same_path}
-use Rattle.grid_model.specs.Grid.{Grid, start}
+use Rattle.grid_model.specs.Grid.{Grid, start_grid}
 use Rattle.grid_model.specs.Maps.{Set, empty, add, has}
 
 -- ---- names
@@ -117,7 +117,7 @@ split_elsewhere = refl
 -- ---- the grid from the start
 
 abbrev first : Grid
-first = start (codes "z") (codes "rods") 1
+first = start_grid (codes "z") (codes "rods") 1
 
 root_from_the_start : has first.collections [] ≡ true
 root_from_the_start = refl

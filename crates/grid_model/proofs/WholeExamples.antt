@@ -2,7 +2,7 @@
 use Rattle.std.proofs.Common.{◌≡◌, ℕ, zero, suc, true, false, List, [], ◌∷◌, length, Option, Some, slice_index_or, refl, sym, ap, ◌∙◌, ◌<◌, arith}
 use Rattle.std.specs.List.{Contains}
 use Rattle.sha2.specs.Sha256.{sha256}
-use Rattle.grid_outside.specs.Files.{File, Files, file_at, begun, finished}
+use Rattle.grid_outside.specs.Files.{File, Files, file_at, unfinished, finished}
 use Rattle.grid_model.specs.Rows.{Cat, empty_cat}
 use Rattle.grid_model.specs.Whole.{leaf_slot, HasGoodRows, IsWhole, Naming, by_replica, by_orphan, Names}
 use Rattle.grid_model.specs.declared.deltas.ObjectRow.{ObjectRow}
@@ -61,10 +61,10 @@ of_some : (a b : File) → ◌≡◌ {A = Option File} (Some a) (Some b) → a �
 of_some a b e = cc
 
 -- it has the file and has not finished it
-a_file_that_is_not_finished : (files : Files) → file_at files 1 ≡ begun abc → ¬ IsWhole cat 0 files
+a_file_that_is_not_finished : (files : Files) → file_at files 1 ≡ unfinished abc → ¬ IsWhole cat 0 files
 a_file_that_is_not_finished files there whole =
     let its = whole.good.0 refl refl in
-    let both : begun abc ≡ finished its.bytes = sym there ∙ its.is in
+    let both : unfinished abc ≡ finished its.bytes = sym there ∙ its.is in
     let same : record { bytes = abc; finished = false } ≡ record { bytes = its.bytes; finished = true } = of_some (record { bytes = abc; finished = false }) (record { bytes = its.bytes; finished = true }) both in
     let wrong : false ≡ true = ap (λ (f : File). f.finished) same in
     absurd (cc)

@@ -1,11 +1,14 @@
 -- What a delta makes of the catalogue, or why it is refused: the cause is the number of the delta's kind, its tag. Which
 -- deltas there are and when they are refused is this project's own; that a resource is a leaf that stores or a node
 -- above others is of iRODS (iRODS documentation, composable resources).
-use Rattle.std.specs.Prelude.{◌≡◌, ℕ, zero, suc, Bool, true, false, not, ◌&&◌, ◌||◌, ◌==◌, nat_lt, nat_le, List, [], ◌∷◌, length, None, Some, Result, Ok, Err, is_some, is_none, filter}
+use Rattle.std.specs.Prelude.{◌≡◌, ℕ, zero, suc, Bool, true, false, not, ◌&&◌, ◌||◌, ◌==◌, nat_lt, nat_le, List, [], ◌∷◌, length, None}
+use Rattle.std.specs.Prelude.{Some, Result, Ok, Err, is_some, is_none, filter}
 use Rattle.std.specs.List.{list_any}
 use Rattle.std.specs.Ordering.{eq_by_cmp}
 use Rattle.grid_model.specs.Names.{Text, is_name, same_text}
-use Rattle.grid_model.specs.Rows.{Cat, empty_cat, user_cmp, member_cmp, collection_cmp, object_cmp, replica_cmp, triple_cmp, entry_cmp, resource_cmp, orphan_cmp, with_row, collection, resource, has_user, has_collection, has_object, item_there, is_member, same_item}
+use Rattle.grid_model.specs.Rows.{Cat, empty_cat, user_cmp, member_cmp, collection_cmp, object_cmp, replica_cmp, triple_cmp, entry_cmp}
+use Rattle.grid_model.specs.Rows.{resource_cmp, orphan_cmp, with_row, collection, resource, has_user, has_collection, has_object}
+use Rattle.grid_model.specs.Rows.{item_there, is_member, same_item}
 use Rattle.grid_model.specs.declared.deltas.Delta.{Delta}
 use Rattle.grid_model.specs.declared.deltas.Delta.TheVariants as delta
 use Rattle.grid_model.specs.declared.deltas.UserRow.{UserRow}
@@ -44,8 +47,8 @@ is_group_kind Rodsuser = false
 is_group_kind Rodsgroup = true
 
 -- there is a group with this id
-abbrev pub is_group : Cat → ℕ → Bool
-is_group c id = list_any (λ u. (u.id == id) && is_group_kind u.kind) c.users
+abbrev pub has_group : Cat → ℕ → Bool
+has_group c id = list_any (λ u. (u.id == id) && is_group_kind u.kind) c.users
 
 -- there is a user with this id, who is no group
 abbrev pub is_user : Cat → ℕ → Bool
@@ -53,7 +56,7 @@ is_user c id = list_any (λ u. (u.id == id) && not (is_group_kind u.kind)) c.use
 
 -- the one is a group, and the other a user, who may be in it
 abbrev pub can_join : Cat → MemberRow → Bool
-can_join c m = is_group c m.group && is_user c m.user
+can_join c m = has_group c m.group && is_user c m.user
 
 -- ---- collections and objects
 

@@ -100,12 +100,12 @@ abbrev pub is_rule_byte : ℕ → Bool
 is_rule_byte b = is_shown_byte b || b == 0x0A
 
 -- how many bytes it has, and the bytes
-abbrev pub text_of : (ℕ → Bool) → Text → Part
-text_of is_allowed t = record { fits = nat_lt (length t) (2 ^ 64) && list_all is_allowed t; bytes = eight_bytes (length t) ++ t }
+abbrev pub sized_text : (ℕ → Bool) → Text → Part
+sized_text is_allowed t = record { fits = nat_lt (length t) (2 ^ 64) && list_all is_allowed t; bytes = eight_bytes (length t) ++ t }
 
 -- a text of shown bytes
 abbrev pub text : Text → Part
-text = text_of is_shown_byte
+text = sized_text is_shown_byte
 
 -- the 32 bytes of a digest
 abbrev pub digest : Text → Part
@@ -113,7 +113,8 @@ digest d = record { fits = (length d == 32) && list_all is_byte d; bytes = d }
 
 -- how many members there are, and the parts of each
 abbrev pub each : {A : Type 0} → (A → List Part) → List A → Part
-each parts xs = record { fits = nat_lt (length xs) (2 ^ 64) && list_all (λ x. all_fit (parts x)) xs; bytes = eight_bytes (length xs) ++ flat_map (λ x. joined (parts x)) xs }
+each parts xs =
+  record { fits = nat_lt (length xs) (2 ^ 64) && list_all (λ x. all_fit (parts x)) xs; bytes = eight_bytes (length xs) ++ flat_map (λ x. joined (parts x)) xs }
 
 -- ---- kinds and levels, as their numbers
 
@@ -205,13 +206,13 @@ abbrev pub passed : Passed → List Part
 passed p = whole (call p.call) ∷ text p.failure ∷ []
 
 -- a flag, and the call where there is one
-abbrev pub running : Option Call → Part
-running None = code (flag false)
-running (Some c) = whole (code (flag true) ∷ call c)
+abbrev pub running_call : Option Call → Part
+running_call None = code (flag false)
+running_call (Some c) = whole (code (flag true) ∷ call c)
 
 -- all that is kept of the command
 abbrev pub pending : Pending → List Part
-pending p = u64 p.run ∷ u64 p.number ∷ u32 p.user ∷ text p.line ∷ each mark p.marks ∷ each passed p.passed ∷ running p.running ∷ each call p.undo ∷ []
+pending p = u64 p.run ∷ u64 p.number ∷ u32 p.user ∷ text p.line ∷ each mark p.marks ∷ each passed p.passed ∷ running_call p.running ∷ each call p.undo ∷ []
 
 -- ---- changes
 
@@ -232,7 +233,7 @@ parts_of (delta.NoTriple row) = code 12 ∷ triple_row row
 parts_of (delta.Entry row) = code 13 ∷ entry_row row
 parts_of (delta.NoEntry item id user) = code 14 ∷ entry_kind item ∷ u64 id ∷ u32 user ∷ []
 parts_of (delta.Resource row) = code 15 ∷ resource_row row
-parts_of (delta.Rules rules) = code 16 ∷ text_of is_rule_byte rules ∷ []
+parts_of (delta.Rules rules) = code 16 ∷ sized_text is_rule_byte rules ∷ []
 parts_of (delta.Orphan row) = code 17 ∷ orphan_row row
 parts_of (delta.NoOrphan vault) = code 18 ∷ u64 vault ∷ []
 parts_of (delta.Numbers row) = code 19 ∷ numbers row

@@ -68,12 +68,12 @@ pub record Triple : Type 0 where
   pub unit : Text
 
 -- thing by thing, and then word by word
-abbrev pub triple_cmp : Triple → Triple → Ordering
-triple_cmp a b = ordering_then (thing_cmp a.of b.of) (path_cmp (a.attribute ∷ a.value ∷ a.unit ∷ []) (b.attribute ∷ b.value ∷ b.unit ∷ []))
+abbrev pub thing_triple_cmp : Triple → Triple → Ordering
+thing_triple_cmp a b = ordering_then (thing_cmp a.of b.of) (path_cmp (a.attribute ∷ a.value ∷ a.unit ∷ []) (b.attribute ∷ b.value ∷ b.unit ∷ []))
 
 -- a group and who is in it
-abbrev pub member_cmp : Text × Text → Text × Text → Ordering
-member_cmp a b = ordering_then (text_cmp a.0 b.0) (text_cmp a.1 b.1)
+abbrev pub group_member_cmp : Text × Text → Text × Text → Ordering
+group_member_cmp a b = ordering_then (text_cmp a.0 b.0) (text_cmp a.1 b.1)
 
 -- the path of an object or a collection, and the name of a user or a group
 abbrev pub access_cmp : Path × Text → Path × Text → Ordering
@@ -85,11 +85,11 @@ pub record Grid : Type 0 where
   pub zone : Text
   pub stores : ℕ
   pub users : Map text_cmp UserKind
-  pub members : Set member_cmp
+  pub members : Set group_member_cmp
   -- whether what is made in it gets its access
   pub collections : Map path_cmp Bool
   pub objects : Map path_cmp Object
-  pub triples : Set triple_cmp
+  pub triples : Set thing_triple_cmp
   pub access : Map access_cmp Level
   pub resources : Map text_cmp Resource
 
@@ -111,14 +111,10 @@ home_of zone name = zone ∷ home ∷ name ∷ []
 abbrev pub everybody : Text
 everybody = 0x70 ∷ 0x75 ∷ 0x62 ∷ 0x6C ∷ 0x69 ∷ 0x63 ∷ []
 
--- the leaf that a new grid has on the first store, `d0` in ASCII, as long as there is no request that makes resources
-abbrev pub first_leaf : Text
-first_leaf = 0x64 ∷ 0x30 ∷ []
-
 -- what `init` leaves: the administrator and the group of all, and the collections down to the administrator's home,
--- which everybody reads but for the home itself
-abbrev pub start : Text → Text → ℕ → Grid
-start zone admin stores = record {
+-- which everybody reads but for the home itself; there is no resource yet
+abbrev pub start_grid : Text → Text → ℕ → Grid
+start_grid zone admin stores = record {
   zone = zone;
   stores = stores;
   users = from_list ((admin, Rodsadmin) ∷ (everybody, Rodsgroup) ∷ []);
@@ -127,5 +123,5 @@ start zone admin stores = record {
   objects = empty;
   triples = empty;
   access = from_list ((([], everybody), Read) ∷ ((zone ∷ [], everybody), Read) ∷ ((homes zone, everybody), Read) ∷ ((home_of zone admin, admin), Own) ∷ []);
-  resources = from_list ((first_leaf, record { kind = Storage; slot = 0; up = true; parent = None; place = 0 }) ∷ []);
+  resources = empty;
 }

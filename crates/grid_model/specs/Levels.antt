@@ -48,9 +48,9 @@ abbrev pub levels_given : Grid → Text → Path → List Level
 levels_given g user item = map (λ e. e.1) (filter (λ e. same_path e.0.0 item && speaks_for g user e.0.1) g.access.entries)
 
 -- the level of the user of this name at the item of this path: own for a rodsadmin, and else the greatest that is given
-abbrev pub level : Grid → Text → Path → Level
-level g user item = elim (is_admin (get g.users user)) [ true ↦ Own | false ↦ greatest (levels_given g user item) ]
+abbrev pub level_at : Grid → Text → Path → Level
+level_at g user item = elim (is_admin (get g.users user)) [ true ↦ Own | false ↦ greatest (levels_given g user item) ]
 
 -- whether the user's level at the item contains the wanted one
 abbrev pub may : Grid → Text → Path → Level → Bool
-may g user item wanted = contains_level (level g user item) wanted
+may g user item wanted = contains_level (level_at g user item) wanted

@@ -1,12 +1,12 @@
 -- The grid once what was at one path, with all that lies below it, is at another.
 use Rattle.std.specs.Prelude.{None, Some, ◌++◌}
 use Rattle.grid_model.specs.Maps.{rekey}
-use Rattle.grid_model.specs.Names.{Path, below}
+use Rattle.grid_model.specs.Names.{Path, path_below}
 use Rattle.grid_model.specs.Grid.{Grid, Thing, object_at, collection_at, resource_named, user_named}
 
 -- where a path is once what was at `from` is at `to`
 abbrev pub moved : Path → Path → Path → Path
-moved from to p = elim (below from p) [ Some rest ↦ to ++ rest | None ↦ p ]
+moved from to p = elim (path_below from p) [ Some rest ↦ to ++ rest | None ↦ p ]
 
 -- a thing that has a path, by what becomes of that
 abbrev pub moved_thing : (Path → Path) → Thing → Thing

@@ -1,6 +1,7 @@
 -- Names and logical paths (iRODS Primer, the logical name space), as values and as texts. Which bytes a name may have,
 -- and how many, is this project's own.
-use Rattle.std.specs.Prelude.{◌≡◌, ℕ, Bool, true, false, not, ◌&&◌, List, [], ◌∷◌, length, flat_map, Option, Some, None, option_map, nat_lt, nat_le, ◌==◌, IsTrue}
+use Rattle.std.specs.Prelude.{◌≡◌, ℕ, Bool, true, false, not, ◌&&◌, List, [], ◌∷◌, length, flat_map, Option, Some, None, option_map, nat_lt}
+use Rattle.std.specs.Prelude.{nat_le, ◌==◌, IsTrue}
 use Rattle.std.specs.List.{list_all}
 use Rattle.std.specs.Option.{option_map_or}
 use Rattle.std.specs.declared.cmp.Ordering.{Ordering}
@@ -66,11 +67,11 @@ parent (name ∷ []) = Some []
 parent (name ∷ next ∷ names) = option_map (λ p. name ∷ p) (parent (next ∷ names))
 
 -- the rest of the second path where the first is at or above it
-abbrev pub below : Path → Path → Option Path
-below [] p = Some p
-below (a ∷ above) [] = None
-below (a ∷ above) (b ∷ rest) = elim (same_text a b) [ true ↦ below above rest | false ↦ None ]
+abbrev pub path_below : Path → Path → Option Path
+path_below [] p = Some p
+path_below (a ∷ above) [] = None
+path_below (a ∷ above) (b ∷ rest) = elim (same_text a b) [ true ↦ path_below above rest | false ↦ None ]
 
 -- the second path is strictly below the first
 abbrev pub is_under : Path → Path → Bool
-is_under a p = option_map_or (λ rest. nat_lt 0 (length rest)) (below a p) false
+is_under a p = option_map_or (λ rest. nat_lt 0 (length rest)) (path_below a p) false

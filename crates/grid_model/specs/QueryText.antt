@@ -4,7 +4,8 @@ use Rattle.std.specs.Prelude.{◌≡◌, ℕ, zero, suc, ◌^◌, ◌<◌, List,
 use Rattle.grid_model.specs.Names.{Text}
 use Rattle.grid_model.specs.Places.{IsRefusedAt}
 use Rattle.grid_model.specs.Queries.{is_number, is_comparison}
-use Rattle.grid_model.specs.QueryTokens.{Token, Placed, Sign, equal, not_equal, less, greater, at_most, at_least, keyword, column, literal, comma, sign, select_word, where_word, and_word, like_word, not_word, SpellsTokens}
+use Rattle.grid_model.specs.QueryTokens.{Token, Placed, Sign, equal, not_equal, less, greater, at_most, at_least, keyword, column, literal}
+use Rattle.grid_model.specs.QueryTokens.{comma, sign, select_word, where_word, and_word, like_word, not_word, SpellsTokens}
 use Rattle.grid_model.specs.declared.queries.Column.{Column}
 use Rattle.grid_model.specs.declared.queries.Cond.{Cond}
 use Rattle.grid_model.specs.declared.queries.Op.{Op}
@@ -43,17 +44,21 @@ Fits c o inner = IsTrue (is_number c) → IsTrue (is_comparison o) → IsDecimal
 
 -- a column, an operator and a literal
 pub data SpellsCond : List Token → Cond → Type 0 where
-  a_cond : {ts os : List Token} {c : Column} {o : Op} {inner : Text} → ts ≡ column c ∷ os ++ literal inner ∷ [] → SpellsOp os o → Fits c o inner → SpellsCond ts (record { column = c; op = o; literal = inner })
+  a_cond : {ts os : List Token} {c : Column} {o : Op} {inner : Text} → ts ≡ column c ∷ os ++ literal inner ∷ [] → SpellsOp os o → Fits c o inner
+    → SpellsCond ts (record { column = c; op = o; literal = inner })
 
 -- conditions with AND between them
 pub data SpellsConds : List Token → List Cond → Type 0 where
   last_cond : {ts : List Token} {d : Cond} → SpellsCond ts d → SpellsConds ts (d ∷ [])
-  next_cond : {all ts us : List Token} {d : Cond} {ds : List Cond} → all ≡ ts ++ keyword and_word ∷ us → SpellsCond ts d → SpellsConds us ds → SpellsConds all (d ∷ ds)
+  next_cond : {all ts us : List Token} {d : Cond} {ds : List Cond} → all ≡ ts ++ keyword and_word ∷ us → SpellsCond ts d → SpellsConds us ds
+    → SpellsConds all (d ∷ ds)
 
 -- SELECT and columns, with WHERE and conditions behind them or without
 pub data SpellsQuery : List Token → Query → Type 0 where
-  without_conds : {all ts : List Token} {cs : List Column} → all ≡ keyword select_word ∷ ts → SpellsColumns ts cs → SpellsQuery all (record { columns = cs; conds = [] })
-  with_conds : {all ts us : List Token} {cs : List Column} {ds : List Cond} → all ≡ keyword select_word ∷ ts ++ keyword where_word ∷ us → SpellsColumns ts cs → SpellsConds us ds
+  without_conds : {all ts : List Token} {cs : List Column} → all ≡ keyword select_word ∷ ts → SpellsColumns ts cs
+    → SpellsQuery all (record { columns = cs; conds = [] })
+  with_conds : {all ts us : List Token} {cs : List Column} {ds : List Cond} → all ≡ keyword select_word ∷ ts ++ keyword where_word ∷ us → SpellsColumns ts cs
+    → SpellsConds us ds
       → SpellsQuery all (record { columns = cs; conds = ds })
 
 -- the tokens without their places
@@ -61,16 +66,16 @@ abbrev pub kinds : List Placed → List Token
 kinds ts = map (λ (t : Placed). t.token) ts
 
 -- the place of this one of the tokens, counted from 0 on, or the end
-abbrev pub place_of : List Placed → ℕ → ℕ → ℕ
-place_of [] end count = end
-place_of (t ∷ ts) end zero = t.at
-place_of (t ∷ ts) end (suc count) = place_of ts end count
+abbrev pub token_place : List Placed → ℕ → ℕ → ℕ
+token_place [] end count = end
+token_place (t ∷ ts) end zero = t.at
+token_place (t ∷ ts) end (suc count) = token_place ts end count
 
 -- The tokens are no query, and this is the place of the first with which those so far begin none.
 pub record StopsAt (ts : List Placed) (end place : ℕ) : Type 0 where
   pub count : ℕ
   pub refused : IsRefusedAt SpellsQuery (kinds ts) count
-  pub place_is : place ≡ place_of ts end count
+  pub place_is : place ≡ token_place ts end count
 
 -- The text spells the query.
 pub record IsQueryText (text : Text) (q : Query) : Type 0 where

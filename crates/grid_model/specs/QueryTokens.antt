@@ -4,7 +4,9 @@ use Rattle.std.specs.List.{list_all}
 use Rattle.std.specs.Str.{str_eq_ignore_ascii_case}
 use Rattle.grid_model.specs.Names.{Text}
 use Rattle.grid_model.specs.declared.queries.Column.{Column}
-use Rattle.grid_model.specs.declared.queries.Column.TheVariants.{CollName, DataName, MetaDataAttrName, MetaDataAttrValue, MetaDataAttrUnits, DataModifyTime, DataSize, DataReplNum, DataReplStatus, DataRescHier, DataChecksum}
+use Rattle.grid_model.specs.declared.queries.Column.TheVariants.{CollName, DataName, MetaDataAttrName, MetaDataAttrValue, MetaDataAttrUnits}
+use Rattle.grid_model.specs.declared.queries.Column.TheVariants.{DataModifyTime, DataSize, DataReplNum, DataReplStatus, DataRescHier}
+use Rattle.grid_model.specs.declared.queries.Column.TheVariants.{DataChecksum}
 
 -- the words of the language
 pub data Keyword : Type 0 where
@@ -77,8 +79,8 @@ makes_longer greater b = b == 0x3D
 makes_longer _ b = false
 
 -- an ASCII letter, a digit or `_`
-abbrev pub is_word_byte : ℕ → Bool
-is_word_byte b = (nat_le 0x41 b && nat_le b 0x5A) || (nat_le 0x61 b && nat_le b 0x7A) || (nat_le 0x30 b && nat_le b 0x39) || b == 0x5F
+abbrev pub is_identifier_byte : ℕ → Bool
+is_identifier_byte b = (nat_le 0x41 b && nat_le b 0x5A) || (nat_le 0x61 b && nat_le b 0x7A) || (nat_le 0x30 b && nat_le b 0x39) || b == 0x5F
 
 -- the text begins with a byte that passes the test
 abbrev pub goes_on : (ℕ → Bool) → Text → Bool
@@ -90,10 +92,10 @@ abbrev pub quote_follows : Text → Bool
 quote_follows text = goes_on (λ b. b == 0x27) text
 
 -- which word is which token
-pub data SpellsWord (word : Text) : Token → Type 0 where
-  a_keyword : (k : Keyword) → IsTrue (str_eq_ignore_ascii_case word (keyword_text k)) → SpellsWord word (keyword k)
-  a_column : (c : Column) → word ≡ column_text c → SpellsWord word (column c)
-  another : ((k : Keyword) → ¬ IsTrue (str_eq_ignore_ascii_case word (keyword_text k))) → ((c : Column) → word ≢ column_text c) → SpellsWord word wrong
+pub data SpellsQueryWord (word : Text) : Token → Type 0 where
+  a_keyword : (k : Keyword) → IsTrue (str_eq_ignore_ascii_case word (keyword_text k)) → SpellsQueryWord word (keyword k)
+  a_column : (c : Column) → word ≡ column_text c → SpellsQueryWord word (column c)
+  another : ((k : Keyword) → ¬ IsTrue (str_eq_ignore_ascii_case word (keyword_text k))) → ((c : Column) → word ≢ column_text c) → SpellsQueryWord word wrong
 
 -- The text behind an opening apostrophe is this literal up to the apostrophe that closes it, and that rest. Two
 -- apostrophes in a literal stand for one, so the one that closes it has none behind it.
@@ -105,7 +107,8 @@ pub data Closes : Text → Text → Text → Type 0 where
 -- The text is this token and that rest. A word has as many letters, digits and `_` as there are, and of two signs the
 -- longer is taken.
 pub data Front (text : Text) : Token → Text → Type 0 where
-  a_word : {t : Token} {rest : Text} (word : Text) → text ≡ word ++ rest → 0 < length word → IsTrue (list_all is_word_byte word) → goes_on is_word_byte rest ≡ false → SpellsWord word t → Front text t rest
+  a_word : {t : Token} {rest : Text} (word : Text) → text ≡ word ++ rest → 0 < length word → IsTrue (list_all is_identifier_byte word)
+    → goes_on is_identifier_byte rest ≡ false → SpellsQueryWord word t → Front text t rest
   a_literal : {inner rest : Text} (behind : Text) → text ≡ 0x27 ∷ behind → Closes behind inner rest → Front text (literal inner) rest
   a_comma : {rest : Text} → text ≡ 0x2C ∷ rest → Front text comma rest
   a_sign : {rest : Text} (s : Sign) → text ≡ sign_text s ++ rest → goes_on (makes_longer s) rest ≡ false → Front text (sign s) rest
@@ -114,5 +117,7 @@ pub data Front (text : Text) : Token → Text → Type 0 where
 pub data SpellsTokens (end : ℕ) : Text → List Placed → Type 0 where
   nothing : SpellsTokens end [] []
   space : {text rest : Text} {ts : List Placed} → text ≡ 0x20 ∷ rest → SpellsTokens end rest ts → SpellsTokens end text ts
-  token : {text rest : Text} {ts : List Placed} (t : Token) → Front text t rest → SpellsTokens end rest ts → SpellsTokens end text (record { at = end - length text; token = t } ∷ ts)
-  no_token : {text rest : Text} (b : ℕ) → text ≡ b ∷ rest → b ≢ 0x20 → ((t : Token) (left : Text) → ¬ Front text t left) → SpellsTokens end text (record { at = end - length text; token = wrong } ∷ [])
+  token : {text rest : Text} {ts : List Placed} (t : Token) → Front text t rest → SpellsTokens end rest ts
+    → SpellsTokens end text (record { at = end - length text; token = t } ∷ ts)
+  no_token : {text rest : Text} (b : ℕ) → text ≡ b ∷ rest → b ≢ 0x20 → ((t : Token) (left : Text) → ¬ Front text t left)
+    → SpellsTokens end text (record { at = end - length text; token = wrong } ∷ [])

@@ -52,35 +52,35 @@ object_of c r = record {
 -- ---- paths, where the paths of collections are given
 
 -- the path of each collection, by its id
-abbrev pub Places : Type 0
-Places = ℕ → Option Path
+abbrev pub CollectionPaths : Type 0
+CollectionPaths = ℕ → Option Path
 
 -- the path of the collection with this id; `/` where there is none
-abbrev pub collection_place : Places → ℕ → Path
+abbrev pub collection_place : CollectionPaths → ℕ → Path
 collection_place paths id = unwrap_or (paths id) []
 
 -- the path of an object: its name in its collection
-abbrev pub object_place : Places → ObjectRow → Path
+abbrev pub object_place : CollectionPaths → ObjectRow → Path
 object_place paths r = collection_place paths r.collection ++ r.name ∷ []
 
 -- the path of the object or the collection with this id
-abbrev pub item_place : Cat → Places → ItemKind → ℕ → Path
+abbrev pub item_place : Cat → CollectionPaths → ItemKind → ℕ → Path
 item_place c paths kind.Object id = unwrap_or (option_map (object_place paths) (object c id)) []
 item_place c paths k id = collection_place paths id
 
 -- what metadata is of, by paths and names for ids
-abbrev pub thing_of : Cat → Places → ItemKind → ℕ → Thing
+abbrev pub thing_of : Cat → CollectionPaths → ItemKind → ℕ → Thing
 thing_of c paths kind.Object id = object_at (item_place c paths kind.Object id)
 thing_of c paths kind.Collection id = collection_at (collection_place paths id)
 thing_of c paths kind.Resource id = resource_named (resource_name c id)
 thing_of c paths kind.User id = user_named (user_name c id)
 
 -- metadata, by paths and names for ids
-abbrev pub triple_of : Cat → Places → TripleRow → Triple
+abbrev pub triple_of : Cat → CollectionPaths → TripleRow → Triple
 triple_of c paths t = record { of = thing_of c paths t.kind t.id; attribute = t.attribute; value = t.value; unit = t.unit }
 
 -- the grid of these rows, whose collections are at these paths
-abbrev pub grid_at : Cat → Places → Grid
+abbrev pub grid_at : Cat → CollectionPaths → Grid
 grid_at c paths = record {
   zone = unwrap_or c.zone [];
   stores = c.stores;

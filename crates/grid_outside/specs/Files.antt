@@ -23,8 +23,8 @@ abbrev pub StoreState : Type 1
 StoreState = DeviceState Files
 
 -- a file that was created, has these bytes so far, and is not finished
-abbrev pub begun : List ℕ → Option File
-begun bytes = Some (record { bytes = bytes; finished = false })
+abbrev pub unfinished : List ℕ → Option File
+unfinished bytes = Some (record { bytes = bytes; finished = false })
 
 -- a finished file with these bytes
 abbrev pub finished : List ℕ → Option File
@@ -32,9 +32,9 @@ finished bytes = Some (record { bytes = bytes; finished = true })
 
 -- Where there is a file it has fewer than 2^61 bytes, and so fewer than 2^64 bits: it has a SHA-256 (FIPS 180-4,
 -- section 1).
-abbrev pub IsShort : Option File → Type 0
-IsShort None = Unit {0}
-IsShort (Some file) = length file.bytes < 2 ^ 61
+abbrev pub IsHashable : Option File → Type 0
+IsHashable None = Unit {0}
+IsHashable (Some file) = length file.bytes < 2 ^ 61
 
 -- all files but that of this name are the same
 abbrev pub SameBut : ℕ → Files → Files → Type 0
@@ -45,7 +45,7 @@ SameBut name old new = (other : ℕ) → other ≢ name → file_at new other �
 pub record Writes (name : ℕ) (old new : Files) : Type 0 where
   pub others : SameBut name old new
   pub stable : (bytes : List ℕ) → file_at old name ≡ finished bytes → file_at new name ≡ finished bytes
-  pub short : IsShort (file_at old name) → IsShort (file_at new name)
+  pub short : IsHashable (file_at old name) → IsHashable (file_at new name)
 
 -- a removal of the file of this name, done or not: the file is as it was, or is gone
 pub record Removes (name : ℕ) (old new : Files) : Type 0 where
@@ -65,19 +65,19 @@ pub record IsGone (name : ℕ) (s : StoreState) : Type 0 where
 -- a create that was done: there was no such file, and there is an empty one, which is not finished
 pub record Created (name : ℕ) (old new : Files) : Type 0 where
   pub absent : file_at old name ≡ None
-  pub empty : file_at new name ≡ begun []
+  pub empty : file_at new name ≡ unfinished []
 
 -- an append that was done: the file was begun, and has these bytes more at its end
 pub record Appended (name : ℕ) (bytes : List ℕ) (old new : Files) : Type 0 where
   pub front : List ℕ
-  pub was : file_at old name ≡ begun front
+  pub was : file_at old name ≡ unfinished front
   pub fits : length front + length bytes < 2 ^ 61
-  pub is : file_at new name ≡ begun (front ++ bytes)
+  pub is : file_at new name ≡ unfinished (front ++ bytes)
 
 -- a finish that was done: the file was begun, and is finished for good
 pub record Finished (name : ℕ) (old new : StoreState) : Type 0 where
   pub bytes : List ℕ
-  pub was : file_at old.holds name ≡ begun bytes
+  pub was : file_at old.holds name ≡ unfinished bytes
   pub stable : IsStable name bytes new
 
 -- A read gave a part of the file, and nothing only at its end or for an empty buffer.

@@ -10,6 +10,6 @@ pub record SourceState : Type 0 where
   pub left : List ℕ
 
 -- A read took a first part of what was left, and nothing only at the end or for an empty buffer.
-pub record Takes (old : List ℕ) (count : ℕ) (buf new : List ℕ) : Type 0 where
+pub record TakesFront (old : List ℕ) (count : ℕ) (buf new : List ℕ) : Type 0 where
   pub split : old ≡ take count buf ++ new
   pub at_end : count ≡ 0 → (old ≡ []) ⊎ (length buf ≡ 0)

@@ -2,7 +2,7 @@
 -- project's own. Files of other names stay. That the steps `Writes` and `Removes`, taken one after another, leave
 -- exactly this is proved over a record of calls in the crate with the devices in memory.
 use Rattle.std.specs.Prelude.{◌≡◌, ◌⊎◌, true, false, Option, Some, None}
-use Rattle.grid_outside.specs.Files.{File, IsShort}
+use Rattle.grid_outside.specs.Files.{File, IsHashable}
 
 -- what is known of one file, should the server stop
 pub data Known : Type 0 where
@@ -17,7 +17,7 @@ pub data Known : Type 0 where
 abbrev pub MayBe : Known → Option File → Type 0
 MayBe (exactly known) file = file ≡ known
 MayBe (there_or_not known) file = (file ≡ Some known) ⊎ (file ≡ None)
-MayBe anything file = IsShort file
+MayBe anything file = IsHashable file
 
 -- A create, an append or a finish of the file was asked. A finished file is stable.
 abbrev pub after_writing : Known → Known

@@ -1,6 +1,6 @@
 ghost use Rattle.std.specs.Prelude.{◌≡◌, ℕ, ◌≤◌, length, IsTrue, IfOk, OnErr};
 ghost use Rattle.grid_outside.specs.Fault.{HasCause};
-ghost use Rattle.grid_outside.specs.Source.{SourceState, Takes};
+ghost use Rattle.grid_outside.specs.Source.{SourceState, TakesFront};
 
 /// A source gave nothing. Its count of faults rose.
 #[derive(Clone, Copy, Debug, PartialEq, Eq)]
@@ -16,7 +16,7 @@ pub trait Source {
         ensures count { IfOk result (λ n. n ≤ length buf.new) }
         ensures tells { (source self.new).tells ≡ (source self.old).tells }
         ensures takes { IfOk result (λ n. IsTrue (source self.old).tells →
-            Takes (source self.old).left n buf.new (source self.new).left) }
+            TakesFront (source self.old).left n buf.new (source self.new).left) }
         ensures failed { OnErr result (IsTrue (source self.old).tells → (source self.new).left ≡ (source self.old).left) }
         ensures cause { HasCause (source self.old).faults (source self.new).faults result };
 }

@@ -19,7 +19,7 @@ use Rattle.grid_model.proofs.FoundRows.{none_is_found, none_passes, none_any}
 use Rattle.tables_laws.proofs.Rows.{IsIn, in_from_any, any_from_in, in_from_all, all_from_in, in_from_find, find_from_in, in_from_filter, filter_from_in, in_from_with_row, new_in_with_row, old_in_with_row, in_once, apart_in_with_row}
 use Rattle.grid_tables.specs.Indexes.{IsIndex, place_cmp, place_of, is_placed, found_order, side_at, IsPlacedOnce}
 use Rattle.grid_tables.specs.Places.{IsPlace, Falls, passes}
-use Rattle.grid_tables.specs.Probes.{same_number, both, tied}
+use Rattle.grid_tables.specs.Probes.{same_number, is_eq_then, tied}
 use Rattle.grid_tables.specs.Items.{falls_by}
 use Rattle.grid_tables.proofs.Runs.{falls_sorted}
 use Rattle.grid_tables.proofs.Searching.{place-searched, at-Ok, at-Err}
@@ -129,7 +129,7 @@ module _ {X : Type 0} (number : X → ℕ) (row_cmp : X → X → Ordering) (tot
   pub placed_decides : (above : ℕ) (called : Text) (r : X) → is_placed parent name above called r ≡ is_eq (place_of parent name above called r)
   placed_decides above called r =
       ap (λ b. b && same_text (name r) called) (same_number above (parent r)) ∙ ap (λ b. is_eq (nat_cmp above (parent r)) && b) (tied text_cmp_total called (name r))
-      ∙ sym (both (nat_cmp above (parent r)) (text_cmp called (name r)))
+      ∙ sym (is_eq_then (nat_cmp above (parent r)) (text_cmp called (name r)))
 
   pub placed_itself : (r : X) → is_placed parent name (parent r) (name r) r ≡ true
   placed_itself r = placed_decides (parent r) (name r) r ∙ ap is_eq (tied_itself places_total r)

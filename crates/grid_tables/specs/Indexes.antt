@@ -43,5 +43,5 @@ pub record IsIndex {X : Type 0} (number : X → ℕ) (cmp : X → X → Ordering
   pub none_else : (x : X) → IsIn named x → IsIn rows x
 
 -- in the order of parent and name
-abbrev pub IsNamed : {X : Type 0} → (X → ℕ) → (X → ℕ) → (X → Text) → List X → List ℕ → Type 0
-IsNamed number parent name rows ids = IsIndex number (place_cmp parent name) rows ids
+abbrev pub IsNameIndex : {X : Type 0} → (X → ℕ) → (X → ℕ) → (X → Text) → List X → List ℕ → Type 0
+IsNameIndex number parent name rows ids = IsIndex number (place_cmp parent name) rows ids

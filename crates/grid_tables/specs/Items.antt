@@ -23,7 +23,8 @@ pub belongs_to : (kind : ItemKind) (id : ℕ) (k : ItemKind) (i : ℕ) → same_
 belongs_to kind id k i = same_pair (item_number kind) id (item_number k) i
 
 -- where one key stands before another, it is not behind that one's item
-pub falls_by : {K : Type 0} {R : K → K → Ordering} → IsTotalOrder R → (q a b : K) (rest : Ordering) → ordering_then (R a b) rest ≡ Less → ordering_index (R q b) ≤ ordering_index (R q a)
+pub falls_by : {K : Type 0} {R : K → K → Ordering} → IsTotalOrder R → (q a b : K) (rest : Ordering) → ordering_then (R a b) rest ≡ Less
+    → ordering_index (R q b) ≤ ordering_index (R q a)
 falls_by {R = R} o q a b rest less = by_order (R a b) refl less
   where
     top : (x : Ordering) → ordering_index x ≤ 2

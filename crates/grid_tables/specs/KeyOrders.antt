@@ -104,19 +104,22 @@ group_falls q a b less = falls_by nat_cmp_total q a.user b.user (nat_cmp a.group
 -- ---- access of users
 
 -- by the user, and then by the item
-abbrev pub access_cmp : AccessOfUser → AccessOfUser → Ordering
-access_cmp a b = ordering_then (nat_cmp a.user b.user) (ordering_then (nat_cmp (item_number a.kind) (item_number b.kind)) (nat_cmp a.id b.id))
+abbrev pub access_of_user_cmp : AccessOfUser → AccessOfUser → Ordering
+access_of_user_cmp a b = ordering_then (nat_cmp a.user b.user) (ordering_then (nat_cmp (item_number a.kind) (item_number b.kind)) (nat_cmp a.id b.id))
 
-pub access_total : IsTotalOrder access_cmp
+pub access_total : IsTotalOrder access_of_user_cmp
 access_total =
     then_total (on_total (λ (k : AccessOfUser). k.user) nat_cmp_total)
     (then_total (on_total (λ (k : AccessOfUser). item_number k.kind) nat_cmp_total) (on_total (λ (k : AccessOfUser). k.id) nat_cmp_total))
 
-pub access_whole : (a b : AccessOfUser) → access_cmp a b ≡ Equal → a ≡ b
+pub access_whole : (a b : AccessOfUser) → access_of_user_cmp a b ≡ Equal → a ≡ b
 access_whole a b e =
     let rest = rest_tie (nat_cmp a.user b.user) (ordering_then (nat_cmp (item_number a.kind) (item_number b.kind)) (nat_cmp a.id b.id)) e in
-    let user = number_whole a.user b.user (first_tie (nat_cmp a.user b.user) (ordering_then (nat_cmp (item_number a.kind) (item_number b.kind)) (nat_cmp a.id b.id)) e) in
-    let number = number_whole (item_number a.kind) (item_number b.kind) (first_tie (nat_cmp (item_number a.kind) (item_number b.kind)) (nat_cmp a.id b.id) rest) in
+    let user =
+    number_whole a.user b.user
+    (first_tie (nat_cmp a.user b.user) (ordering_then (nat_cmp (item_number a.kind) (item_number b.kind)) (nat_cmp a.id b.id)) e) in
+    let number =
+    number_whole (item_number a.kind) (item_number b.kind) (first_tie (nat_cmp (item_number a.kind) (item_number b.kind)) (nat_cmp a.id b.id) rest) in
     let id = number_whole a.id b.id (rest_tie (nat_cmp (item_number a.kind) (item_number b.kind)) (nat_cmp a.id b.id) rest) in
     λ i. record { user = user i; kind = kind_whole a.kind b.kind number i; id = id i }
 
@@ -131,7 +134,7 @@ access_own a b e =
     ap (λ n. ordering_then n (ordering_then (nat_cmp a.id b.id) (nat_cmp a.user b.user))) (number_own (item_number a.kind) (item_number b.kind) kind)
     ∙ ap (λ n. ordering_then n (nat_cmp a.user b.user)) (number_own a.id b.id id) ∙ number_own a.user b.user user
 
-pub access_falls : (q : ℕ) (a b : AccessOfUser) → access_cmp a b ≡ Less → ordering_index (nat_cmp q b.user) ≤ ordering_index (nat_cmp q a.user)
+pub access_falls : (q : ℕ) (a b : AccessOfUser) → access_of_user_cmp a b ≡ Less → ordering_index (nat_cmp q b.user) ≤ ordering_index (nat_cmp q a.user)
 access_falls q a b less = falls_by nat_cmp_total q a.user b.user (ordering_then (nat_cmp (item_number a.kind) (item_number b.kind)) (nat_cmp a.id b.id)) less
 
 -- ---- replicas on leaves
@@ -179,8 +182,11 @@ attribute_total =
 pub attribute_whole : (a b : ItemWithAttribute) → attribute_cmp a b ≡ Equal → a ≡ b
 attribute_whole a b e =
     let rest = rest_tie (text_cmp a.attribute b.attribute) (ordering_then (nat_cmp (item_number a.kind) (item_number b.kind)) (nat_cmp a.id b.id)) e in
-    let attribute = text_cmp-IsAntisymmetric a.attribute b.attribute (first_tie (text_cmp a.attribute b.attribute) (ordering_then (nat_cmp (item_number a.kind) (item_number b.kind)) (nat_cmp a.id b.id)) e) in
-    let number = number_whole (item_number a.kind) (item_number b.kind) (first_tie (nat_cmp (item_number a.kind) (item_number b.kind)) (nat_cmp a.id b.id) rest) in
+    let attribute =
+    text_cmp-IsAntisymmetric a.attribute b.attribute
+    (first_tie (text_cmp a.attribute b.attribute) (ordering_then (nat_cmp (item_number a.kind) (item_number b.kind)) (nat_cmp a.id b.id)) e) in
+    let number =
+    number_whole (item_number a.kind) (item_number b.kind) (first_tie (nat_cmp (item_number a.kind) (item_number b.kind)) (nat_cmp a.id b.id) rest) in
     let id = number_whole a.id b.id (rest_tie (nat_cmp (item_number a.kind) (item_number b.kind)) (nat_cmp a.id b.id) rest) in
     λ i. record { attribute = attribute i; kind = kind_whole a.kind b.kind number i; id = id i }
 
@@ -197,5 +203,7 @@ attribute_steady a b e =
     let attribute = text_cmp-IsAntisymmetric a.attribute b.attribute (first_tie (text_cmp a.attribute b.attribute) _ at_attribute) in
     λ i. record { attribute = attribute i; kind = kind_whole a.kind b.kind number i; id = id i }
 
-pub attribute_falls : (q : Text) (a b : ItemWithAttribute) → attribute_cmp a b ≡ Less → ordering_index (text_cmp q b.attribute) ≤ ordering_index (text_cmp q a.attribute)
-attribute_falls q a b less = falls_by text_cmp_total q a.attribute b.attribute (ordering_then (nat_cmp (item_number a.kind) (item_number b.kind)) (nat_cmp a.id b.id)) less
+pub attribute_falls : (q : Text) (a b : ItemWithAttribute) → attribute_cmp a b ≡ Less
+    → ordering_index (text_cmp q b.attribute) ≤ ordering_index (text_cmp q a.attribute)
+attribute_falls q a b less =
+    falls_by text_cmp_total q a.attribute b.attribute (ordering_then (nat_cmp (item_number a.kind) (item_number b.kind)) (nat_cmp a.id b.id)) less

@@ -27,5 +27,5 @@ abbrev pub StartsAt : {X : Type 0} → (X → Ordering) → List X → ℕ → T
 StartsAt key rows count = IsPartitionPoint (λ r. is_gt (key r) ≡ true) (λ r. is_gt (key r) ≡ false) rows count
 
 -- so many rows from the front on are at it
-abbrev pub StopsAt : {X : Type 0} → (X → Ordering) → List X → ℕ → Type 0
-StopsAt key rows count = IsPartitionPoint (λ r. is_eq (key r) ≡ true) (λ r. is_eq (key r) ≡ false) rows count
+abbrev pub RowsAtFront : {X : Type 0} → (X → Ordering) → List X → ℕ → Type 0
+RowsAtFront key rows count = IsPartitionPoint (λ r. is_eq (key r) ≡ true) (λ r. is_eq (key r) ≡ false) rows count

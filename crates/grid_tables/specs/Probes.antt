@@ -20,17 +20,24 @@ tied {R = R} o q r = ap is_eq (o.antisymm r q) ∙ turned (R q r)
 pub same_number : (q n : ℕ) → (n == q) ≡ is_eq (nat_cmp q n)
 same_number q n = grind (arith, nat_tests)
 
-pub both : (a b : Ordering) → is_eq (ordering_then a b) ≡ (is_eq a && is_eq b)
-both Less b = refl
-both Equal b = refl
-both Greater b = refl
+pub is_eq_then : (a b : Ordering) → is_eq (ordering_then a b) ≡ (is_eq a && is_eq b)
+is_eq_then Less b = refl
+is_eq_then Equal b = refl
+is_eq_then Greater b = refl
 
 pub same_pair : (q k n m : ℕ) → ((n == q) && (m == k)) ≡ is_eq (ordering_then (nat_cmp q n) (nat_cmp k m))
-same_pair q k n m = rw (same_number q n, same_number k m, both (nat_cmp q n) (nat_cmp k m)) refl
+same_pair q k n m = rw (same_number q n, same_number k m, is_eq_then (nat_cmp q n) (nat_cmp k m)) refl
 
 pub same_entry : (q i k n j m : ℕ) → (((n == q) && (j == i)) && (m == k)) ≡ is_eq (ordering_then (nat_cmp q n) (ordering_then (nat_cmp i j) (nat_cmp k m)))
 same_entry q i k n j m =
-    rw (same_number q n, same_number i j, same_number k m, both (nat_cmp q n) (ordering_then (nat_cmp i j) (nat_cmp k m)), both (nat_cmp i j) (nat_cmp k m))
+    rw (
+      same_number q n,
+      same_number i j,
+      same_number k m,
+      is_eq_then (nat_cmp q n) (ordering_then (nat_cmp i j) (nat_cmp k m)),
+      is_eq_then (nat_cmp i j)
+          (nat_cmp k m),
+    )
     (grouped (is_eq (nat_cmp q n)) (is_eq (nat_cmp i j)) (is_eq (nat_cmp k m)))
   where
     grouped : (a b c : Bool) → ((a && b) && c) ≡ (a && (b && c))
@@ -46,8 +53,10 @@ below_pair q k a m b n le less =
     le_lt_trans (then_total (on_total (λ (p : ℕ × ℕ). p.0) nat_cmp_total) (on_total (λ (p : ℕ × ℕ). p.1) nat_cmp_total)) (q, k) (a, m) (b, n) le less
 
 pub below_entry : (q i k a j m b l n : ℕ) → IsTrue (is_le (ordering_then (nat_cmp q a) (ordering_then (nat_cmp i j) (nat_cmp k m))))
-    → ordering_then (nat_cmp a b) (ordering_then (nat_cmp j l) (nat_cmp m n)) ≡ Less → ordering_then (nat_cmp q b) (ordering_then (nat_cmp i l) (nat_cmp k n)) ≡ Less
+    → ordering_then (nat_cmp a b) (ordering_then (nat_cmp j l) (nat_cmp m n)) ≡ Less
+    → ordering_then (nat_cmp q b) (ordering_then (nat_cmp i l) (nat_cmp k n)) ≡ Less
 below_entry q i k a j m b l n le less =
     le_lt_trans
-    (then_total (on_total (λ (p : ℕ × ℕ × ℕ). p.0) nat_cmp_total) (then_total (on_total (λ (p : ℕ × ℕ × ℕ). p.1) nat_cmp_total) (on_total (λ (p : ℕ × ℕ × ℕ). p.2) nat_cmp_total)))
+    (then_total (on_total (λ (p : ℕ × ℕ × ℕ). p.0) nat_cmp_total)
+    (then_total (on_total (λ (p : ℕ × ℕ × ℕ). p.1) nat_cmp_total) (on_total (λ (p : ℕ × ℕ × ℕ). p.2) nat_cmp_total)))
     (q, i, k) (a, j, m) (b, l, n) le less

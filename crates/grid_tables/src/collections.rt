@@ -1,7 +1,8 @@
 ghost use Rattle.std.specs.Prelude.{◌≡◌, ◌==◌, ◌&&◌, not, filter, Ok, Err, IsOk, OnOk, OnErr, IfErr, IfSome, IsTrue};
 ghost use Rattle.std.specs.List.{list_any};
 ghost use Rattle.std.specs.Option.{option_copied};
-ghost use Rattle.grid_model.specs.Applying.{apply, lies_in, is_child, is_child_named, is_object_named, free_for_collection, collection_fits, is_empty_collection, may_drop_collection};
+ghost use Rattle.grid_model.specs.Applying.{apply, lies_in, is_child, is_child_named, is_object_named, free_for_collection};
+ghost use Rattle.grid_model.specs.Applying.{collection_fits, is_empty_collection, may_drop_collection};
 ghost use Rattle.grid_model.specs.Rows.{has_collection, collection, is_named_collection};
 ghost use Rattle.grid_tables.specs.declared.error.TableError.TheVariants.{BadDelta, Memory};
 

@@ -8,7 +8,7 @@ ghost use Rattle.grid_model.specs.Rows.{item_number};
 ghost use Rattle.std.proofs.Common.{ap};
 ghost use Rattle.grid_tables.specs.KeyOrders.{name_cmp, name_total, name_whole, name_falls, number_own};
 ghost use Rattle.grid_tables.specs.KeyOrders.{group_cmp, group_total, group_whole, group_of, group_own, group_falls};
-ghost use Rattle.grid_tables.specs.KeyOrders.{access_cmp, access_total, access_whole, access_of_row, access_own, access_falls};
+ghost use Rattle.grid_tables.specs.KeyOrders.{access_of_user_cmp, access_total, access_whole, access_of_row, access_own, access_falls};
 ghost use Rattle.grid_tables.specs.KeyOrders.{leaf_cmp, leaf_total, leaf_whole, leaf_of, leaf_own, leaf_falls};
 ghost use Rattle.grid_tables.specs.KeyOrders.{attribute_cmp, attribute_total, attribute_whole, attribute_of, attribute_falls};
 
@@ -184,7 +184,7 @@ pub struct AccessOfUser {
 }
 
 impl Row for AccessOfUser {
-    ghost row_cmp = { access_cmp };
+    ghost row_cmp = { access_of_user_cmp };
 
     ghost fits = { λ _. true };
 

@@ -1,4 +1,5 @@
-ghost use Rattle.std.specs.Prelude.{◌≡◌, ◌<◌, ◌≤◌, ◌==◌, ◌&&◌, ℕ, Bool, true, false, [], length, find, filter, map, not, vec_len, vec_capacity, IsTrue, IfOk, IfSome, IfNone, OnOk, OnErr};
+ghost use Rattle.std.specs.Prelude.{◌≡◌, ◌<◌, ◌≤◌, ◌==◌, ◌&&◌, ℕ, Bool, true, false, [], length, find, filter, map, not, vec_len};
+ghost use Rattle.std.specs.Prelude.{vec_capacity, IsTrue, IfOk, IfSome, IfNone, OnOk, OnErr};
 ghost use Rattle.std.specs.List.{list_any};
 ghost use Rattle.std.specs.List.Sorted.{IsPartitionedBy, IsSearchInRange, IsStrictlyIncreasing, IsStrictlySortedBy};
 ghost use Rattle.std.specs.Ordering.{eq_by_cmp, is_eq};
@@ -6,7 +7,7 @@ ghost use Rattle.std.specs.Option.{option_copied};
 ghost use Rattle.grid_model.specs.Rows.{IsTable, triple_cmp, with_row};
 ghost use Rattle.grid_model.specs.Names.{same_text};
 ghost use Rattle.grid_tables.specs.IndexKeys.{AreKeysOf};
-ghost use Rattle.grid_tables.specs.Places.{IsPlace, Falls, StartsAt, StopsAt, passes};
+ghost use Rattle.grid_tables.specs.Places.{IsPlace, Falls, StartsAt, RowsAtFront, passes};
 
 use crate::index_key::{Front, IndexKey, ItemWithAttribute, OwnKey};
 use crate::probe::Probe;
@@ -72,7 +73,7 @@ fn before_front<K: Row, F: Front<K>>(keys: &[K], front: F) -> usize
 // How many keys from the front on have this front, where none stands before them.
 fn first_of_front<K: Row, F: Front<K>>(keys: &[K], front: F) -> usize
     ensures within { result ≤ length keys.now }
-    ensures place { IsPartitionedBy (λ k. is_eq (F.side front k)) keys.now → StopsAt (F.side front) keys.now result }
+    ensures place { IsPartitionedBy (λ k. is_eq (F.side front k)) keys.now → RowsAtFront (F.side front) keys.now result }
 {
     keys.partition_point(|key| front.side(key).is_eq())
 }

@@ -4,7 +4,7 @@ ghost use Rattle.grid_model.specs.Names.{same_text};
 ghost use Rattle.grid_model.specs.Rows.{IsCat, has_collection, has_object, has_resource, has_user, user, replicas_of, triples_of, access_of, kind_of, id_of};
 ghost use Rattle.grid_tables.specs.IndexKeys.{AreKeysOf};
 ghost use Rattle.grid_tables.specs.Indexes.{IsIndex, place_cmp};
-ghost use Rattle.grid_tables.specs.KeyOrders.{access_cmp, access_of_row, attribute_cmp, attribute_of, group_cmp, group_of, leaf_cmp, leaf_of};
+ghost use Rattle.grid_tables.specs.KeyOrders.{access_of_user_cmp, access_of_row, attribute_cmp, attribute_of, group_cmp, group_of, leaf_cmp, leaf_of};
 
 use crate::{AccessOfUser, GroupOfUser, ItemWithAttribute, ReplicaOnLeaf, Tables};
 use grid_model::{
@@ -143,7 +143,7 @@ impl Tables {
 
     /// The items that give a user or a group access, objects first, by id.
     pub fn items_open_to(&self, user: u32) -> &[AccessOfUser]
-        ensures { AreKeysOf access_of_row access_cmp (filter (λ e. e.user == user) self.now.entries) result.now }
+        ensures { AreKeysOf access_of_row access_of_user_cmp (filter (λ e. e.user == user) self.now.entries) result.now }
     {
         self.entries.at(user)
     }

@@ -1,11 +1,12 @@
-ghost use Rattle.std.specs.Prelude.{◌≡◌, ◌<◌, ◌≤◌, ◌==◌, ◌&&◌, Bool, true, false, [], length, find, filter, map, not, vec_len, vec_capacity, IsTrue, IfOk, IfSome, IfNone, OnOk, OnErr};
+ghost use Rattle.std.specs.Prelude.{◌≡◌, ◌<◌, ◌≤◌, ◌==◌, ◌&&◌, Bool, true, false, [], length, find, filter, map, not, vec_len};
+ghost use Rattle.std.specs.Prelude.{vec_capacity, IsTrue, IfOk, IfSome, IfNone, OnOk, OnErr};
 ghost use Rattle.std.specs.List.{list_any};
 ghost use Rattle.std.specs.List.Sorted.{IsPartitionedBy, IsSearchInRange, IsStrictlyIncreasing};
 ghost use Rattle.std.specs.Ordering.{is_eq};
 ghost use Rattle.std.specs.Option.{option_copied};
 ghost use Rattle.grid_model.specs.Rows.{IsTable, with_row};
-ghost use Rattle.grid_tables.specs.Indexes.{IsIndex, IsNamed, place_cmp, place_of, is_placed, found_order, side_at, IsPlacedOnce};
-ghost use Rattle.grid_tables.specs.Places.{IsPlace, Falls, StartsAt, StopsAt, passes};
+ghost use Rattle.grid_tables.specs.Indexes.{IsIndex, IsNameIndex, place_cmp, place_of, is_placed, found_order, side_at, IsPlacedOnce};
+ghost use Rattle.grid_tables.specs.Places.{IsPlace, Falls, StartsAt, RowsAtFront, passes};
 
 use crate::keyed::Keyed;
 use crate::placed::Placed;
@@ -45,7 +46,8 @@ fn order_at<T: Placed>(rows: &Keyed<T>, id: u64, parent: u64, name: &Text) -> Or
 // Where a place belongs among ids in the order of theirs, by a binary search.
 fn seek<T: Placed>(rows: &Keyed<T>, ids: &[u64], parent: u64, name: &Text) -> Result<usize, usize>
     ensures within { IsSearchInRange result (length ids.now) }
-    ensures place { let place = place_of T.parent T.name parent name.now in (kept : T → Bool) → (index : IsNamed T.number T.parent T.name (filter kept rows.now) ids.now) → IsPlace place index.named result }
+    ensures place { let place = place_of T.parent T.name parent name.now in (kept : T → Bool)
+        → (index : IsNameIndex T.number T.parent T.name (filter kept rows.now) ids.now) → IsPlace place index.named result }
 {
     let _count = rows.len();
     ids.binary_search_by(|id| order_at(rows, *id, parent, name).reverse())
@@ -53,7 +55,7 @@ fn seek<T: Placed>(rows: &Keyed<T>, ids: &[u64], parent: u64, name: &Text) -> Re
 
 // Takes the id of a row out.
 fn forget<T: Placed>(rows: &Keyed<T>, ids: &mut Vec<u64>, id: u64)
-    ensures index { let named = IsNamed T.number T.parent T.name in named rows.now ids.old.items → named (filter (λ r. not (T.number r == id)) rows.now) ids.new.items }
+    ensures index { let named = IsNameIndex T.number T.parent T.name in named rows.now ids.old.items → named (filter (λ r. not (T.number r == id)) rows.now) ids.new.items }
     ensures unchanged { list_any (λ r. T.number r == id) rows.now ≡ false → ids.new.items ≡ ids.old.items }
     ensures room { vec_len ids.old < vec_capacity ids.old → vec_len ids.new < vec_capacity ids.new }
 {
@@ -90,7 +92,7 @@ fn before_parent<T: Placed>(rows: &Keyed<T>, ids: &[u64], parent: u64) -> usize
 // How many ids from the front on are in the parent, where none stands before them.
 fn first_in_parent<T: Placed>(rows: &Keyed<T>, ids: &[u64], parent: u64) -> usize
     ensures within { result ≤ length ids.now }
-    ensures place { let side = side_at T.number T.parent parent rows.now in IsPartitionedBy (λ id. is_eq (side id)) ids.now → StopsAt side ids.now result }
+    ensures place { let side = side_at T.number T.parent parent rows.now in IsPartitionedBy (λ id. is_eq (side id)) ids.now → RowsAtFront side ids.now result }
 {
     ids.partition_point(|id| side_of(rows, *id, parent).is_eq())
 }
@@ -152,7 +154,8 @@ impl<T: Placed> Named<T> {
     pub(crate) fn find(&self, parent: u64, name: &Text) -> Option<&T>
         ensures row { option_copied result ≡ find (λ r. is_placed T.parent T.name parent name.now r) self.now }
         ensures fits { IfSome result (λ row. IsTrue (T.fits row.now)) }
-        ensures alone { let placed = is_placed T.parent T.name parent name.now in (test : T → Bool) → list_any (λ r. placed r && test r) self.now ≡ passes test (option_copied result) }
+        ensures alone { let placed = is_placed T.parent T.name parent name.now in (test : T → Bool)
+            → list_any (λ r. placed r && test r) self.now ≡ passes test (option_copied result) }
     {
         let _count = self.rows.len();
         match seek(&self.rows, self.by_name.as_slice(), parent, name) {

@@ -6,8 +6,10 @@ ghost use Rattle.std.specs.declared.cmp.Ordering.TheVariants.{Less};
 ghost use Rattle.std.specs.Cmp.{IsTotalOrder};
 ghost use Rattle.grid_model.specs.declared.grid.ItemKind.{ItemKind};
 ghost use Rattle.grid_model.specs.declared.grid.ItemKind.TheVariants as kinds;
-ghost use Rattle.grid_model.specs.Rows.{same_item, is_named_user, is_named_object, is_named_resource, user_cmp, member_cmp, collection_cmp, object_cmp, replica_cmp, triple_cmp, entry_cmp, resource_cmp, orphan_cmp};
-ghost use Rattle.grid_model.proofs.RowOrders.{user_cmp_total, member_cmp_total, collection_cmp_total, object_cmp_total, replica_cmp_total, triple_cmp_total, entry_cmp_total, resource_cmp_total, orphan_cmp_total};
+ghost use Rattle.grid_model.specs.Rows.{same_item, is_named_user, is_named_object, is_named_resource, user_cmp, member_cmp, collection_cmp};
+ghost use Rattle.grid_model.specs.Rows.{object_cmp, replica_cmp, triple_cmp, entry_cmp, resource_cmp, orphan_cmp};
+ghost use Rattle.grid_model.proofs.RowOrders.{user_cmp_total, member_cmp_total, collection_cmp_total, object_cmp_total, replica_cmp_total};
+ghost use Rattle.grid_model.proofs.RowOrders.{triple_cmp_total, entry_cmp_total, resource_cmp_total, orphan_cmp_total};
 ghost use Rattle.grid_tables.specs.Roots.{is_whole_collection};
 ghost use Rattle.grid_tables.specs.Items.{order_of_item, belongs_to, replica_falls, triple_falls, entry_falls};
 

@@ -1,10 +1,11 @@
-ghost use Rattle.std.specs.Prelude.{◌≡◌, ◌<◌, ◌≤◌, ◌==◌, ◌&&◌, ℕ, Bool, true, false, [], length, find, filter, map, not, IsTrue, IfOk, IfSome, IfNone, OnOk, OnErr};
+ghost use Rattle.std.specs.Prelude.{◌≡◌, ◌<◌, ◌≤◌, ◌==◌, ◌&&◌, ℕ, Bool, true, false, [], length, find, filter, map, not, IsTrue, IfOk};
+ghost use Rattle.std.specs.Prelude.{IfSome, IfNone, OnOk, OnErr};
 ghost use Rattle.std.specs.List.{list_any};
 ghost use Rattle.std.specs.List.Sorted.{IsPartitionedBy, IsSearchInRange, IsStrictlyIncreasing, IsStrictlySortedBy};
 ghost use Rattle.std.specs.Ordering.{eq_by_cmp, is_eq};
 ghost use Rattle.std.specs.Option.{option_copied};
 ghost use Rattle.grid_model.specs.Rows.{IsTable, with_row};
-ghost use Rattle.grid_tables.specs.Places.{IsPlace, Falls, StartsAt, StopsAt, passes};
+ghost use Rattle.grid_tables.specs.Places.{IsPlace, Falls, StartsAt, RowsAtFront, passes};
 
 use crate::probe::Probe;
 use crate::row::{Numbered, OfItem, Row};
@@ -150,7 +151,7 @@ fn before_item<T: OfItem>(rows: &[T], kind: ItemKind, id: u64) -> usize
 // How many rows from the front on are of an item, where none stands before them.
 fn first_of_item<T: OfItem>(rows: &[T], kind: ItemKind, id: u64) -> usize
     ensures within { result ≤ length rows.now }
-    ensures place { IsPartitionedBy (λ r. is_eq (T.item_order kind id r)) rows.now → StopsAt (T.item_order kind id) rows.now result }
+    ensures place { IsPartitionedBy (λ r. is_eq (T.item_order kind id r)) rows.now → RowsAtFront (T.item_order kind id) rows.now result }
 {
     rows.partition_point(|row| row.item_order(kind, id).is_eq())
 }

@@ -1,6 +1,6 @@
 ghost use Rattle.std.specs.Prelude.{◌≡◌, ◌==◌, ◌&&◌, ◌||◌, not, filter, Ok, Err, IsOk, OnOk, OnErr, IfErr};
 ghost use Rattle.std.specs.List.{list_any};
-ghost use Rattle.grid_model.specs.Applying.{apply, is_group, is_user, can_join, user_fits};
+ghost use Rattle.grid_model.specs.Applying.{apply, has_group, is_user, can_join, user_fits};
 ghost use Rattle.grid_model.specs.Names.{same_text};
 ghost use Rattle.grid_model.specs.Rows.{has_user, is_member};
 ghost use Rattle.grid_tables.specs.declared.error.TableError.TheVariants.{BadDelta, Memory};
@@ -19,7 +19,7 @@ impl Tables {
 
     // Whether there is a group with this id.
     pub(crate) fn is_group(&self, id: u32) -> bool
-        ensures { result ≡ is_group self.now id }
+        ensures { result ≡ has_group self.now id }
     {
         match self.users.get(u64::from(id)) {
             Some(row) => is_group_kind(row.kind),

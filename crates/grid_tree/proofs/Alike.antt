@@ -7,7 +7,7 @@ use Rattle.std.specs.FinMap.Entries.{below_all}
 use Rattle.std.specs.Ordering.{nat_cmp, is_lt}
 use Rattle.std.proofs.lemmas.Bool.{leb-true, leb-false}
 use Rattle.grid_model.specs.Names.{Text, text_cmp}
-use Rattle.grid_model.specs.Trees.{placed, placed_among}
+use Rattle.grid_model.specs.Trees.{in_place_order, placed_among}
 use Rattle.std.specs.List.Sorted.{IsStrictlySortedBy}
 use Rattle.std.specs.declared.cmp.Ordering.{Ordering}
 use Rattle.std.specs.declared.cmp.Ordering.TheVariants.{Less, Equal, Greater}
@@ -134,13 +134,13 @@ placed_among_from_in c (d ∷ ds) x here = elim (nat_le c.1 d.1) as (λ b. IsIn 
   ]
 ]
 
-pub in_from_placed : (cs : List (Text × ℕ)) (x : Text × ℕ) → IsIn (placed cs) x → IsIn cs x
+pub in_from_placed : (cs : List (Text × ℕ)) (x : Text × ℕ) → IsIn (in_place_order cs) x → IsIn cs x
 in_from_placed [] x here = here
-in_from_placed (c ∷ cs) x here = elim (in_from_placed_among c (placed cs) x here) [ inl is ↦ inl is | inr later ↦ inr (in_from_placed cs x later) ]
+in_from_placed (c ∷ cs) x here = elim (in_from_placed_among c (in_place_order cs) x here) [ inl is ↦ inl is | inr later ↦ inr (in_from_placed cs x later) ]
 
-pub placed_from_in : (cs : List (Text × ℕ)) (x : Text × ℕ) → IsIn cs x → IsIn (placed cs) x
+pub placed_from_in : (cs : List (Text × ℕ)) (x : Text × ℕ) → IsIn cs x → IsIn (in_place_order cs) x
 placed_from_in [] x here = here
-placed_from_in (c ∷ cs) x here = placed_among_from_in c (placed cs) x (elim here [ inl is ↦ inl is | inr later ↦ inr (placed_from_in cs x later) ])
+placed_from_in (c ∷ cs) x here = placed_among_from_in c (in_place_order cs) x (elim here [ inl is ↦ inl is | inr later ↦ inr (placed_from_in cs x later) ])
 
 placed_among-sorted : (c : Text × ℕ) (ds : List (Text × ℕ)) → IsStrictlySortedBy by_number ds → ((d : Text × ℕ) → IsIn ds d → c.1 ≡ d.1 → ⊥) → IsStrictlySortedBy by_number (placed_among c ds)
 unfolding IsStrictlySortedBy
@@ -168,11 +168,11 @@ placed_among-sorted c (d ∷ ds) sorted apart = elim (nat_le c.1 d.1) as (λ b. 
 ] refl
 
 -- names rise and no two have one number
-pub placed-sorted : IsTotalOrder text_cmp → (cs : List (Text × ℕ)) → IsStrictlySortedBy (λ a b. text_cmp a.0 b.0) cs → ((a b : Text × ℕ) → IsIn cs a → IsIn cs b → a.1 ≡ b.1 → a.0 ≡ b.0) → IsStrictlySortedBy by_number (placed cs)
+pub placed-sorted : IsTotalOrder text_cmp → (cs : List (Text × ℕ)) → IsStrictlySortedBy (λ a b. text_cmp a.0 b.0) cs → ((a b : Text × ℕ) → IsIn cs a → IsIn cs b → a.1 ≡ b.1 → a.0 ≡ b.0) → IsStrictlySortedBy by_number (in_place_order cs)
 unfolding IsStrictlySortedBy
 placed-sorted o [] sorted own = tt
 placed-sorted o (c ∷ cs) sorted own =
-    placed_among-sorted c (placed cs) (placed-sorted o cs sorted.1 (λ a b here there. own a b (inr here) (inr there))) (λ d here e.
+    placed_among-sorted c (in_place_order cs) (placed-sorted o cs sorted.1 (λ a b here there. own a b (inr here) (inr there))) (λ d here e.
     let was = in_from_placed cs d here in
     let same : c.0 ≡ d.0 = own c d (inl refl) (inr was) e in
     let less : text_cmp c.0 d.0 ≡ Less = in_from_all (λ y. text_cmp c.0 y.0 ≡ Less) cs sorted.0 d was in

@@ -18,7 +18,7 @@ use Rattle.grid_model.specs.Grid.{Resource}
 use Rattle.grid_model.specs.Rows.{Cat, resource, has_resource, resource_cmp}
 use Rattle.grid_model.specs.RowGrids.{grid_of, place_of, resource_name, resource_of}
 use Rattle.grid_model.specs.Applying.{IsMade, is_node}
-use Rattle.grid_model.specs.Trees.{Resources, children, is_child_of, placed}
+use Rattle.grid_model.specs.Trees.{Resources, children, is_child_of, in_place_order}
 use Rattle.grid_model.specs.declared.deltas.ResourceRow.{ResourceRow}
 use Rattle.grid_model.proofs.Comparing.{text_cmp_total, text_cmp-IsAntisymmetric, same_text-Decides, other_text}
 use Rattle.tables_laws.proofs.Rows.{IsIn, IsTable-filter, in_from_all, all_from_in, in_from_filter, filter_from_in, any_from_in}
@@ -31,14 +31,14 @@ use Rattle.tables_laws.proofs.Standing.{ResourceStands}
 use Rattle.tables_laws.proofs.Sound.{IsSound}
 use Rattle.grid_access.proofs.MapEntries.{in_from_map, map_from_in, entry_of_row}
 use Rattle.grid_tree.specs.Names.{AreNamed}
-use Rattle.grid_tree.specs.Ordered.{child_of, AreInOrder}
+use Rattle.grid_tree.specs.Ordered.{child_of, AreByPlace}
 use Rattle.grid_tree.specs.Steps.{lies_below}
 use Rattle.grid_tree.specs.declared.siblings.Child.{Child}
 use Rattle.grid_tree.proofs.Named.{sound_of, get-row, name_is}
 use Rattle.grid_tree.proofs.OwnPlaces.{places-made}
 use Rattle.grid_tree.proofs.Alike.{same_sorted, in_of, contains_of, less_number, sorted-map, sorted-entries, by_number, in_from_placed, placed_from_in, placed-sorted}
 
-pub in_order : (c : Cat) (parent : ℕ) (found kids : List Child) → found ≡ map child_of (filter (lies_below parent) c.resources) → IsPermutation found kids → IsNonDecreasingBy (λ (k : Child). k.place) kids → AreInOrder c parent kids
+pub in_order : (c : Cat) (parent : ℕ) (found kids : List Child) → found ≡ map child_of (filter (lies_below parent) c.resources) → IsPermutation found kids → IsNonDecreasingBy (λ (k : Child). k.place) kids → AreByPlace c parent kids
 in_order c parent found kids is moved rise = record { are = subst (λ (ks : List Child). IsPermutation ks kids) is moved; rise = rise }
 
 module _ (c : Cat) (m : IsMade c) (parent : ℕ) (has : has_resource c parent ≡ true) where
@@ -154,7 +154,7 @@ module _ (c : Cat) (m : IsMade c) (parent : ℕ) (has : has_resource c parent �
           lower : (x y : ResourceRow) → IsIn rows x → IsIn rows y → place_of c x ≡ place_of c y → (x.place < y.place → ⊥) → (y.place < x.place → ⊥) → (x.place ≡ y.place → ⊥) → ⊥
           lower x y here there ranks below above apart = omega (arith, below, above, apart)
 
-  listed_sorted : IsStrictlySortedBy by_number (placed listed)
+  listed_sorted : IsStrictlySortedBy by_number (in_place_order listed)
   listed_sorted =
       placed-sorted text_cmp_total listed
       (sorted-map (λ (a b : Text × Resource). text_cmp a.0 b.0) (λ (a b : Text × ℕ). text_cmp a.0 b.0) (λ (e : Text × Resource). (e.0, e.1.place)) (filter (λ e. is_child_of name e.1) tree.entries) (λ x y here there less. less)
@@ -239,8 +239,8 @@ module _ (c : Cat) (m : IsMade c) (parent : ℕ) (has : has_resource c parent �
         let other : (shown b).1 ≡ place_of c y.0 = ap (λ (k : Child). (shown k).1) (sym y.2) ∙ ap (λ (p : Text × ℕ). p.1) (shown_is y.0 (in_from_filter (lies_below parent) c.resources y.0 y.1).0) in
         less_number (shown a).1 (shown b).1 (omega (arith, up, one, other))) kids_sorted
 
-    same_children : placed listed ≡ map shown kids
-    same_children = same_sorted (on_total (λ (p : Text × ℕ). p.1) nat_cmp_total) (placed listed) (map shown kids) listed_sorted kids_shown
+    same_children : in_place_order listed ≡ map shown kids
+    same_children = same_sorted (on_total (λ (p : Text × ℕ). p.1) nat_cmp_total) (in_place_order listed) (map shown kids) listed_sorted kids_shown
         (λ p here.
         let r = from_listed p (in_from_placed listed p here) in
         let old = (in_from_filter (lies_below parent) c.resources r.0 r.1).0 in

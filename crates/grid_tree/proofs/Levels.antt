@@ -7,7 +7,7 @@ use Rattle.std.proofs.lemmas.List.Concat.{flat_map-append}
 use Rattle.grid_model.specs.Maps.{get}
 use Rattle.grid_model.specs.Names.{Text}
 use Rattle.grid_model.specs.Grid.{Resource}
-use Rattle.grid_model.specs.Trees.{Resources, children, chosen, possible_by, possible_from, targets_by, targets_from}
+use Rattle.grid_model.specs.Trees.{Resources, children, chosen_kid, possible_by, possible_from, targets_by, targets_from}
 use Rattle.grid_model.specs.declared.grid.ResourceKind.{ResourceKind}
 use Rattle.grid_model.specs.declared.grid.ResourceKind.TheVariants.{Storage, Passthru, Random, Replication}
 use Rattle.grid_tree.specs.Steps.{Spot, below, below_by, open_children, picked, spots, spots_by, with_word}

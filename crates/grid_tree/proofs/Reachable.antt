@@ -5,7 +5,7 @@ use Rattle.std.specs.Option.{option_map_or}
 use Rattle.grid_model.specs.Maps.{get}
 use Rattle.grid_model.specs.Names.{Text}
 use Rattle.grid_model.specs.Grid.{Resource}
-use Rattle.grid_model.specs.Trees.{Resources, children, chosen, depth, is_any, possible, possible_by, possible_from, targets, targets_by, targets_from}
+use Rattle.grid_model.specs.Trees.{Resources, children, chosen_kid, depth, is_any, possible, possible_by, possible_from, targets, targets_by, targets_from}
 use Rattle.grid_model.specs.declared.grid.ResourceKind.{ResourceKind}
 use Rattle.grid_model.specs.declared.grid.ResourceKind.TheVariants.{Storage, Passthru, Random, Replication}
 use Rattle.tables_laws.proofs.Rows.{IsIn, in_from_filter}
@@ -54,7 +54,7 @@ some_of f g kids all each are leaf here =
     flat_map_from_in g all k.0 leaf (are k.0 k.1) (each k.0 leaf k.1 k.2)
 
 -- what the chosen one gives
-one_of : (f : Text → ℕ → List Text) (kids : List Text) (word : ℕ) (leaf : Text) → IsIn (chosen f kids word) leaf → (k : Text) × IsIn kids k × IsIn (f k (word / length kids)) leaf
+one_of : (f : Text → ℕ → List Text) (kids : List Text) (word : ℕ) (leaf : Text) → IsIn (chosen_kid f kids word) leaf → (k : Text) × IsIn kids k × IsIn (f k (word / length kids)) leaf
 one_of f kids word leaf = by (slice_get kids (word % length kids)) refl
   where
     by : (o : Option Text) → slice_get kids (word % length kids) ≡ o → IsIn (option_map_or (λ kid. f kid (word / length kids)) o []) leaf → (k : Text) × IsIn kids k × IsIn (f k (word / length kids)) leaf

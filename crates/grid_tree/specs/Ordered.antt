@@ -11,6 +11,6 @@ abbrev pub child_of : ResourceRow → Child
 child_of r = record { place = r.place; id = r.id }
 
 -- these are the children of the resource with this id, and their places rise
-pub record AreInOrder (c : Cat) (parent : ℕ) (kids : List Child) : Type 0 where
+pub record AreByPlace (c : Cat) (parent : ℕ) (kids : List Child) : Type 0 where
   pub are : IsPermutation (map child_of (filter (lies_below parent) c.resources)) kids
   pub rise : IsNonDecreasingBy (λ (k : Child). k.place) kids

@@ -5,7 +5,7 @@ ghost use Rattle.grid_model.specs.Rows.{has_resource};
 ghost use Rattle.grid_model.specs.Trees.{children};
 ghost use Rattle.grid_model.specs.declared.deltas.ResourceRow.{ResourceRow};
 ghost use Rattle.grid_tree.specs.Names.{AreNamed};
-ghost use Rattle.grid_tree.specs.Ordered.{AreInOrder};
+ghost use Rattle.grid_tree.specs.Ordered.{AreByPlace};
 ghost use Rattle.grid_tree.specs.Steps.{lies_below};
 
 use grid_tables::Tables;
@@ -34,7 +34,7 @@ pub fn children_in_order(
     tables: &Tables,
     parent: u32,
 ) -> Result<Vec<Child>, AllocError>
-    ensures { IfOk result (λ kids. AreInOrder tables.now parent kids.items) }
+    ensures { IfOk result (λ kids. AreByPlace tables.now parent kids.items) }
 {
     let mut found = found_below(alloc, tables, parent)?;
     found.sort_by_key(|child| child.place)?;
@@ -43,7 +43,9 @@ pub fn children_in_order(
 
 // The children of a resource, by id in the order of their rows.
 fn found_below(alloc: Global, tables: &Tables, parent: u32) -> Result<Vec<Child>, AllocError>
-    ensures { IfOk result (λ found. found.items ≡ map (λ (r : ResourceRow). record { place = r.place; id = r.id }) (filter (lies_below parent) tables.now.resources)) }
+    ensures {
+        IfOk result (λ found. found.items ≡ map (λ (r : ResourceRow). record { place = r.place; id = r.id }) (filter (lies_below parent) tables.now.resources))
+    }
 {
     tables
         .resources()

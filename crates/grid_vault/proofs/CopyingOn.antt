@@ -3,7 +3,7 @@ use Rattle.std.proofs.Common.{◌≡◌, inl, inr, ℕ, ◌+◌, ◌<◌, ◌≤
 use Rattle.std.specs.Prelude.{◌≢◌}
 use Rattle.std.proofs.lemmas.Option.{slice_get_within}
 use Rattle.grid_outside.specs.Device.{Between}
-use Rattle.grid_outside.specs.Files.{StoreState, Writes, Finished, IsStable, file_at, begun}
+use Rattle.grid_outside.specs.Files.{StoreState, Writes, Finished, IsStable, file_at, unfinished}
 use Rattle.grid_outside.proofs.Spans.{nat_cases, some_is, slice_get-set_same, slice_get-set_other}
 use Rattle.grid_model.specs.declared.plans.NewFile.{NewFile}
 use Rattle.grid_vault.specs.Copying.{AreNamedApart}
@@ -11,7 +11,7 @@ use Rattle.grid_vault.proofs.Writing.{all_of, all_at, outlives, same_begun}
 
 -- of a file by its name: it was begun and has these bytes so far
 abbrev pub IsBegun : List ℕ → ℕ → StoreState → Type 0
-IsBegun bytes name s = file_at s.holds name ≡ begun bytes
+IsBegun bytes name s = file_at s.holds name ≡ unfinished bytes
 
 -- nothing is said of it
 abbrev pub IsAny : ℕ → StoreState → Type 0

@@ -10,7 +10,7 @@ use Rattle.grid_outside.specs.Sink.{SinkState}
 use Rattle.grid_model.specs.DataLines.{data_lines, parts}
 use Rattle.grid_model.specs.declared.plans.OldFile.{OldFile}
 use Rattle.grid_vault.specs.Reading.{IsPartOf, ReadsOn, IsAsRecorded}
-use Rattle.grid_vault.specs.Sending.{Puts, PutsAll, BeginsWith, IsReadOf, IsWhole, Answers, Sends, IsCutShort, Breaks, SaysOf}
+use Rattle.grid_vault.specs.Sending.{Puts, PutsAll, BeginsWith, IsReadOf, IsSentWhole, Answers, SendsLines, IsCutShort, Breaks, SaysOf}
 use Rattle.grid_vault.specs.declared.reading.Part.{Part}
 use Rattle.grid_vault.specs.declared.reading.FileReader.{FileReader}
 use Rattle.grid_vault.specs.declared.sent.Sent.{Sent}
@@ -84,7 +84,7 @@ front_more sent buf given k file front within part le room =
 
 module _ (store : StoreState) (from now : ℕ) (recorded : OldFile) (number : ℕ) (old mid : SinkState) (reader : FileReader) (count : ℕ) (so_far : SentSoFar store from now recorded number old mid reader count) where
   -- no part more was read
-  pub faulty : Sends store from now recorded number old mid (Fault recorded.slot count)
+  pub faulty : SendsLines store from now recorded number old mid (Fault recorded.slot count)
   faulty = record {
     sent = so_far.sent;
     lines = so_far.lines;
@@ -207,10 +207,10 @@ module _ (store : StoreState) (from now : ℕ) (recorded : OldFile) (number : �
             let size : length all_read ≡ min (recorded.size + 1) (length piece.file.bytes) = omega (arith, piece.last last, so_far.read, so_far.within, front.0, reads.read, read_is) in
             record { file = piece.file; is = piece.is; bytes_are = front.1 ∙ take_min (recorded.size + 1) (length all_read) piece.file.bytes size }
 
-        whole : part.is_last ≡ true → IsAsRecorded recorded all_read → IsWhole store recorded all_sent
+        whole : part.is_last ≡ true → IsAsRecorded recorded all_read → IsSentWhole store recorded all_sent
         whole last as_recorded =
             let same : all_sent ≡ all_read = sent_is ∙ take_all recorded.size all_read (omega (arith, as_recorded.size)) in
-            let P : List ℕ → Type 0 = IsWhole store recorded in
+            let P : List ℕ → Type 0 = IsSentWhole store recorded in
             subst P (sym same) (record {
               as_recorded = as_recorded;
               of_file = λ tells.
@@ -236,5 +236,5 @@ module _ (store : StoreState) (from now : ℕ) (recorded : OldFile) (number : �
           of_file = read_of last;
         }
 
-        pub ends : part.is_last ≡ true → (answer : Sent) → SaysOf recorded all_read (count + lines) answer → Sends store from now' recorded number old new answer
+        pub ends : part.is_last ≡ true → (answer : Sent) → SaysOf recorded all_read (count + lines) answer → SendsLines store from now' recorded number old new answer
         ends last answer says = record { sent = all_sent; lines = lines_all; answers = answered last answer says }

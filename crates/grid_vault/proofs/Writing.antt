@@ -7,7 +7,7 @@ use Rattle.std.proofs.lemmas.List.Elements.{All-get_or}
 use Rattle.std.proofs.lemmas.Bool.{cases_lt}
 use Rattle.grid_outside.specs.Device.{Acts, Between, Span}
 use Rattle.grid_outside.specs.Fault.{Rose}
-use Rattle.grid_outside.specs.Files.{File, Files, StoreState, Writes, Removes, Created, Appended, Finished, IsShort, IsStable, file_at, begun, finished}
+use Rattle.grid_outside.specs.Files.{File, Files, StoreState, Writes, Removes, Created, Appended, Finished, IsHashable, IsStable, file_at, unfinished, finished}
 use Rattle.grid_model.specs.DataLines.{parts}
 use Rattle.grid_vault.specs.Write.{Extends}
 use Rattle.grid_outside.proofs.Spans.{acted, goes_on, widens, nat_cases, one_called, lasts, spans_on, some_is, slice_get-set_same, at_place}
@@ -42,7 +42,7 @@ bytes_of : Option File → List ℕ
 bytes_of None = []
 bytes_of (Some file) = file.bytes
 
-pub same_begun : (a b : List ℕ) → begun a ≡ begun b → a ≡ b
+pub same_begun : (a b : List ℕ) → unfinished a ≡ unfinished b → a ≡ b
 unfolding bytes_of
 same_begun a b e = ap bytes_of e
 
@@ -59,16 +59,16 @@ slot_within count = all_at (λ (f : NewFile). f.slot < count)
 
 -- the bytes were appended but for the rest
 abbrev pub ExtendsBut : ℕ → List ℕ → List ℕ → Files → Files → Type 0
-ExtendsBut name bytes rest old now = (front : List ℕ) → file_at old name ≡ begun front → (so_far : List ℕ) × (file_at now name ≡ begun so_far) × (so_far ++ rest ≡ front ++ bytes)
+ExtendsBut name bytes rest old now = (front : List ℕ) → file_at old name ≡ unfinished front → (so_far : List ℕ) × (file_at now name ≡ unfinished so_far) × (so_far ++ rest ≡ front ++ bytes)
 
 pub extended_more : (name : ℕ) (bytes part after rest : List ℕ) (old mid new : Files) → part ++ after ≡ rest → ExtendsBut name bytes rest old mid → Appended name part mid new → ExtendsBut name bytes after old new
 extended_more name bytes part after rest old mid new split so_far appended front is =
     let was = so_far front is in
     let same : appended.front ≡ was.0 = same_begun _ _ (sym appended.was ∙ was.1) in
-    (was.0 ++ part, appended.is ∙ ap (λ (xs : List ℕ). begun (xs ++ part)) same, append_assoc was.0 part after ∙ ap (λ (xs : List ℕ). was.0 ++ xs) split ∙ was.2)
+    (was.0 ++ part, appended.is ∙ ap (λ (xs : List ℕ). unfinished (xs ++ part)) same, append_assoc was.0 part after ∙ ap (λ (xs : List ℕ). was.0 ++ xs) split ∙ was.2)
 
 pub extended_all : (name : ℕ) (bytes : List ℕ) (old new : Files) → ExtendsBut name bytes [] old new → Extends name bytes old new
-extended_all name bytes old new so_far front is = let was = so_far front is in was.1 ∙ ap begun (sym (append-nil was.0) ∙ was.2)
+extended_all name bytes old new so_far front is = let was = so_far front is in was.1 ∙ ap unfinished (sym (append-nil was.0) ∙ was.2)
 
 -- so many appends are left
 pub parts_more : (n m : ℕ) → 0 < n → m + min n 65536 ≡ n → parts m + 1 ≤ parts n
@@ -104,10 +104,10 @@ module _ (files : List NewFile) where
     ];
     short = λ name was. elim (nat_cases name file.name) [
       | inl e ↦
-          let P : ℕ → Type 0 = λ n. IsShort (file_at b n) in
-          let Q : ℕ → Type 0 = λ n. IsShort (file_at a n) in
+          let P : ℕ → Type 0 = λ n. IsHashable (file_at b n) in
+          let Q : ℕ → Type 0 = λ n. IsHashable (file_at a n) in
           subst P (sym e) (writes.short (subst Q e was))
-      | inr other ↦ subst IsShort (sym (writes.others name other)) was
+      | inr other ↦ subst IsHashable (sym (writes.others name other)) was
     ];
   }
 

@@ -1,7 +1,7 @@
 -- What copying a file to several others leaves of the stores, and what each answer says.
 use Rattle.std.specs.Prelude.{◌≡◌, ◌⊎◌, ℕ, ◌+◌, ◌^◌, ◌<◌, ◌≤◌, All, List, length, Option, None, MatchOption, slice_get, Some, IsTrue}
 use Rattle.grid_outside.specs.Device.{Span}
-use Rattle.grid_outside.specs.Files.{StoreState, file_at, begun}
+use Rattle.grid_outside.specs.Files.{StoreState, file_at, unfinished}
 use Rattle.grid_model.specs.declared.plans.NewFile.{NewFile}
 use Rattle.grid_model.specs.declared.plans.OldFile.{OldFile}
 use Rattle.grid_vault.specs.Reading.{IsAsRecorded, Differs}
@@ -16,7 +16,8 @@ AreNamedApart files = (i j : ℕ) (f g : NewFile) → slice_get files i ≡ Some
 module _ {B : Type 0} (state : B → StoreState) where
   -- the file was begun in its store, if that tells, and has these bytes so far
   abbrev pub IsBegunAt : List B → List ℕ → NewFile → Type 0
-  IsBegunAt stores bytes file = (store : B) → slice_get stores file.slot ≡ Some store → IsTrue (state store).tells → file_at (state store).holds file.name ≡ begun bytes
+  IsBegunAt stores bytes file =
+    (store : B) → slice_get stores file.slot ≡ Some store → IsTrue (state store).tells → file_at (state store).holds file.name ≡ unfinished bytes
 
   -- Between these two counts of moments each store has at each moment what it had, but for the files that are made; only the store in
   -- this slot and those of the files were called.

@@ -48,7 +48,7 @@ pub record IsReadOf (recorded : OldFile) (bytes : List ℕ) (files : Files) : Ty
   pub bytes_are : bytes ≡ take (recorded.size + 1) file.bytes
 
 -- What was sent is what is recorded, and over a store that tells it is the file.
-pub record IsWhole (store : StoreState) (recorded : OldFile) (sent : List ℕ) : Type 0 where
+pub record IsSentWhole (store : StoreState) (recorded : OldFile) (sent : List ℕ) : Type 0 where
   pub as_recorded : IsAsRecorded recorded sent
   pub of_file : IsTrue store.tells → HoldsBytes recorded.name sent store.holds
 
@@ -75,12 +75,12 @@ pub record IsBad (store : StoreState) (recorded : OldFile) (sent : List ℕ) (sl
 
 -- what an answer says of the bytes that were sent
 abbrev pub Answers : StoreState → OldFile → List ℕ → Sent → Type 0
-Answers store recorded sent Whole = IsWhole store recorded sent
+Answers store recorded sent Whole = IsSentWhole store recorded sent
 Answers store recorded sent (Fault slot count) = IsFaulty store recorded sent slot count
 Answers store recorded sent (Bad slot len found count) = IsBad store recorded sent slot len found count
 
 -- Some bytes were sent as data lines, and the answer says which.
-pub record Sends (store : StoreState) (from to : ℕ) (recorded : OldFile) (number : ℕ) (old new : SinkState) (answer : Sent) : Type 0 where
+pub record SendsLines (store : StoreState) (from to : ℕ) (recorded : OldFile) (number : ℕ) (old new : SinkState) (answer : Sent) : Type 0 where
   pub sent : List ℕ
   pub lines : PutsAll from to (data_lines number sent) old new
   pub answers : Answers store recorded sent answer
@@ -121,4 +121,5 @@ module _ {B : Type 0} (state : B → StoreState) where
 abbrev pub SaysOf : OldFile → List ℕ → ℕ → Sent → Type 0
 SaysOf recorded read parts Whole = IsAsRecorded recorded read
 SaysOf recorded read parts (Fault slot count) = ⊥
-SaysOf recorded read parts (Bad slot len found count) = (slot ≡ recorded.slot) × (len ≡ length read) × (found ≡ sha256 read) × (count ≡ parts) × (¬ IsAsRecorded recorded read)
+SaysOf recorded read parts (Bad slot len found count) =
+  (slot ≡ recorded.slot) × (len ≡ length read) × (found ≡ sha256 read) × (count ≡ parts) × (¬ IsAsRecorded recorded read)

@@ -2,7 +2,7 @@
 use Rattle.std.specs.Prelude.{◌≡◌, ℕ, List, slice_get, Some, IsTrue}
 use Rattle.grid_outside.specs.Device.{Span}
 use Rattle.grid_outside.specs.Fault.{Rose}
-use Rattle.grid_outside.specs.Files.{StoreState, Files, IsShort, Removes, file_at, finished, IsStable, IsGone}
+use Rattle.grid_outside.specs.Files.{StoreState, Files, IsHashable, Removes, file_at, finished, IsStable, IsGone}
 use Rattle.grid_model.specs.declared.plans.NewFile.{NewFile}
 
 -- one of the files has this name in this slot
@@ -25,7 +25,7 @@ pub record HasSlot (files : List NewFile) (slot : ℕ) : Type 0 where
 pub record WritesAmong (files : List NewFile) (slot : ℕ) (old new : Files) : Type 0 where
   pub others : (name : ℕ) → ¬ IsAmong files slot name → file_at new name ≡ file_at old name
   pub stable : (name : ℕ) (bytes : List ℕ) → file_at old name ≡ finished bytes → file_at new name ≡ finished bytes
-  pub short : (name : ℕ) → IsShort (file_at old name) → IsShort (file_at new name)
+  pub short : (name : ℕ) → IsHashable (file_at old name) → IsHashable (file_at new name)
 
 module _ {B : Type 0} (state : B → StoreState) where
   -- Between these two counts of moments each store has at each moment what it had, but for the files that are made;
@@ -39,7 +39,8 @@ module _ {B : Type 0} (state : B → StoreState) where
 
   -- the count of the store in this slot rose; of a slot without a store this says nothing
   abbrev pub RoseAt : ℕ → List B → List B → Type 0
-  RoseAt slot old new = (before after : B) → slice_get old slot ≡ Some before → slice_get new slot ≡ Some after → Rose (state before).faults (state after).faults
+  RoseAt slot old new =
+    (before after : B) → slice_get old slot ≡ Some before → slice_get new slot ≡ Some after → Rose (state before).faults (state after).faults
 
   -- the file stands with these bytes in its store, if that tells, and no stop takes it away
   abbrev pub IsStableAt : List B → List ℕ → NewFile → Type 0

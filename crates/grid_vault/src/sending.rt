@@ -5,7 +5,7 @@ ghost use Rattle.grid_outside.specs.Fault.{Rose};
 ghost use Rattle.grid_model.specs.DataLines.{data_lines, parts};
 ghost use Rattle.grid_vault.specs.Vault.{RoseAt};
 ghost use Rattle.grid_vault.specs.Reading.{IsAsRecorded};
-ghost use Rattle.grid_vault.specs.Sending.{Puts, Sends, Breaks, OnFault, AtSlot, AllKeep, SaysOf};
+ghost use Rattle.grid_vault.specs.Sending.{Puts, SendsLines, Breaks, OnFault, AtSlot, AllKeep, SaysOf};
 
 use crate::line::{FRONT, frame_part};
 use crate::reading::FileReader;
@@ -70,7 +70,7 @@ fn send_from<P: Plugin, K: Sink>(
     requires room { length buf.old ≡ 65569 }
     requires last { (K.sink sink.old).last ≤ moments.old }
     requires moments { moments.old + parts from.now.size < 2 ^ 128 }
-    ensures sends { IfOk result (Sends (P.plugin store.old) moments.old moments.new from.now number (K.sink sink.old) (K.sink sink.new)) }
+    ensures sends { IfOk result (SendsLines (P.plugin store.old) moments.old moments.new from.now number (K.sink sink.old) (K.sink sink.new)) }
     ensures breaks { OnErr result (Breaks (P.plugin store.old) moments.old moments.new from.now number (K.sink sink.old) (K.sink sink.new)) }
     ensures looks { Looks (P.plugin store.old) (P.plugin store.new) }
     ensures later { (P.plugin store.old).faults ≤ (P.plugin store.new).faults }
@@ -126,7 +126,7 @@ pub fn send<P: Plugin, K: Sink>(
 
     // Which bytes were added to the sink, and what the answer says of them.
     ensures sent { IfOk result (λ sent. AtSlot P.plugin from.now.slot stores.old.items (λ store.
-        Sends store moments.old moments.new from.now number (K.sink sink.old) (K.sink sink.new) sent)) }
+        SendsLines store moments.old moments.new from.now number (K.sink sink.old) (K.sink sink.new) sent)) }
     ensures broken { IsErrOf result SendError.Sink → AtSlot P.plugin from.now.slot stores.old.items (λ store.
         Breaks store moments.old moments.new from.now number (K.sink sink.old) (K.sink sink.new)) }
     ensures unchanged { IsErrOf result SendError.Memory →

@@ -8,7 +8,7 @@ use Rattle.grid_model.specs.Names.{Path}
 use Rattle.grid_model.specs.Grid.{Grid}
 use Rattle.grid_model.specs.Rows.{Cat, entry_cmp, with_row}
 use Rattle.grid_model.specs.RowPaths.{collection_path}
-use Rattle.grid_model.specs.RowGrids.{Places, grid_of, item_place, user_name}
+use Rattle.grid_model.specs.RowGrids.{CollectionPaths, grid_of, item_place, user_name}
 use Rattle.grid_model.specs.Applying.{apply, apply_all, where_fits, entry_fits}
 use Rattle.grid_model.specs.declared.deltas.Delta.TheVariants as delta
 use Rattle.grid_model.specs.declared.deltas.EntryRow.{EntryRow}
@@ -44,7 +44,7 @@ module _ (c : Cat) (k : ItemKind) (id : ℕ) (p : Path) (place : item_place c (c
   key_at : (rows : List EntryRow) (e : EntryRow) → e.kind ≡ k → e.id ≡ id → key_of (with_entries c rows) e ≡ (p, user_name c e.user)
   key_at rows e kinds ids =
       let at : item_place (with_entries c rows) (collection_path (with_entries c rows)) e.kind e.id ≡ p =
-      ap (λ (paths : Places). item_place c paths e.kind e.id) (paths_same c (with_entries c rows) refl) ∙ (λ i. item_place c (collection_path c) (kinds i) (ids i)) ∙ place in
+      ap (λ (paths : CollectionPaths). item_place c paths e.kind e.id) (paths_same c (with_entries c rows) refl) ∙ (λ i. item_place c (collection_path c) (kinds i) (ids i)) ∙ place in
       ap (λ (q : Path). (q, user_name c e.user)) at
 
   abbrev of_item : List EntryRow → Type 0

@@ -54,16 +54,16 @@ second_or true b e = e
 second_or false b e = refl
 
 module _ (c : Cat) (made : IsMade c) (group member : Text) where
-  pub no_group : is_group (get (grid_of c).users group) ≡ false → users.can_join (grid_of c) group member ≡ false
+  pub no_group : is_group (get (grid_of c).users group) ≡ false → users.can_be_member (grid_of c) group member ≡ false
   no_group none = both_or (is_group (get (grid_of c).users group)) (is_person (get (grid_of c).users member)) none
 
-  pub no_person : is_person (get (grid_of c).users member) ≡ false → users.can_join (grid_of c) group member ≡ false
+  pub no_person : is_person (get (grid_of c).users member) ≡ false → users.can_be_member (grid_of c) group member ≡ false
   no_person none = second_or (is_group (get (grid_of c).users group)) (is_person (get (grid_of c).users member)) none
 
-  pub no_group_id : None ≡ id_named c group → users.can_join (grid_of c) group member ≡ false
+  pub no_group_id : None ≡ id_named c group → users.can_be_member (grid_of c) group member ≡ false
   no_group_id none = no_group (ap is_group (sym (kind_none c made group none)))
 
-  pub no_member_id : None ≡ id_named c member → users.can_join (grid_of c) group member ≡ false
+  pub no_member_id : None ≡ id_named c member → users.can_be_member (grid_of c) group member ≡ false
   no_member_id none = no_person (ap is_person (sym (kind_none c made member none)))
 
   row_passes : (p : Option UserKind → Bool) (q : UserKind → Bool) → ((k : UserKind) → p (Some k) ≡ q k) → p None ≡ false → (id : ℕ) (o : Option UserRow) → user c id ≡ o → p (option_map (λ r. r.kind) o) ≡ true
@@ -83,7 +83,7 @@ module _ (c : Cat) (made : IsMade c) (group member : Text) where
         member_is = ap (λ (x : MemberRow). user_name c x.user) is ∙ m.name_is;
         kept = kept;
         dropped = dropped;
-        joins = ap (can_join c) is ∙ and_from (rows.is_group c group_id) (rows.is_user c member_id)
+        joins = ap (can_join c) is ∙ and_from (rows.has_group c group_id) (rows.is_user c member_id)
             (row_passes is_group is_group_kind (λ k. refl) refl group_id (user c group_id) refl (ap is_group (sym g.kind_is) ∙ is_one))
             (row_passes is_person (λ k. not (is_group_kind k)) (λ k. refl) refl member_id (user c member_id) refl (ap is_person (sym m.kind_is) ∙ is_other));
         asked = and_from (is_group (get (grid_of c).users group)) (is_person (get (grid_of c).users member)) is_one is_other;
@@ -114,16 +114,16 @@ module _ (c : Cat) (made : IsMade c) (u : ℕ) (group member : Text) where
   room_is = within what.Members (size (add (grid_of c).members (group, member)))
 
   pub add_no_admin : admin ≡ false → row (grid_of c) (user_name c u) (addmember group member) ≡ Err NotAdmin
-  add_no_admin no_one i = add_tests (no_one i) (users.can_join (grid_of c) group member) (users.is_in_group (grid_of c) group member) room_is added
+  add_no_admin no_one i = add_tests (no_one i) (users.can_be_member (grid_of c) group member) (users.is_in_group (grid_of c) group member) room_is added
 
   pub drop_no_admin : admin ≡ false → row (grid_of c) (user_name c u) (rmmember group member) ≡ Err NotAdmin
-  drop_no_admin no_one i = drop_tests (no_one i) (users.can_join (grid_of c) group member) (same_text group everybody) (has (grid_of c).members (group, member)) removed
+  drop_no_admin no_one i = drop_tests (no_one i) (users.can_be_member (grid_of c) group member) (same_text group everybody) (has (grid_of c).members (group, member)) removed
 
   module _ (is_one : is_admin (get (grid_of c).users (user_name c u)) ≡ true) where
-    pub add_no_user : users.can_join (grid_of c) group member ≡ false → row (grid_of c) (user_name c u) (addmember group member) ≡ Err NoUser
+    pub add_no_user : users.can_be_member (grid_of c) group member ≡ false → row (grid_of c) (user_name c u) (addmember group member) ≡ Err NoUser
     add_no_user none i = add_tests (is_one i) (none i) (users.is_in_group (grid_of c) group member) room_is added
 
-    pub drop_no_user : users.can_join (grid_of c) group member ≡ false → row (grid_of c) (user_name c u) (rmmember group member) ≡ Err NoUser
+    pub drop_no_user : users.can_be_member (grid_of c) group member ≡ false → row (grid_of c) (user_name c u) (rmmember group member) ≡ Err NoUser
     drop_no_user none i = drop_tests (is_one i) (none i) (same_text group everybody) (has (grid_of c).members (group, member)) removed
 
     module _ (m : MemberRow) (j : Joins c group member m) where

@@ -11,7 +11,7 @@ use Rattle.grid_model.specs.Deeds.{Act, changes}
 use Rattle.grid_model.specs.Levels.{may}
 use Rattle.grid_model.specs.Rows.{Cat, has_collection, same_item}
 use Rattle.grid_model.specs.RowPaths.{collection_at, collection_path}
-use Rattle.grid_model.specs.RowGrids.{Places, collection_place, grid_of, user_name}
+use Rattle.grid_model.specs.RowGrids.{CollectionPaths, collection_place, grid_of, user_name}
 use Rattle.grid_model.specs.Applying.{IsMade, apply_all, where_fits, is_empty_collection, is_told_of, may_drop_collection}
 use Rattle.grid_model.specs.Operations.Common.{forget, is_fixed}
 use Rattle.grid_model.specs.Operations.Collections.{holds_items}
@@ -108,7 +108,7 @@ module _ (c : Cat) (made : IsMade c) (user : ℕ) (p : Path) where
           grid : grid_of (without_collection mid id) ≡ after_grid
           grid =
               grid-without_collection mid mid_sound id fits
-              ∙ ap (λ (paths : Places). record (grid_of mid) { collections = remove (grid_of mid).collections (collection_place paths id) }) (paths_same c mid refl)
+              ∙ ap (λ (paths : CollectionPaths). record (grid_of mid) { collections = remove (grid_of mid).collections (collection_place paths id) }) (paths_same c mid refl)
               ∙ ap (λ (q : Path). record (grid_of mid) { collections = remove (grid_of mid).collections q }) place
               ∙ ap (λ (g : Grid). record g { collections = remove g.collections p }) (grid-forgotten c (sound_of c made) kind.Collection id refl (at_of c id p at).there p place)
 

@@ -6,7 +6,7 @@ use Rattle.std.specs.Option.{option_map_or}
 use Rattle.std.proofs.lemmas.Bool.{and_parts, and_from, ne_eqb, lt-ltb}
 use Rattle.std.proofs.lemmas.Bool.Decides.{eqb_tells}
 use Rattle.std.proofs.lemmas.List.{append-nil, length-append}
-use Rattle.grid_model.specs.Names.{Text, Path, parent, below, is_under, same_text}
+use Rattle.grid_model.specs.Names.{Text, Path, parent, path_below, is_under, same_text}
 use Rattle.grid_model.specs.Rows.{Cat, has_collection}
 use Rattle.grid_model.specs.RowPaths.{collection_path}
 use Rattle.grid_model.specs.RowGrids.{grid_of, object_place, object_of}
@@ -25,19 +25,19 @@ use Rattle.plan_coll.proofs.PlacedCollections.{place}
 
 -- ---- paths below another one
 
-pub below_is : (b q rest : Path) → below b q ≡ Some rest → q ≡ b ++ rest
+pub below_is : (b q rest : Path) → path_below b q ≡ Some rest → q ≡ b ++ rest
 below_is [] q rest is = cc
 below_is (x ∷ b) [] rest is = absurd cc
 below_is (x ∷ b) (y ∷ q) rest is = first (same_text x y) refl is (λ inner. below_is b q rest inner)
   where
-    first : (t : Bool) → same_text x y ≡ t → elim t as (λ _. Option Path) [ true ↦ below b q | false ↦ None ] ≡ Some rest → (below b q ≡ Some rest → q ≡ b ++ rest) → y ∷ q ≡ x ∷ b ++ rest
+    first : (t : Bool) → same_text x y ≡ t → elim t as (λ _. Option Path) [ true ↦ path_below b q | false ↦ None ] ≡ Some rest → (path_below b q ≡ Some rest → q ≡ b ++ rest) → y ∷ q ≡ x ∷ b ++ rest
     first true same h inner = λ i. (sym ((same_text-Decides x y).0 same)) i ∷ inner h i
     first false same h inner = absurd cc
 
 pub under_is : (a p : Path) → is_under a p ≡ true → (n : Text) × (rest : Path) × (p ≡ a ++ n ∷ rest)
-under_is a p e = by (below a p) refl e
+under_is a p e = by (path_below a p) refl e
   where
-    by : (o : Option Path) → below a p ≡ o → option_map_or (λ rest. nat_lt 0 (length rest)) o false ≡ true → (n : Text) × (rest : Path) × (p ≡ a ++ n ∷ rest)
+    by : (o : Option Path) → path_below a p ≡ o → option_map_or (λ rest. nat_lt 0 (length rest)) o false ≡ true → (n : Text) × (rest : Path) × (p ≡ a ++ n ∷ rest)
     by None is h = absurd cc
     by (Some []) is h = absurd cc
     by (Some (n ∷ rest)) is h = (n, rest, below_is a p (n ∷ rest) is)
@@ -48,9 +48,9 @@ below_push a n rest = ap (λ (o : Option Path). option_map_or (λ r. nat_lt 0 (l
     longer : (k : ℕ) → nat_lt 0 (suc k) ≡ true
     longer k = lt-ltb 0 (suc k) (omega arith)
 
-    all : (b : Path) → below b (b ++ n ∷ rest) ≡ Some (n ∷ rest)
+    all : (b : Path) → path_below b (b ++ n ∷ rest) ≡ Some (n ∷ rest)
     all [] = refl
-    all (x ∷ b) = ap (λ t. elim t as (λ _. Option Path) [ true ↦ below b (b ++ n ∷ rest) | false ↦ None ]) ((same_text-Decides x x).1 refl) ∙ all b
+    all (x ∷ b) = ap (λ t. elim t as (λ _. Option Path) [ true ↦ path_below b (b ++ n ∷ rest) | false ↦ None ]) ((same_text-Decides x x).1 refl) ∙ all b
 
 -- the last name
 pub ends : (n : Text) (rest : Path) → (front : Path) × (last : Text) × (n ∷ rest ≡ front ++ last ∷ [])

@@ -46,7 +46,7 @@ use Rattle.plan_base.proofs.NewAccess.{HasNew, GivesNew, gives_new, hands-inheri
 use Rattle.plan_base.proofs.OtherMaps.{put-new}
 use Rattle.plan_base.proofs.PutEntries.{with_entries}
 use Rattle.plan_base.proofs.Sizes.{size-collections, size-access}
-use Rattle.plan_coll.specs.NewCollections.{Makes}
+use Rattle.plan_coll.specs.NewCollections.{MakesCollection}
 
 -- ---- the row of the operation, test by test
 
@@ -63,7 +63,7 @@ module _ (c : Cat) (made : IsMade c) (user parent : ℕ) (p : Path) (its_user : 
   in_row : mkdir_row (grid_of c) (user_name c user) p ≡ tests_in (grid_of c) (user_name c user) p inside.above
   in_row = ap (λ (x : Or Path). x >>= tests_in (grid_of c) (user_name c user) p) inside.is_above
 
-  module _ (allowed : may (grid_of c) (user_name c user) inside.above Write ≡ true) (none : is_taken (grid_of c) p ≡ false) (deltas : List Delta) (makes : Makes c user parent p deltas) where
+  module _ (allowed : may (grid_of c) (user_name c user) inside.above Write ≡ true) (none : is_taken (grid_of c) p ≡ false) (deltas : List Delta) (makes : MakesCollection c user parent p deltas) where
     abbrev r : CollectionRow
     r = makes.row
 

@@ -48,7 +48,7 @@ use Rattle.plan_base.proofs.AtPaths.{sound_of, paths_of, not_taken-free, taken-a
 use Rattle.plan_base.proofs.FixedPaths.{tells_root}
 use Rattle.plan_base.proofs.Mere.{is_mere, plan_of}
 use Rattle.plan_base.proofs.OtherMaps.{put-new}
-use Rattle.plan_coll.specs.Moving.{IsLast, MovesCollection, MovesObject}
+use Rattle.plan_coll.specs.Moving.{IsLastName, MovesCollection, MovesObject}
 use Rattle.plan_coll.proofs.HeldItems.{below_is, below_push}
 use Rattle.plan_coll.proofs.MovedFiles.{plan_of_object}
 use Rattle.plan_coll.proofs.PlacedCollections.{place, Begins, fits_again}
@@ -104,7 +104,7 @@ module _ (c : Cat) (made : IsMade c) (user : ℕ) (a b : Path) where
 
 -- ---- where it goes
 
-module _ (c : Cat) (made : IsMade c) (a b : Path) (parent : ℕ) (inside : LiesIn c b parent) (none : is_taken (grid_of c) b ≡ false) (name : Text) (last : IsLast b name) where
+module _ (c : Cat) (made : IsMade c) (a b : Path) (parent : ℕ) (inside : LiesIn c b parent) (none : is_taken (grid_of c) b ≡ false) (name : Text) (last : IsLastName b name) where
   s : IsSound c
   s = sound_of c made
 

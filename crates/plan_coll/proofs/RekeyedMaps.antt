@@ -8,7 +8,7 @@ use Rattle.std.specs.Cmp.{IsTotalOrder}
 use Rattle.std.specs.FinMap.{IsAntisymmetric}
 use Rattle.grid_model.specs.Maps.{put, from_list, rekey}
 use Rattle.grid_model.specs.Moves.{moved}
-use Rattle.grid_model.specs.Names.{Path, below}
+use Rattle.grid_model.specs.Names.{Path, path_below}
 use Rattle.grid_model.proofs.Comparing.{eq_by_cmp-Decides}
 use Rattle.grid_model.proofs.FoundRows.{is_some-find}
 use Rattle.tables_laws.proofs.Rows.{IsIn, in_from_find, any_from_in}
@@ -40,8 +40,8 @@ module _ {K V X : Type 0} {R : K → K → Ordering} (o : IsTotalOrder R) (same 
           ap Some (sym y.3 ∙ ap value its)
 
 -- only what was there is moved there
-pub moved_hits : (a b q : Path) → moved a b q ≡ b → (q ≡ b → ⊥) → ((rest : Path) → below a q ≡ Some rest → q ≡ a ++ rest) → q ≡ a
-moved_hits a b q e apart spelled = by (below a q) refl e
+pub moved_hits : (a b q : Path) → moved a b q ≡ b → (q ≡ b → ⊥) → ((rest : Path) → path_below a q ≡ Some rest → q ≡ a ++ rest) → q ≡ a
+moved_hits a b q e apart spelled = by (path_below a q) refl e
   where
     none_more : (x rest : Path) → x ++ rest ≡ x → rest ≡ []
     none_more [] rest is = is
@@ -51,6 +51,6 @@ moved_hits a b q e apart spelled = by (below a q) refl e
     trailing [] = refl
     trailing (n ∷ x) = ap (λ (y : Path). n ∷ y) (trailing x)
 
-    by : (o : Option Path) → below a q ≡ o → elim o as (λ _. Path) [ Some rest ↦ b ++ rest | None ↦ q ] ≡ b → q ≡ a
+    by : (o : Option Path) → path_below a q ≡ o → elim o as (λ _. Path) [ Some rest ↦ b ++ rest | None ↦ q ] ≡ b → q ≡ a
     by None is h = absurd (apart h)
     by (Some rest) is h = spelled rest is ∙ ap (λ (r : Path). a ++ r) (none_more b rest h) ∙ trailing a

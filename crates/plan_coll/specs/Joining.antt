@@ -16,4 +16,4 @@ pub record Joins (c : Cat) (group member : Text) (m : MemberRow) : Type 0 where
   pub joins : can_join c m ≡ true
   pub kept : IsTrue (can_be_kept (delta.Member m))
   pub dropped : IsTrue (can_be_kept (delta.NoMember m))
-  pub asked : users.can_join (grid_of c) group member ≡ true
+  pub asked : users.can_be_member (grid_of c) group member ≡ true

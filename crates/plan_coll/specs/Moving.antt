@@ -10,7 +10,7 @@ use Rattle.grid_model.specs.declared.deltas.ObjectRow.{ObjectRow}
 use Rattle.grid_journal.specs.Journal.{can_be_kept}
 
 -- the last name of the path
-pub record IsLast (p : Path) (name : Text) : Type 0 where
+pub record IsLastName (p : Path) (name : Text) : Type 0 where
   -- the names before it
   pub front : Path
   pub path_is : p ≡ front ++ name ∷ []
@@ -19,7 +19,7 @@ pub record IsLast (p : Path) (name : Text) : Type 0 where
 -- the row of the collection with this id is put with this parent, under the last name of the path
 pub record MovesCollection (c : Cat) (id parent : ℕ) (p : Path) (deltas : List Delta) : Type 0 where
   pub name : Text
-  pub last : IsLast p name
+  pub last : IsLastName p name
   pub old : CollectionRow
   pub found : collection c id ≡ Some old
   pub deltas_are : deltas ≡ delta.Collection (record { id = id; parent = parent; name = name; inherit = old.inherit }) ∷ []
@@ -28,7 +28,7 @@ pub record MovesCollection (c : Cat) (id parent : ℕ) (p : Path) (deltas : List
 -- the same of an object, with what was last written
 pub record MovesObject (c : Cat) (id parent : ℕ) (p : Path) (deltas : List Delta) : Type 0 where
   pub name : Text
-  pub last : IsLast p name
+  pub last : IsLastName p name
   pub old : ObjectRow
   pub found : object c id ≡ Some old
   pub deltas_are : deltas ≡ delta.Object (record old { collection = parent; name = name }) ∷ []

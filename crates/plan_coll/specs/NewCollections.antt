@@ -23,7 +23,7 @@ pub record IsRowFor (c : Cat) (parent : ℕ) (p : Path) (r : CollectionRow) : Ty
   pub spelled : IsTrue (can_be_kept (delta.Collection r))
 
 -- the row is put, and then the access of the user who makes it and what is handed on
-pub record Makes (c : Cat) (user parent : ℕ) (p : Path) (deltas : List Delta) : Type 0 where
+pub record MakesCollection (c : Cat) (user parent : ℕ) (p : Path) (deltas : List Delta) : Type 0 where
   pub row : CollectionRow
   pub is_row : IsRowFor c parent p row
   pub deltas_are : deltas ≡ delta.Collection row ∷ new_entries c user parent kind.Collection row.id

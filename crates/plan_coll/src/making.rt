@@ -7,7 +7,7 @@ ghost use Rattle.grid_model.specs.Operations.Table.{mkdir};
 ghost use Rattle.grid_model.specs.RowGrids.{grid_of, user_name};
 ghost use Rattle.plan_base.specs.Found.{LiesIn};
 ghost use Rattle.plan_base.specs.Plans.{PlansChange};
-ghost use Rattle.plan_coll.specs.NewCollections.{IsRowFor, Makes};
+ghost use Rattle.plan_coll.specs.NewCollections.{IsRowFor, MakesCollection};
 
 use grid_model::{
     CollectionRow, Delta, Deltas, Item, ItemKind, Level, Path, PlanError, Refusal, Text,
@@ -63,7 +63,7 @@ fn new_collection(
 ) -> Result<Deltas, AllocError>
     requires made { IsMade tables.now }
     requires inside { LiesIn tables.now path.now parent }
-    ensures { IfOk result (Makes tables.now user parent path.now) }
+    ensures { IfOk result (MakesCollection tables.now user parent path.now) }
 {
     let row = new_row(alloc, tables, parent, path)?;
     let id = row.id;

@@ -4,7 +4,7 @@ ghost use Rattle.grid_model.specs.Applying.{IsMade, is_user};
 ghost use Rattle.grid_model.specs.Grid.{everybody};
 ghost use Rattle.grid_model.specs.Names.{same_text};
 ghost use Rattle.grid_model.specs.Operations.Table.{addmember, rmmember};
-ghost use Rattle.grid_model.specs.Operations.Users.{can_join};
+ghost use Rattle.grid_model.specs.Operations.Users.{can_be_member};
 ghost use Rattle.grid_model.specs.RowGrids.{grid_of, user_name};
 ghost use Rattle.grid_model.specs.declared.deltas.Delta.TheVariants as delta;
 ghost use Rattle.plan_base.specs.Plans.{PlansChange};
@@ -90,7 +90,7 @@ fn is_everybody(group: &Text) -> bool
 // The group and the user of these names, none where the one is no group or the other no user.
 fn member_row(tables: &Tables, group: &Text, member: &Text) -> Option<MemberRow>
     requires { IsMade tables.now }
-    ensures { MatchOption result (can_join (grid_of tables.now) group.now member.now ≡ false) (Joins tables.now group.now member.now) }
+    ensures { MatchOption result (can_be_member (grid_of tables.now) group.now member.now ≡ false) (Joins tables.now group.now member.now) }
 {
     if !is_group(kind_named(tables, group)) {
         return None;

@@ -7,7 +7,7 @@ ghost use Rattle.grid_model.specs.RowGrids.{user_name};
 ghost use Rattle.grid_model.specs.Rows.{has_collection, has_object};
 ghost use Rattle.grid_model.specs.declared.deltas.Delta.TheVariants as delta;
 ghost use Rattle.plan_base.specs.Plans.{PlansChange};
-ghost use Rattle.plan_coll.specs.Moving.{IsLast, MovesCollection, MovesObject};
+ghost use Rattle.plan_coll.specs.Moving.{IsLastName, MovesCollection, MovesObject};
 
 use crate::collections::collection_row;
 use grid_model::{Delta, Deltas, Digest, Item, Level, ObjectRow, Path, PlanError, Refusal, Text};
@@ -141,7 +141,7 @@ fn object_row(
 // The last name of the path.
 fn last_name(path: &Path) -> &[u8]
     requires { path.now ≢ [] }
-    ensures { IsLast path.now result.now }
+    ensures { IsLastName path.now result.now }
 {
     match path.names().split_last() {
         None => unreachable!(),

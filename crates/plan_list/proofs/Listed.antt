@@ -15,7 +15,7 @@ use Rattle.grid_model.specs.MapLists.{values}
 use Rattle.grid_model.specs.Names.{Text, Path, path_cmp, text_cmp, same_path, parent}
 use Rattle.grid_model.specs.Grid.{Grid, Object}
 use Rattle.grid_model.specs.Levels.{may}
-use Rattle.grid_model.specs.Listings.{collection_row, object_rows, replica_row, is_shown, listed, ls_rows}
+use Rattle.grid_model.specs.Listings.{collection_listing, object_rows, replica_listing, is_shown, listed, ls_rows}
 use Rattle.grid_model.specs.Refusing.{Or, ◌>>=◌, unless}
 use Rattle.grid_model.specs.Rows.{Cat, object, has_resource, replicas_of}
 use Rattle.grid_model.specs.RowPaths.{collection_at, object_at}
@@ -78,8 +78,8 @@ module _ (c : Cat) (made : IsMade c) (p : Path) where
 
   object_rows_are : (id : ℕ) (o : ObjectRow) → object c id ≡ Some o → object_rows g (p, object_of c o) ≡ item_rows c p (item.Object id)
   object_rows_are id o found =
-      ap (map (replica_row g p)) (replicas-entries c s o) ∙ map_twice (replica_row g p) (told c) (replicas_of c o.id)
-      ∙ ap (λ n. map (λ (x : ReplicaRow). replica_row g p (numbered c x)) (replicas_of c n)) id_is
+      ap (map (replica_listing g p)) (replicas-entries c s o) ∙ map_twice (replica_listing g p) (told c) (replicas_of c o.id)
+      ∙ ap (λ n. map (λ (x : ReplicaRow). replica_listing g p (numbered c x)) (replicas_of c n)) id_is
     where
       id_is : o.id ≡ id
       id_is = eqb-true o.id id (in_from_find (λ (x : ObjectRow). x.id == id) c.objects o found).1
@@ -144,14 +144,14 @@ module _ (c : Cat) (made : IsMade c) (user : Text) (p : Path) (cid : ℕ) (at : 
   kept_sorted = sorted_so (λ x y. text_cmp (item_name c x) (item_name c y)) (λ x y. path_cmp (child_path c p x) (child_path c p y)) seen items (λ x y less. path_push p (item_name c x) (item_name c y) less) children.ordered
 
   abbrev answer : Bool → Path → Option Bool → Option Object → Option (List (List Text))
-  answer b q inner outer = or_else (cond b (option_map (λ v. collection_row q ∷ []) inner) None) (cond b (option_map (λ o. object_rows (grid_of c) (q, o)) outer) None)
+  answer b q inner outer = or_else (cond b (option_map (λ v. collection_listing q ∷ []) inner) None) (cond b (option_map (λ o. object_rows (grid_of c) (q, o)) outer) None)
 
   -- what the grid shows, by what is there
   listed_is : (q : Path) → get (listed (grid_of c) user p) q ≡ answer (is_shown (grid_of c) user p q) q (get (grid_of c).collections q) (get (grid_of c).objects q)
   listed_is q =
-      get-append path_cmp_total (map (λ e. (e.0, collection_row e.0 ∷ [])) (filter (λ e. is_shown (grid_of c) user p e.0) (grid_of c).collections.entries))
+      get-append path_cmp_total (map (λ e. (e.0, collection_listing e.0 ∷ [])) (filter (λ e. is_shown (grid_of c) user p e.0) (grid_of c).collections.entries))
       (map (λ e. (e.0, object_rows (grid_of c) e)) (filter (λ e. is_shown (grid_of c) user p e.0) (grid_of c).objects.entries)) q
-      ∙ (λ i. or_else (get-kept path_cmp_total path_cmp-IsAntisymmetric (λ (e : Path × Bool). collection_row e.0 ∷ []) (is_shown (grid_of c) user p) (grid_of c).collections.entries q i)
+      ∙ (λ i. or_else (get-kept path_cmp_total path_cmp-IsAntisymmetric (λ (e : Path × Bool). collection_listing e.0 ∷ []) (is_shown (grid_of c) user p) (grid_of c).collections.entries q i)
       (get-kept path_cmp_total path_cmp-IsAntisymmetric (object_rows (grid_of c)) (is_shown (grid_of c) user p) (grid_of c).objects.entries q i))
 
   shown_child : (x : Item) → seen x ≡ true → is_shown (grid_of c) user p (child_path c p x) ≡ true

@@ -4,7 +4,7 @@ use Rattle.std.specs.List.{list_all}
 use Rattle.grid_model.specs.Names.{Text, Path}
 use Rattle.grid_model.specs.Grid.{Replica}
 use Rattle.grid_model.specs.Levels.{may}
-use Rattle.grid_model.specs.Listings.{collection_row, replica_row, ls_rows}
+use Rattle.grid_model.specs.Listings.{collection_listing, replica_listing, ls_rows}
 use Rattle.grid_model.specs.Rows.{Cat, replicas_of}
 use Rattle.grid_model.specs.RowGrids.{grid_of, replica_of}
 use Rattle.grid_model.specs.Writable.{is_word}
@@ -22,8 +22,8 @@ numbered c x = (x.number, replica_of c x)
 
 -- the rows of an item by itself, which is at the path
 abbrev pub item_rows : Cat → Path → Item → List (List Text)
-item_rows c p (item.Collection id) = collection_row p ∷ []
-item_rows c p (item.Object id) = map (λ x. replica_row (grid_of c) p (numbered c x)) (replicas_of c id)
+item_rows c p (item.Collection id) = collection_listing p ∷ []
+item_rows c p (item.Object id) = map (λ x. replica_listing (grid_of c) p (numbered c x)) (replicas_of c id)
 item_rows c p other = []
 
 -- the path of an item in the collection at this path

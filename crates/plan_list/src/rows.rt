@@ -2,7 +2,7 @@ ghost use Rattle.std.specs.Prelude.{◌≡◌, ◌++◌, decimal, map, IsTrue, I
 ghost use Rattle.std.specs.List.{AllByRecursion, list_all};
 ghost use Rattle.grid_model.specs.Applying.{IsMade};
 ghost use Rattle.grid_model.specs.Digests.{checksum};
-ghost use Rattle.grid_model.specs.Listings.{collection_row, replica_row, status_text};
+ghost use Rattle.grid_model.specs.Listings.{collection_listing, replica_listing, status_text};
 ghost use Rattle.grid_model.specs.Names.{print_path};
 ghost use Rattle.grid_model.specs.RowGrids.{grid_of};
 ghost use Rattle.grid_model.specs.Rows.{has_resource, replicas_of};
@@ -38,7 +38,7 @@ pub(crate) fn item_rows(
 
 // The row of a collection at the path.
 fn collection_row(alloc: Global, path: &Path) -> Result<Texts, AllocError>
-    ensures row { IfOk result (λ row. row ≡ collection_row path.now) }
+    ensures row { IfOk result (λ row. row ≡ collection_listing path.now) }
     ensures words { IfOk result (λ row. IsTrue (list_all is_word row)) }
 {
     let kind = Text::copy_of(alloc, b"C")?;
@@ -55,7 +55,7 @@ fn replica_rows(
 ) -> Result<Vec<Texts>, AllocError>
     requires made { IsMade tables.now }
     requires leaves { AllByRecursion (λ x. IsTrue (has_resource tables.now x.leaf)) replicas.now }
-    ensures rows { IfOk result (λ rows. rows.items ≡ map (λ x. replica_row (grid_of tables.now) path.now (numbered tables.now x)) replicas.now) }
+    ensures rows { IfOk result (λ rows. rows.items ≡ map (λ x. replica_listing (grid_of tables.now) path.now (numbered tables.now x)) replicas.now) }
     ensures words { IfOk result (λ rows. IsTrue (list_all (list_all is_word) rows.items)) }
 {
     let mut rows = Vec::new(alloc);
@@ -74,7 +74,7 @@ fn replica_row(
 ) -> Result<Texts, AllocError>
     requires made { IsMade tables.now }
     requires leaf { IsTrue (has_resource tables.now replica.now.leaf) }
-    ensures row { IfOk result (λ row. row ≡ replica_row (grid_of tables.now) path.now (numbered tables.now replica.now)) }
+    ensures row { IfOk result (λ row. row ≡ replica_listing (grid_of tables.now) path.now (numbered tables.now replica.now)) }
     ensures words { IfOk result (λ row. IsTrue (list_all is_word row)) }
 {
     let kind = Text::copy_of(alloc, b"D")?;

@@ -29,7 +29,7 @@ use Rattle.grid_model.specs.declared.refusal.TreeCause.TheVariants.{Leaf, HasPar
 use Rattle.grid_model.proofs.Comparing.{text_cmp_total, same_text-Decides}
 use Rattle.grid_model.proofs.MapLemmas.{get-put}
 use Rattle.grid_journal.specs.Journal.{can_be_kept}
-use Rattle.grid_tree.specs.Ordered.{AreInOrder, child_of}
+use Rattle.grid_tree.specs.Ordered.{AreByPlace, child_of}
 use Rattle.grid_tree.specs.Steps.{lies_below}
 use Rattle.grid_tree.specs.declared.siblings.Child.{Child}
 use Rattle.grid_tree.proofs.ChildLemmas.{children_named, row_of_kid, kid_of_row, kids_sorted}
@@ -134,7 +134,7 @@ module _ (c : Cat) (made : IsMade c) (u : ℕ) (p ch : Text) (one : is_admin (ge
           pub cycle : is_above ≡ true → row (grid_of c) (user_name c u) (addchild p ch) ≡ Err (BadTree Cycle)
           cycle is = to_checks ∙ (λ i. checked (node i) (free i) ((sym above_so ∙ is) i) (is_full tree p upper.kind) (next (resource_of c lower)))
 
-          module _ (outside : is_in tree (resource_name c lower.id) (resource_name c upper.id) ≡ false) (kids : List Child) (ordered : AreInOrder c upper.id kids) where
+          module _ (outside : is_in tree (resource_name c lower.id) (resource_name c upper.id) ≡ false) (kids : List Child) (ordered : AreByPlace c upper.id kids) where
             children_count : length (children tree p) ≡ length kids
             children_count =
                 let named = children_named c made upper.id upper_there (map child_of (filter (lies_below upper.id) c.resources)) kids refl ordered.are ordered.rise (map (λ (k : Child). k.id) kids) refl in

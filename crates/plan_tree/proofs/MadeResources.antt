@@ -16,7 +16,7 @@ use Rattle.grid_model.specs.RowGrids.{grid_of, resource_of, user_name}
 use Rattle.grid_model.specs.Applying as rows
 use Rattle.grid_model.specs.Applying.{IsMade, is_storage, resource_fits}
 use Rattle.grid_model.specs.Operations.Resources as operations
-use Rattle.grid_model.specs.Operations.Resources.{new_resource, slot_fits}
+use Rattle.grid_model.specs.Operations.Resources.{new_resource, can_stand_at}
 use Rattle.grid_model.specs.Operations.Table.{mkresc, row}
 use Rattle.grid_model.specs.Siblings.{beside}
 use Rattle.grid_model.specs.declared.deltas.Delta.{Delta}
@@ -76,7 +76,7 @@ few_resources n x room = by (nat_le (n + 1) 256) refl room
     by false is e = absurd cc
 
 -- a slot that the definition lets pass fits the row
-slot_so : (c : Cat) (kind : ResourceKind) (slot : ℕ) → ((kind ≡ Storage → ⊥) → slot ≡ 0) → slot_fits kind slot c.stores ≡ true → rows.slot_fits c kind slot ≡ true
+slot_so : (c : Cat) (kind : ResourceKind) (slot : ℕ) → ((kind ≡ Storage → ⊥) → slot ≡ 0) → can_stand_at kind slot c.stores ≡ true → rows.slot_fits c kind slot ≡ true
 slot_so c Storage slot plain fits = fits
 slot_so c Passthru slot plain fits = eq-eqb slot 0 (plain (λ e. absurd cc))
 slot_so c Random slot plain fits = eq-eqb slot 0 (plain (λ e. absurd cc))
@@ -90,13 +90,13 @@ module _ (c : Cat) (made : IsMade c) (u : ℕ) (name : Text) (kind : ResourceKin
   rooted = rooted-made c made
 
   abbrev new : Grid
-  new = operations.with_resource (grid_of c) name kind slot
+  new = operations.grid_with_resource (grid_of c) name kind slot
 
   abbrev room_is : Or ⊤
   room_is = within what.Resources (size new.resources)
 
   abbrev slot_is : Or ⊤
-  slot_is = unless (slot_fits kind slot c.stores) (NoSlot slot)
+  slot_is = unless (can_stand_at kind slot c.stores) (NoSlot slot)
 
   pub taken : (b : Bool) (found : Option ℕ) → found ≡ resource_id_named c name → b ≡ is_some found → b ≡ true → row (grid_of c) (user_name c u) (mkresc name kind slot) ≡ Err Exists
   taken b found is b_is so i = tests (one i) ((has-resources c name ∙ ap is_some (sym is) ∙ sym b_is ∙ so) i) room_is slot_is new
@@ -118,7 +118,7 @@ module _ (c : Cat) (made : IsMade c) (u : ℕ) (name : Text) (kind : ResourceKin
       to_slot : row (grid_of c) (user_name c u) (mkresc name kind slot) ≡ (slot_is >>= (λ _. Ok (changes new)))
       to_slot = to_room (Ok x) room
 
-      pub no_slot : slot_fits kind slot c.stores ≡ false → row (grid_of c) (user_name c u) (mkresc name kind slot) ≡ Err (NoSlot slot)
+      pub no_slot : can_stand_at kind slot c.stores ≡ false → row (grid_of c) (user_name c u) (mkresc name kind slot) ≡ Err (NoSlot slot)
       no_slot none = to_slot ∙ ap (λ t. unless t (NoSlot slot) >>= (λ _. Ok (changes new))) none
 
       module _ (own : ℕ) (has_slot : IsSlotFor c kind slot own) (given : ResourceRow) (its : IsResourceFor c name kind own given) where

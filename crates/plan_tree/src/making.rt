@@ -1,7 +1,7 @@
 ghost use Rattle.std.specs.Prelude.{◌≡◌, ◌<◌, false, length, IsTrue, IfOk, MatchOption};
 ghost use Rattle.grid_model.specs.Applying.{IsMade, is_user};
 ghost use Rattle.grid_model.specs.Names.{is_name};
-ghost use Rattle.grid_model.specs.Operations.Resources.{slot_fits};
+ghost use Rattle.grid_model.specs.Operations.Resources.{can_stand_at};
 ghost use Rattle.grid_model.specs.Operations.Table.{mkresc};
 ghost use Rattle.grid_model.specs.RowGrids.{user_name};
 ghost use Rattle.grid_model.specs.declared.grid.ResourceKind.TheVariants.{Storage};
@@ -56,7 +56,7 @@ pub fn plan_mkresc(
 // The slot of a resource of this kind, none where it has to be that of a store and is not.
 fn own_slot(tables: &Tables, kind: ResourceKind, slot: u64) -> Option<u8>
     requires { (kind ≡ Storage → ⊥) → slot ≡ 0 }
-    ensures { MatchOption result (slot_fits kind slot tables.now.stores ≡ false) (IsSlotFor tables.now kind slot) }
+    ensures { MatchOption result (can_stand_at kind slot tables.now.stores ≡ false) (IsSlotFor tables.now kind slot) }
 {
     if !keeps_files(kind) {
         return Some(0);

@@ -5,7 +5,7 @@ use Rattle.std.specs.List.{list_all}
 use Rattle.std.proofs.lemmas.Bool.{both_ways, eqb-true}
 use Rattle.std.proofs.lemmas.List.{append-nil, take_rest, take-append-drop, length-append}
 use Rattle.grid_model.specs.Names.{Text}
-use Rattle.grid_model.specs.QueryTokens.{Token, Sign, equal, not_equal, less, greater, at_most, at_least, literal, comma, sign, sign_text, makes_longer, is_word_byte, goes_on, quote_follows, Closes, closed, plain, twice, SpellsWord, Front, a_word, a_literal, a_comma, a_sign}
+use Rattle.grid_model.specs.QueryTokens.{Token, Sign, equal, not_equal, less, greater, at_most, at_least, literal, comma, sign, sign_text, makes_longer, is_identifier_byte, goes_on, quote_follows, Closes, closed, plain, twice, SpellsQueryWord, Front, a_word, a_literal, a_comma, a_sign}
 use Rattle.query_parse.specs.Seen.{is_sign}
 use Rattle.query_parse.proofs.WordLemmas.{one_split, word_begins, one_word}
 use Rattle.query_parse.proofs.LiteralLemmas.{Reaches, never_closed, one_literal}
@@ -16,21 +16,21 @@ abbrev pub begins_sign : Text → Bool
 begins_sign text = goes_on is_sign text
 
 abbrev pub begins_word : Text → Bool
-begins_word text = goes_on is_word_byte text
+begins_word text = goes_on is_identifier_byte text
 
-quote_no_word : (b : ℕ) → (b == 0x27) ≡ true → is_word_byte b ≡ false
-quote_no_word b h = subst (λ x. is_word_byte x ≡ false) (sym (eqb-true b 0x27 h)) refl
+quote_no_word : (b : ℕ) → (b == 0x27) ≡ true → is_identifier_byte b ≡ false
+quote_no_word b h = subst (λ x. is_identifier_byte x ≡ false) (sym (eqb-true b 0x27 h)) refl
 
 quote_no_sign : (b : ℕ) → (b == 0x27) ≡ true → is_sign b ≡ false
 quote_no_sign b h = subst (λ x. is_sign x ≡ false) (sym (eqb-true b 0x27 h)) refl
 
-sign_no_word : (b : ℕ) → is_sign b ≡ true → is_word_byte b ≡ false
+sign_no_word : (b : ℕ) → is_sign b ≡ true → is_identifier_byte b ≡ false
 sign_no_word b h = by (b == 0x2C) refl (b == 0x3D) refl (b == 0x3C) refl (b == 0x3E) refl h
   where
-    at : (k : ℕ) → is_word_byte k ≡ false → (b == k) ≡ true → is_word_byte b ≡ false
-    at k never e = subst (λ x. is_word_byte x ≡ false) (sym (eqb-true b k e)) never
+    at : (k : ℕ) → is_identifier_byte k ≡ false → (b == k) ≡ true → is_identifier_byte b ≡ false
+    at k never e = subst (λ x. is_identifier_byte x ≡ false) (sym (eqb-true b k e)) never
 
-    by : (p : Bool) → (b == 0x2C) ≡ p → (q : Bool) → (b == 0x3D) ≡ q → (r : Bool) → (b == 0x3C) ≡ r → (s : Bool) → (b == 0x3E) ≡ s → p || q || r || s ≡ true → is_word_byte b ≡ false
+    by : (p : Bool) → (b == 0x2C) ≡ p → (q : Bool) → (b == 0x3D) ≡ q → (r : Bool) → (b == 0x3C) ≡ r → (s : Bool) → (b == 0x3E) ≡ s → p || q || r || s ≡ true → is_identifier_byte b ≡ false
     by true e q f r g s h t = at 0x2C refl e
     by false e true f r g s h t = at 0x3D refl f
     by false e false f true g s h t = at 0x3C refl g
@@ -42,15 +42,15 @@ apart p q never [] a b = both_ways false refl a
 apart p q never (c ∷ text) a b = both_ways (q c) (never c a) b
 
 pub quote_or_word : (text : Text) → quote_follows text ≡ true → begins_word text ≡ true → ⊥
-quote_or_word = apart (λ b. b == 0x27) is_word_byte quote_no_word
+quote_or_word = apart (λ b. b == 0x27) is_identifier_byte quote_no_word
 
 pub quote_or_sign : (text : Text) → quote_follows text ≡ true → begins_sign text ≡ true → ⊥
 quote_or_sign = apart (λ b. b == 0x27) is_sign quote_no_sign
 
 pub sign_or_word : (text : Text) → begins_sign text ≡ true → begins_word text ≡ true → ⊥
-sign_or_word = apart is_sign is_word_byte sign_no_word
+sign_or_word = apart is_sign is_identifier_byte sign_no_word
 
-pub word_first : {text : Text} (word rest : Text) → text ≡ word ++ rest → 0 < length word → list_all is_word_byte word ≡ true → begins_word text ≡ true
+pub word_first : {text : Text} (word rest : Text) → text ≡ word ++ rest → 0 < length word → list_all is_identifier_byte word ≡ true → begins_word text ≡ true
 word_first word rest e some all = ap begins_word e ∙ word_begins word rest some all
 
 pub quote_first : {text behind : Text} → text ≡ 0x27 ∷ behind → quote_follows text ≡ true
@@ -147,8 +147,8 @@ no_sign s rest e ends is = let one = sign_found s rest e ends in let none = comm
 
 pub one_front : {text rest left : Text} {t u : Token} → Front text t rest → Front text u left → SameFront t u rest left
 one_front {u = u} (a_word {rest = rest} word e some all ends spells) (a_word {rest = left} other f more every stops says) =
-    let same = one_split is_word_byte word other rest left (sym e ∙ f) all every ends stops in
-    record { token_is = one_word spells (subst (λ w. SpellsWord w u) (sym same.front_is) says); rest_is = same.rest_is }
+    let same = one_split is_identifier_byte word other rest left (sym e ∙ f) all every ends stops in
+    record { token_is = one_word spells (subst (λ w. SpellsQueryWord w u) (sym same.front_is) says); rest_is = same.rest_is }
 one_front {text = text} (a_word {rest = rest} word e some all ends spells) (a_literal behind f closes) = absurd (quote_or_word text (quote_first f) (word_first word rest e some all))
 one_front {text = text} (a_word {rest = rest} word e some all ends spells) (a_comma f) = absurd (sign_or_word text (comma_first f) (word_first word rest e some all))
 one_front {text = text} (a_word {rest = rest} word e some all ends spells) (a_sign {rest = left} s f stops) = absurd (sign_or_word text (sign_first s left f) (word_first word rest e some all))
@@ -224,16 +224,16 @@ greater_ends (x ∷ y ∷ text) b = differs y 0x3D b
 pub last_sign : (b : ℕ) → is_sign b ≡ true → b ≢ 0x2C → b ≢ 0x3D → b ≢ 0x3C → b ≡ 0x3E
 last_sign b h no_comma no_equal no_less = eqb-true b 0x3E (sym (ap (λ t. t || b == 0x3D || b == 0x3C || b == 0x3E) (differs b 0x2C no_comma) ∙ ap (λ t. t || b == 0x3C || b == 0x3E) (differs b 0x3D no_equal) ∙ ap (λ t. t || b == 0x3E) (differs b 0x3C no_less)) ∙ h)
 
-pub word_at : (text : Text) (n : ℕ) (t : Token) → n ≤ length text → goes_on is_word_byte text ≡ true → list_all is_word_byte (take n text) ≡ true → goes_on is_word_byte (drop n text) ≡ false → SpellsWord (take n text) t
+pub word_at : (text : Text) (n : ℕ) (t : Token) → n ≤ length text → goes_on is_identifier_byte text ≡ true → list_all is_identifier_byte (take n text) ≡ true → goes_on is_identifier_byte (drop n text) ≡ false → SpellsQueryWord (take n text) t
     → Front text t (take (length text - n) (drop n text))
 word_at text n t within first all ends spells = behind_is text n t (a_word (take n text) (sym (take-append-drop n text)) (some n ends) all ends spells)
   where
-    some : (k : ℕ) → goes_on is_word_byte (drop k text) ≡ false → 0 < length (take k text)
+    some : (k : ℕ) → goes_on is_identifier_byte (drop k text) ≡ false → 0 < length (take k text)
     some k h = by text k first h
       where
-        by : (s : Text) (k : ℕ) → goes_on is_word_byte s ≡ true → goes_on is_word_byte (drop k s) ≡ false → 0 < length (take k s)
+        by : (s : Text) (k : ℕ) → goes_on is_identifier_byte s ≡ true → goes_on is_identifier_byte (drop k s) ≡ false → 0 < length (take k s)
         by [] k f h = absurd (both_ways false refl f)
-        by (b ∷ s) zero f h = absurd (both_ways (is_word_byte b) h f)
+        by (b ∷ s) zero f h = absurd (both_ways (is_identifier_byte b) h f)
         by (b ∷ s) (suc k) f h = omega arith
 
 -- ---- where no token begins
@@ -251,9 +251,9 @@ pub goes_on-first : (test : ℕ → Bool) (text : Text) → 0 < length text → 
 goes_on-first test [] some = absurd (omega arith)
 goes_on-first test (b ∷ text) some = refl
 
-pub none_here : (text : Text) → 0 < length text → slice_index text 0 ≢ 0x27 → is_sign (slice_index text 0) ≡ false → is_word_byte (slice_index text 0) ≡ false → (t : Token) (rest : Text) → ¬ Front text t rest
+pub none_here : (text : Text) → 0 < length text → slice_index text 0 ≢ 0x27 → is_sign (slice_index text 0) ≡ false → is_identifier_byte (slice_index text 0) ≡ false → (t : Token) (rest : Text) → ¬ Front text t rest
 none_here text some quote signed word =
-    no_front text (goes_on-first (λ b. b == 0x27) text some ∙ differs (slice_index text 0) 0x27 quote) (goes_on-first is_sign text some ∙ signed) (goes_on-first is_word_byte text some ∙ word)
+    no_front text (goes_on-first (λ b. b == 0x27) text some ∙ differs (slice_index text 0) 0x27 quote) (goes_on-first is_sign text some ∙ signed) (goes_on-first is_identifier_byte text some ∙ word)
 
 -- ---- a token takes some bytes
 

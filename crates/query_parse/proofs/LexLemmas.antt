@@ -4,7 +4,7 @@ use Rattle.std.specs.Prelude.{◌==◌, slice_index}
 use Rattle.std.proofs.lemmas.Bool.{both_ways, eqb-true}
 use Rattle.std.proofs.lemmas.List.{append_assoc, append-nil, nil_from_length}
 use Rattle.grid_model.specs.Names.{Text}
-use Rattle.grid_model.specs.QueryTokens.{Token, Placed, wrong, is_word_byte, quote_follows, Front, SpellsTokens}
+use Rattle.grid_model.specs.QueryTokens.{Token, Placed, wrong, is_identifier_byte, quote_follows, Front, SpellsTokens}
 use Rattle.query_parse.specs.Seen.{is_sign}
 use Rattle.grid_model.specs.QueryTokens as tokens
 use Rattle.query_parse.proofs.LiteralLemmas.{head_is, tail_is}
@@ -38,7 +38,7 @@ read_all text found rest r none = subst (λ x. SpellsTokens (length text) text x
 -- ---- one list of tokens
 
 -- a byte that begins no token
-never : (b : ℕ) → (b == 0x27) ≡ false → is_sign b ≡ false → is_word_byte b ≡ false → {text behind rest : Text} {t : Token} → text ≡ b ∷ behind → Front text t rest → ⊥
+never : (b : ℕ) → (b == 0x27) ≡ false → is_sign b ≡ false → is_identifier_byte b ≡ false → {text behind rest : Text} {t : Token} → text ≡ b ∷ behind → Front text t rest → ⊥
 never b quote signed word {text = text} {rest = rest} {t = t} e f =
     no_front text (ap quote_follows e ∙ quote) (ap begins_sign e ∙ signed) (ap begins_word e ∙ word) t rest f
 

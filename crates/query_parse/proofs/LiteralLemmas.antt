@@ -4,7 +4,7 @@ use Rattle.std.proofs.lemmas.Bool.{both_ways}
 use Rattle.std.proofs.lemmas.List.{append_assoc}
 use Rattle.grid_model.specs.Names.{Text}
 use Rattle.grid_model.specs.QueryTokens.{quote_follows, Closes, closed, plain, twice}
-use Rattle.query_parse.specs.Seen.{StandsFor, itself, doubled}
+use Rattle.query_parse.specs.Seen.{SpellsLiteralByte, itself, doubled}
 
 pub head_is : {a b : ℕ} {s t : Text} → a ∷ s ≡ b ∷ t → a ≡ b
 head_is e = cc
@@ -21,7 +21,7 @@ pub reaches_none : (behind : Text) → Reaches behind [] behind
 reaches_none behind = record { lifts = λ more left h. h; lowers = λ whole left h. (whole, h) }
 
 -- where a text begins with one apostrophe and no second, the literal is closed there
-closes_behind : {b : ℕ} {rest more whole left : Text} → StandsFor rest b more → Closes rest whole left → (later : Text) × Closes more later left
+closes_behind : {b : ℕ} {rest more whole left : Text} → SpellsLiteralByte rest b more → Closes rest whole left → (later : Text) × Closes more later left
 closes_behind (itself is differs) (closed e open_still) = absurd (differs (head_is (sym is ∙ e)))
 closes_behind {left = left} (itself is differs) (plain {inner = inner} c e different h) = (inner, subst (λ t. Closes t inner left) (tail_is (sym e ∙ is)) h)
 closes_behind (itself is differs) (twice e h) = absurd (differs (head_is (sym is ∙ e)))
@@ -29,11 +29,11 @@ closes_behind (doubled is b_is) (closed {rest = rest} e open_still) = absurd (bo
 closes_behind (doubled is b_is) (plain c e different h) = absurd (different (head_is (sym e ∙ is)))
 closes_behind {left = left} (doubled is b_is) (twice {inner = inner} e h) = (inner, subst (λ t. Closes t inner left) (tail_is (tail_is (sym e ∙ is))) h)
 
-closes_before : {b : ℕ} {rest more : Text} → StandsFor rest b more → (inner left : Text) → Closes more inner left → Closes rest (b ∷ inner) left
+closes_before : {b : ℕ} {rest more : Text} → SpellsLiteralByte rest b more → (inner left : Text) → Closes more inner left → Closes rest (b ∷ inner) left
 closes_before {b = b} (itself is differs) inner left h = plain b is differs h
 closes_before {rest = rest} (doubled is b_is) inner left h = subst (λ x. Closes rest (x ∷ inner) left) (sym b_is) (twice is h)
 
-pub reaches_more : {behind inner rest more : Text} (b : ℕ) → Reaches behind inner rest → StandsFor rest b more → Reaches behind (inner ++ b ∷ []) more
+pub reaches_more : {behind inner rest more : Text} (b : ℕ) → Reaches behind inner rest → SpellsLiteralByte rest b more → Reaches behind (inner ++ b ∷ []) more
 reaches_more {behind = behind} {inner = inner} b reached stands = record {
   lifts = λ later left h. subst (λ t. Closes behind t left) (sym (append_assoc inner (b ∷ []) later)) (reached.lifts (b ∷ later) left (closes_before stands later left h));
   lowers = λ whole left h. closes_behind stands (reached.lowers whole left h).1;

@@ -5,7 +5,7 @@ use Rattle.std.specs.List.{list_all}
 use Rattle.std.proofs.lemmas.Bool.{both_ways, eqb-true}
 use Rattle.std.proofs.lemmas.List.{append_assoc}
 use Rattle.grid_model.specs.Names.{Text}
-use Rattle.grid_model.specs.QueryTokens.{Token, Placed, Keyword, select_word, where_word, and_word, like_word, not_word, Sign, equal, not_equal, less, greater, at_most, at_least, keyword, column, literal, comma, sign, wrong, keyword_text, column_text, sign_text, makes_longer, goes_on, is_word_byte, quote_follows, a_keyword, a_column, Closes, closed, plain, twice, Front, a_word, a_literal, a_comma, a_sign, SpellsTokens, nothing, space, token}
+use Rattle.grid_model.specs.QueryTokens.{Token, Placed, Keyword, select_word, where_word, and_word, like_word, not_word, Sign, equal, not_equal, less, greater, at_most, at_least, keyword, column, literal, comma, sign, wrong, keyword_text, column_text, sign_text, makes_longer, goes_on, is_identifier_byte, quote_follows, a_keyword, a_column, Closes, closed, plain, twice, Front, a_word, a_literal, a_comma, a_sign, SpellsTokens, nothing, space, token}
 use Rattle.grid_model.specs.QueryText.{SpellsColumns, last_column, next_column, SpellsOp, compares, likes, likes_not, SpellsCond, a_cond, SpellsConds, last_cond, next_cond, SpellsQuery, without_conds, with_conds, kinds, HasText}
 use Rattle.grid_model.specs.declared.queries.Column.{Column}
 use Rattle.grid_model.specs.declared.queries.Column.TheVariants.{CollName, DataName, MetaDataAttrName, MetaDataAttrValue, MetaDataAttrUnits, DataModifyTime, DataSize, DataReplNum, DataReplStatus, DataRescHier, DataChecksum}
@@ -35,7 +35,7 @@ keyword_front and_word rest = a_word (keyword_text and_word) refl (omega arith) 
 keyword_front like_word rest = a_word (keyword_text like_word) refl (omega arith) refl refl (a_keyword like_word refl)
 keyword_front not_word rest = a_word (keyword_text not_word) refl (omega arith) refl refl (a_keyword not_word refl)
 
-column_word : (c : Column) → (0 < length (column_text c)) × (list_all is_word_byte (column_text c) ≡ true)
+column_word : (c : Column) → (0 < length (column_text c)) × (list_all is_identifier_byte (column_text c) ≡ true)
 column_word CollName = (omega arith, refl)
 column_word DataName = (omega arith, refl)
 column_word MetaDataAttrName = (omega arith, refl)

@@ -3,7 +3,7 @@ use Rattle.std.proofs.Common.{◌≡◌, ℕ, List, [], ◌∷◌, ◌++◌, Opt
 use Rattle.std.specs.Prelude.{◌⊎◌, IfOk, IsErrOf, MatchResult}
 use Rattle.grid_model.specs.Names.{Text}
 use Rattle.grid_model.specs.QueryTokens.{Token, Placed, Sign, equal, not_equal, less, greater, at_most, at_least, keyword, column, literal, comma, sign, select_word, where_word, and_word, SpellsTokens}
-use Rattle.grid_model.specs.QueryText.{SpellsColumns, last_column, next_column, op_of, SpellsOp, compares, likes, likes_not, SpellsCond, a_cond, SpellsConds, last_cond, next_cond, SpellsQuery, without_conds, with_conds, kinds, place_of, StopsAt, IsQueryText, IsRefusedQuery, HaveSameTokens}
+use Rattle.grid_model.specs.QueryText.{SpellsColumns, last_column, next_column, op_of, SpellsOp, compares, likes, likes_not, SpellsCond, a_cond, SpellsConds, last_cond, next_cond, SpellsQuery, without_conds, with_conds, kinds, token_place, StopsAt, IsQueryText, IsRefusedQuery, HaveSameTokens}
 use Rattle.grid_model.specs.declared.queries.Column.{Column}
 use Rattle.grid_model.specs.declared.queries.Cond.{Cond}
 use Rattle.grid_model.specs.declared.queries.Op.{Op}
@@ -21,7 +21,7 @@ pub one_text : {text : Text} {q r : Query} → IsQueryText text q → IsQueryTex
 one_text {r = r} a b = one_query a.spells (subst (λ ts. SpellsQuery (kinds ts) r) (one_list b.made a.made) b.spells)
 
 one_stop : {ts : List Placed} {end place other : ℕ} → StopsAt ts end place → StopsAt ts end other → place ≡ other
-one_stop {ts = ts} {end = end} a b = a.place_is ∙ ap (place_of ts end) (IsRefusedAt-unique SpellsQuery (kinds ts) a.count b.count a.refused b.refused) ∙ sym b.place_is
+one_stop {ts = ts} {end = end} a b = a.place_is ∙ ap (token_place ts end) (IsRefusedAt-unique SpellsQuery (kinds ts) a.count b.count a.refused b.refused) ∙ sym b.place_is
 
 pub one_place : {text : Text} {place other : ℕ} → IsRefusedQuery text place → IsRefusedQuery text other → place ≡ other
 one_place {text = text} {other = other} a b = one_stop a.stops (subst (λ ts. StopsAt ts (length text) other) (one_list b.made a.made) b.stops)

@@ -7,7 +7,7 @@ use Rattle.std.proofs.lemmas.Bool.{both_ways}
 use Rattle.std.proofs.lemmas.List.{drop_more}
 use Rattle.std.proofs.lemmas.Slice.Eq.{bytes_eq-Decides}
 use Rattle.grid_model.specs.Names.{Text}
-use Rattle.grid_model.specs.QueryTokens.{Token, Keyword, select_word, where_word, and_word, like_word, not_word, keyword_text, column_text, is_word_byte, goes_on, SpellsWord, a_keyword, a_column, another, keyword, column}
+use Rattle.grid_model.specs.QueryTokens.{Token, Keyword, select_word, where_word, and_word, like_word, not_word, keyword_text, column_text, is_identifier_byte, goes_on, SpellsQueryWord, a_keyword, a_column, another, keyword, column}
 use Rattle.grid_model.specs.declared.queries.Column.{Column}
 use Rattle.grid_model.specs.declared.queries.Column.TheVariants.{CollName, DataName, MetaDataAttrName, MetaDataAttrValue, MetaDataAttrUnits, DataModifyTime, DataSize, DataReplNum, DataReplStatus, DataRescHier, DataChecksum}
 
@@ -34,9 +34,9 @@ one_split test (a ∷ s) (b ∷ t) rest left e p q f g =
     let same : a ≡ b = cc in
     record { front_is = (let both = more.front_is in cc); rest_is = more.rest_is }
 
-pub word_begins : (word rest : Text) → 0 < length word → list_all is_word_byte word ≡ true → goes_on is_word_byte (word ++ rest) ≡ true
+pub word_begins : (word rest : Text) → 0 < length word → list_all is_identifier_byte word ≡ true → goes_on is_identifier_byte (word ++ rest) ≡ true
 word_begins [] rest some all = absurd (omega arith)
-word_begins (b ∷ word) rest some all = (two_true (is_word_byte b) (list_all is_word_byte word) all).0
+word_begins (b ∷ word) rest some all = (two_true (is_identifier_byte b) (list_all is_identifier_byte word) all).0
 
 -- ---- which keyword a word is
 
@@ -124,7 +124,7 @@ one_column c d e = let one = found_column c in let two = found_column d in let b
 
 -- ---- which token
 
-pub one_word : {word : Text} {t u : Token} → SpellsWord word t → SpellsWord word u → t ≡ u
+pub one_word : {word : Text} {t u : Token} → SpellsQueryWord word t → SpellsQueryWord word u → t ≡ u
 one_word {word = word} (a_keyword k h) (a_keyword l g) = ap keyword (one_keyword word k l h g)
 one_word {word = word} (a_keyword k h) (a_column c e) = absurd (no_keyword word k c h e)
 one_word (a_keyword k h) (another none never) = absurd (none k h)

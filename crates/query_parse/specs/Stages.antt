@@ -33,32 +33,32 @@ step_from BehindCond (keyword and_word) = Next Subject
 step_from _ _ = Refused
 
 -- what is read of a query so far
-pub record Progress : Type 0 where
+pub record QueryProgress : Type 0 where
   pub stage : Stage
   pub columns : List Column
   pub conds : List Cond
 
-abbrev pub start : Progress
-start = record { stage = Start; columns = []; conds = [] }
+abbrev pub new_query : QueryProgress
+new_query = record { stage = Start; columns = []; conds = [] }
 
 -- with these tokens behind it, what is read so far is this query
-abbrev pub Goes : Stage → List Column → List Cond → List Token → Query → Type 0
-Goes s cs ds [] q = IsTrue (is_done s) × (q ≡ record { columns = cs; conds = ds })
-Goes s cs ds (t ∷ ts) q = elim (step_from s t) [
+abbrev pub CompletesQuery : Stage → List Column → List Cond → List Token → Query → Type 0
+CompletesQuery s cs ds [] q = IsTrue (is_done s) × (q ≡ record { columns = cs; conds = ds })
+CompletesQuery s cs ds (t ∷ ts) q = elim (step_from s t) [
   | Refused ↦ ⊥
-  | Next n ↦ Goes n cs ds ts q
-  | Show c ↦ Goes BehindColumn (cs ++ c ∷ []) ds ts q
-  | Ask d ↦ Fits d.column d.op d.literal × Goes BehindCond cs (ds ++ d ∷ []) ts q
+  | Next n ↦ CompletesQuery n cs ds ts q
+  | Show c ↦ CompletesQuery BehindColumn (cs ++ c ∷ []) ds ts q
+  | Ask d ↦ Fits d.column d.op d.literal × CompletesQuery BehindCond cs (ds ++ d ∷ []) ts q
 ]
 
-abbrev pub Ends : Progress → List Token → Query → Type 0
-Ends p ts q = Goes p.stage p.columns p.conds ts q
+abbrev pub EndsInQuery : QueryProgress → List Token → Query → Type 0
+EndsInQuery p ts q = CompletesQuery p.stage p.columns p.conds ts q
 
 -- The token leads from the one to the other.
-pub record Leads (p : Progress) (t : Token) (n : Progress) : Type 0 where
-  pub there : (ts : List Token) (q : Query) → Ends p (t ∷ ts) q → Ends n ts q
-  pub back : (ts : List Token) (q : Query) → Ends n ts q → Ends p (t ∷ ts) q
+pub record LeadsByToken (p : QueryProgress) (t : Token) (n : QueryProgress) : Type 0 where
+  pub there : (ts : List Token) (q : Query) → EndsInQuery p (t ∷ ts) q → EndsInQuery n ts q
+  pub back : (ts : List Token) (q : Query) → EndsInQuery n ts q → EndsInQuery p (t ∷ ts) q
 
 -- With the token and any behind it there is no query.
-abbrev pub IsStuck : Progress → Token → Type 0
-IsStuck p t = (ts : List Token) (q : Query) → ¬ Ends p (t ∷ ts) q
+abbrev pub LeadsNowhere : QueryProgress → Token → Type 0
+LeadsNowhere p t = (ts : List Token) (q : Query) → ¬ EndsInQuery p (t ∷ ts) q

@@ -1,6 +1,6 @@
 ghost use Rattle.std.specs.Prelude.{IfOk, map, length};
 ghost use Rattle.grid_model.specs.QueryTokens.{SpellsTokens};
-ghost use Rattle.query_parse.specs.Seen.{placed};
+ghost use Rattle.query_parse.specs.Seen.{query_token_of};
 
 use crate::front::front_of;
 use crate::token::{Kind, Token};
@@ -8,7 +8,7 @@ use std::alloc::{AllocError, Global};
 
 /// The tokens of a text. What begins none is the last, and is wrong.
 pub fn lex(alloc: Global, text: &[u8]) -> Result<Vec<Token>, AllocError>
-    ensures { IfOk result (λ tokens. SpellsTokens (length text.now) text.now (map placed tokens.items)) }
+    ensures { IfOk result (λ tokens. SpellsTokens (length text.now) text.now (map query_token_of tokens.items)) }
 {
     let mut tokens = Vec::new(alloc);
     let mut rest = text;

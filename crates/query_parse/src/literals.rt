@@ -1,6 +1,6 @@
 ghost use Rattle.std.specs.Prelude.{◌≡◌, ◌<◌, ℕ, List, length, slice_index, IfOk, MatchOption};
 ghost use Rattle.grid_model.specs.QueryTokens.{Token as Meant, Front as Begins};
-ghost use Rattle.query_parse.specs.Seen.{meaning, IsPiece};
+ghost use Rattle.query_parse.specs.Seen.{meaning, IsLiteralPiece};
 
 use crate::front::Front;
 use crate::token::Kind;
@@ -19,7 +19,7 @@ pub enum Piece<'a> {
 
 /// What stands next in a literal whose rest is this.
 fn next_piece<'a>(rest: &'a [u8]) -> Piece<'a>
-    ensures { IsPiece rest.now result }
+    ensures { IsLiteralPiece rest.now result }
 {
     if rest.is_empty() {
         return Piece::Open;

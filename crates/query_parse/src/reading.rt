@@ -1,7 +1,7 @@
 ghost use Rattle.std.specs.Prelude.{◌≡◌, ◌↔◌, false, IsTrue, IfOk, MatchOption};
 ghost use Rattle.grid_model.specs.QueryText.{Fits};
 ghost use Rattle.query_parse.specs.Seen.{meaning};
-ghost use Rattle.query_parse.specs.Stages.{start, is_done, Leads, IsStuck};
+ghost use Rattle.query_parse.specs.Stages.{new_query, is_done, LeadsByToken, LeadsNowhere};
 
 use crate::stage::{Stage, Step, is_done, step_from};
 use crate::token::Kind;
@@ -18,9 +18,9 @@ pub struct Reading {
 }
 
 impl Model for Reading {
-    ghost use Rattle.query_parse.specs.Stages.{Progress};
+    ghost use Rattle.query_parse.specs.Stages.{QueryProgress};
 
-    ghost Value = { Progress };
+    ghost Value = { QueryProgress };
 
     ghost view = { λ r. record { stage = r.stage; columns = r.columns.items; conds = r.conds.items } };
 }
@@ -44,7 +44,7 @@ fn fits(alloc: Global, cond: &Cond) -> Result<bool, AllocError>
 impl Reading {
     /// Nothing is read. It takes no memory.
     pub fn new(alloc: Global) -> Reading
-        ensures { result ≡ start }
+        ensures { result ≡ new_query }
     {
         Reading {
             stage: Stage::Start,
@@ -55,8 +55,8 @@ impl Reading {
 
     /// Reads the next token, and says whether it may stand there. Fails for want of memory alone.
     pub fn take(&mut self, alloc: Global, kind: Kind) -> Result<bool, AllocError>
-        ensures taken { IfOk result (λ taken. IsTrue taken → Leads self.old (meaning kind) self.new) }
-        ensures refused { IfOk result (λ taken. taken ≡ false → IsStuck self.old (meaning kind)) }
+        ensures taken { IfOk result (λ taken. IsTrue taken → LeadsByToken self.old (meaning kind) self.new) }
+        ensures refused { IfOk result (λ taken. taken ≡ false → LeadsNowhere self.old (meaning kind)) }
     {
         match step_from(self.stage, kind) {
             Step::Refused => Ok(false),

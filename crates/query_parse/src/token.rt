@@ -1,6 +1,6 @@
 ghost use Rattle.std.specs.Prelude.{◌≡◌};
 ghost use Rattle.grid_model.specs.QueryText.{op_of};
-ghost use Rattle.query_parse.specs.Seen.{sign_of};
+ghost use Rattle.query_parse.specs.Seen.{comparison_sign};
 
 use grid_model::{Column, Op, Text};
 
@@ -27,7 +27,7 @@ pub enum Sign {
 
 /// The operator of a sign.
 pub fn op_of(sign: Sign) -> Op
-    ensures { result ≡ op_of (sign_of sign) }
+    ensures { result ≡ op_of (comparison_sign sign) }
 {
     match sign {
         Sign::Equal => Op::Equal,

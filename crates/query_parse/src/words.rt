@@ -1,9 +1,9 @@
 ghost use Rattle.std.specs.Prelude.{◌≡◌, ◌≢◌, ◌<◌, ◌≤◌, length, take, drop, slice_index, IsTrue, MatchOption, false};
 ghost use Rattle.std.specs.List.{list_all};
 ghost use Rattle.std.specs.Str.{str_eq_ignore_ascii_case};
-ghost use Rattle.grid_model.specs.QueryTokens.{Keyword as Word, keyword_text, column_text, is_word_byte, goes_on, SpellsWord, Front as Begins};
+ghost use Rattle.grid_model.specs.QueryTokens.{Keyword as Word, keyword_text, column_text, is_identifier_byte, goes_on, SpellsQueryWord, Front as Begins};
 ghost use Rattle.grid_model.specs.declared.queries.Column.{Column};
-ghost use Rattle.query_parse.specs.Seen.{word_of, meaning};
+ghost use Rattle.query_parse.specs.Seen.{keyword_meant, meaning};
 
 use crate::front::Front;
 use crate::token::{Keyword, Kind};
@@ -11,7 +11,7 @@ use grid_model::Column;
 
 /// An ASCII letter, a digit or `_`.
 pub fn is_word_byte(byte: u8) -> bool
-    ensures { result ≡ is_word_byte byte }
+    ensures { result ≡ is_identifier_byte byte }
 {
     matches!(byte, b'A'..=b'Z' | b'a'..=b'z' | b'0'..=b'9' | b'_')
 }
@@ -19,8 +19,8 @@ pub fn is_word_byte(byte: u8) -> bool
 /// How many letters, digits and `_` stand at the front.
 fn word_len(bytes: &[u8]) -> usize
     ensures within { result ≤ length bytes.now }
-    ensures word { IsTrue (list_all is_word_byte (take result bytes.now)) }
-    ensures ends { goes_on is_word_byte (drop result bytes.now) ≡ false }
+    ensures word { IsTrue (list_all is_identifier_byte (take result bytes.now)) }
+    ensures ends { goes_on is_identifier_byte (drop result bytes.now) ≡ false }
 {
     let mut len = 0;
     while len < bytes.len() && is_word_byte(bytes[len]) {
@@ -33,7 +33,7 @@ fn word_len(bytes: &[u8]) -> usize
 fn keyword_of(word: &[u8]) -> Option<Keyword>
     ensures { MatchOption result
         ((k : Word) → ¬ IsTrue (str_eq_ignore_ascii_case word.now (keyword_text k)))
-        (λ k. IsTrue (str_eq_ignore_ascii_case word.now (keyword_text (word_of k)))) }
+        (λ k. IsTrue (str_eq_ignore_ascii_case word.now (keyword_text (keyword_meant k)))) }
 {
     if word.eq_ignore_ascii_case(b"SELECT") {
         Some(Keyword::Select)
@@ -83,7 +83,7 @@ fn column_of(word: &[u8]) -> Option<Column>
 
 /// The token that a word is.
 fn kind_of(word: &[u8]) -> Kind
-    ensures { SpellsWord word.now (meaning result) }
+    ensures { SpellsQueryWord word.now (meaning result) }
 {
     match keyword_of(word) {
         Some(keyword) => return Kind::Keyword(keyword),
@@ -96,7 +96,7 @@ fn kind_of(word: &[u8]) -> Kind
 
 /// The word at the front of what begins with a letter, a digit or `_`.
 pub fn word<'a>(text: &'a [u8]) -> Front<'a>
-    requires { IsTrue (goes_on is_word_byte text.now) }
+    requires { IsTrue (goes_on is_identifier_byte text.now) }
     ensures { Begins text.now (meaning result.kind) result.rest.now }
 {
     let len = word_len(text);

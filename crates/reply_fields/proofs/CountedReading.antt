@@ -7,7 +7,7 @@ use Rattle.grid_model.specs.Names.{Text}
 use Rattle.grid_model.specs.Places.{Begins}
 use Rattle.reply_fields.specs.declared.error.ReplyError.{ReplyError}
 use Rattle.reply_fields.specs.Fronts.{IsNoFront, IsRead, IsUnread, ReadsFrom, Then}
-use Rattle.reply_fields.specs.Spelled.{IsNumber, is_among}
+use Rattle.reply_fields.specs.Spelled.{IsNumber, is_among_bytes}
 use Rattle.reply_fields.specs.Counted.{IsCounted, IsDataPart}
 use Rattle.reply_fields.proofs.Codes.{IsCode, IsCode-Then, IsCode-same, IsNoFront-next, ReadsFrom-same, reads_first, reads_then}
 use Rattle.reply_fields.proofs.NumberReading.{Bounds, IsCode-number}
@@ -91,7 +91,7 @@ IsCount = IsNumber 1 65536 (0x0A ∷ [])
 bounds : Bounds 1 65536 (0x0A ∷ [])
 bounds = record { small = omega arith; some = omega arith; fits = omega arith; any = omega arith; apart = refl }
 
-pub only_newline : (b : ℕ) → is_among (0x0A ∷ []) b ≡ true → b ≡ 0x0A
+pub only_newline : (b : ℕ) → is_among_bytes (0x0A ∷ []) b ≡ true → b ≡ 0x0A
 only_newline b h = by (0x0A == b) refl
   where
     by : (x : Bool) → (0x0A == b) ≡ x → b ≡ 0x0A

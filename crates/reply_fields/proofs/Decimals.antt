@@ -10,7 +10,7 @@ use Rattle.std.proofs.lemmas.List.{append-nil}
 use Rattle.std.proofs.lemmas.Str.Parse.{IsNumeralModel, numerals_by_value, tells_all_ascii_digits}
 use Rattle.std.proofs.lemmas.Fmt.{decimal_is_IsNumeral_wide, decimal_digit, decimal_step, decimal_step_wide, decimal_by_steps, first_decimal, digits_decimal}
 use Rattle.grid_model.specs.Names.{Text}
-use Rattle.reply_fields.specs.Spelled.{is_no_digit, is_among}
+use Rattle.reply_fields.specs.Spelled.{is_no_digit, is_among_bytes}
 
 own : IsNumeralModel (λ ds. all_ascii_digits ds ≡ true) (digits_value 10)
 own = numerals_by_value (λ ds. all_ascii_digits ds ≡ true) tells_all_ascii_digits
@@ -106,14 +106,14 @@ more_digits (x ∷ ds) (y ∷ ns) c b u v d digit ended e =
     let rest = more_digits ds ns c b u v (and_parts (is_ascii_digit x) (all_ascii_digits ds) d).1 digit ended cc in
     (rest.0, (λ i. first i ∷ rest.1 i))
 
-pub among_all : (p : ℕ → Bool) (ends : List ℕ) (b : ℕ) → list_all p ends ≡ true → is_among ends b ≡ true → p b ≡ true
+pub among_all : (p : ℕ → Bool) (ends : List ℕ) (b : ℕ) → list_all p ends ≡ true → is_among_bytes ends b ≡ true → p b ≡ true
 among_all p [] b all h = absurd (false≢true h)
 among_all p (e ∷ ends) b all h = by (λ g. among_all p ends b (and_parts (p e) (list_all p ends) all).1 g) (e == b) refl
   where
-    by : (is_among ends b ≡ true → p b ≡ true) → (x : Bool) → (e == b) ≡ x → p b ≡ true
+    by : (is_among_bytes ends b ≡ true → p b ≡ true) → (x : Bool) → (e == b) ≡ x → p b ≡ true
     by rest true same = ap p (sym (eqb-true e b same)) ∙ (and_parts (p e) (list_all p ends) all).0
-    by rest false other = rest (ap (λ x. x || is_among ends b) (sym other) ∙ h)
+    by rest false other = rest (ap (λ x. x || is_among_bytes ends b) (sym other) ∙ h)
 
-pub first_among : (ends : List ℕ) → 0 < length ends → is_among ends (get_or ends 0 0) ≡ true
+pub first_among : (ends : List ℕ) → 0 < length ends → is_among_bytes ends (get_or ends 0 0) ≡ true
 first_among [] some = absurd (omega (arith, some))
-first_among (e ∷ ends) some = ap (λ x. x || is_among ends e) (eq-eqb e e refl)
+first_among (e ∷ ends) some = ap (λ x. x || is_among_bytes ends e) (eq-eqb e e refl)

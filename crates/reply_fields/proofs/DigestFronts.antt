@@ -9,7 +9,7 @@ use Rattle.base64.specs.Alphabets.{standard}
 use Rattle.grid_model.specs.Names.{Text}
 use Rattle.grid_model.specs.Digests.{Digest, SpellsDigest, checksum}
 use Rattle.reply_fields.specs.Fronts.{IsFront, IsNoFront}
-use Rattle.reply_fields.specs.PrintedDigests.{is_symbol, is_last_symbol, may_stand, HasDigestFront}
+use Rattle.reply_fields.specs.PrintedDigests.{is_symbol, is_last_symbol, may_stand_in_digest, HasDigestFront}
 use Rattle.reply_fields.proofs.Codes.{IsCode}
 use Rattle.reply_fields.proofs.Base64.{below, same_bytes, Decoded, decoded, Encoded, encoded}
 
@@ -60,7 +60,7 @@ digest_of s p = by (decoded 10 p.q p.x p.y p.z p.size p.all p.x_is p.y_is p.z_is
 
 -- ---- place by place
 
-stands_symbol : (i b : ℕ) → 5 ≤ i → i < 47 → may_stand i b ≡ is_symbol b
+stands_symbol : (i b : ℕ) → 5 ≤ i → i < 47 → may_stand_in_digest i b ≡ is_symbol b
 stands_symbol i b low high =
     ap (λ t. cond t (b == get_or (codes "sha2:") i 0) (cond (nat_lt i 47) (is_symbol b) (cond (nat_lt i 48) (is_last_symbol b) (b == 0x3D)))) (le-ltb i 5 low)
     ∙ ap (λ t. cond t (is_symbol b) (cond (nat_lt i 48) (is_last_symbol b) (b == 0x3D))) (lt-ltb i 47 high)
@@ -77,29 +77,29 @@ all_at p (x ∷ xs) h = and_from (p x) (list_all p xs) (h 0 (omega arith)) (all_
 behind : (q v : Text) (m : ℕ) → length q ≡ 40 → get_or (q ++ v) (40 + m) 0 ≡ get_or v m 0
 behind q v m size = ap (λ n. get_or (q ++ v) (n + m) 0) (sym size) ∙ get_or-append-add q v m 0
 
-stand_behind : (q : Text) (x y z j : ℕ) → length q ≡ 40 → list_all is_symbol q ≡ true → is_symbol x ≡ true → is_symbol y ≡ true → is_last_symbol z ≡ true → j < 44 → may_stand (5 + j) (get_or (q ++ x ∷ y ∷ z ∷ 0x3D ∷ []) j 0) ≡ true
+stand_behind : (q : Text) (x y z j : ℕ) → length q ≡ 40 → list_all is_symbol q ≡ true → is_symbol x ≡ true → is_symbol y ≡ true → is_last_symbol z ≡ true → j < 44 → may_stand_in_digest (5 + j) (get_or (q ++ x ∷ y ∷ z ∷ 0x3D ∷ []) j 0) ≡ true
 stand_behind q x y z j size all hx hy hz less = by (cases_lt j 40)
   where
     end : Text
     end = x ∷ y ∷ z ∷ 0x3D ∷ []
 
-    last : (m : ℕ) → m < 4 → may_stand (5 + (40 + m)) (get_or (q ++ x ∷ y ∷ z ∷ 0x3D ∷ []) (40 + m) 0) ≡ true
+    last : (m : ℕ) → m < 4 → may_stand_in_digest (5 + (40 + m)) (get_or (q ++ x ∷ y ∷ z ∷ 0x3D ∷ []) (40 + m) 0) ≡ true
     last zero h = ap is_symbol (behind q (x ∷ y ∷ z ∷ 0x3D ∷ []) 0 size) ∙ hx
     last (suc zero) h = ap is_symbol (behind q (x ∷ y ∷ z ∷ 0x3D ∷ []) 1 size) ∙ hy
     last (suc (suc zero)) h = ap is_last_symbol (behind q (x ∷ y ∷ z ∷ 0x3D ∷ []) 2 size) ∙ hz
     last (suc (suc (suc zero))) h = ap (λ b. b == 0x3D) (behind q (x ∷ y ∷ z ∷ 0x3D ∷ []) 3 size)
     last (suc (suc (suc (suc m)))) h = absurd (omega (arith, h))
 
-    by : (j < 40) ⊎ (40 ≤ j) → may_stand (5 + j) (get_or (q ++ x ∷ y ∷ z ∷ 0x3D ∷ []) j 0) ≡ true
+    by : (j < 40) ⊎ (40 ≤ j) → may_stand_in_digest (5 + j) (get_or (q ++ x ∷ y ∷ z ∷ 0x3D ∷ []) j 0) ≡ true
     by (inl low) =
         stands_symbol (5 + j) (get_or (q ++ x ∷ y ∷ z ∷ 0x3D ∷ []) j 0) (omega arith) (omega (arith, low))
         ∙ ap is_symbol (get_or_append_left q (x ∷ y ∷ z ∷ 0x3D ∷ []) 0 j (omega (arith, low, size)))
         ∙ at_all is_symbol q j all (omega (arith, low, size))
     by (inr high) =
         let count : 40 + (j - 40) ≡ j = omega (arith, high) in
-        subst (λ k. may_stand (5 + k) (get_or (q ++ x ∷ y ∷ z ∷ 0x3D ∷ []) k 0) ≡ true) count (last (j - 40) (omega (arith, less, high)))
+        subst (λ k. may_stand_in_digest (5 + k) (get_or (q ++ x ∷ y ∷ z ∷ 0x3D ∷ []) k 0) ≡ true) count (last (j - 40) (omega (arith, less, high)))
 
-stand_all : (q : Text) (x y z i : ℕ) → length q ≡ 40 → list_all is_symbol q ≡ true → is_symbol x ≡ true → is_symbol y ≡ true → is_last_symbol z ≡ true → i < 49 → may_stand i (get_or (codes "sha2:" ++ (q ++ x ∷ y ∷ z ∷ 0x3D ∷ [])) i 0) ≡ true
+stand_all : (q : Text) (x y z i : ℕ) → length q ≡ 40 → list_all is_symbol q ≡ true → is_symbol x ≡ true → is_symbol y ≡ true → is_last_symbol z ≡ true → i < 49 → may_stand_in_digest i (get_or (codes "sha2:" ++ (q ++ x ∷ y ∷ z ∷ 0x3D ∷ [])) i 0) ≡ true
 stand_all q x y z zero size all hx hy hz less = refl
 stand_all q x y z (suc zero) size all hx hy hz less = refl
 stand_all q x y z (suc (suc zero)) size all hx hy hz less = refl
@@ -107,12 +107,12 @@ stand_all q x y z (suc (suc (suc zero))) size all hx hy hz less = refl
 stand_all q x y z (suc (suc (suc (suc zero)))) size all hx hy hz less = refl
 stand_all q x y z (suc (suc (suc (suc (suc j))))) size all hx hy hz less =
     let count : 5 + j ≡ suc (suc (suc (suc (suc j)))) = omega arith in
-    subst (λ i. may_stand i (get_or (q ++ x ∷ y ∷ z ∷ 0x3D ∷ []) j 0) ≡ true) count (stand_behind q x y z j size all hx hy hz (omega (arith, less)))
+    subst (λ i. may_stand_in_digest i (get_or (q ++ x ∷ y ∷ z ∷ 0x3D ∷ []) j 0) ≡ true) count (stand_behind q x y z j size all hx hy hz (omega (arith, less)))
 
-digest_stands : (s : Text) (d : Digest) → SpellsDigest s d → (i : ℕ) → i < 49 → may_stand i (get_or s i 0) ≡ true
+digest_stands : (s : Text) (d : Digest) → SpellsDigest s d → (i : ℕ) → i < 49 → may_stand_in_digest i (get_or s i 0) ≡ true
 digest_stands s d p i less =
     let k = parts_of s d p in
-    ap (λ t. may_stand i (get_or t i 0)) k.is ∙ stand_all k.q k.x k.y k.z i k.size k.all k.x_is k.y_is k.z_is less
+    ap (λ t. may_stand_in_digest i (get_or t i 0)) k.is ∙ stand_all k.q k.x k.y k.z i k.size k.all k.x_is k.y_is k.z_is less
 
 digest_size : (s : Text) (d : Digest) → SpellsDigest s d → length s ≡ 49
 digest_size s d p = let k = parts_of s d p in omega (arith, ap length k.is, k.size, length-append k.q (k.x ∷ k.y ∷ k.z ∷ 0x3D ∷ []))
@@ -125,7 +125,7 @@ four (a ∷ b ∷ c ∷ []) h = absurd (omega (arith, h))
 four (a ∷ b ∷ c ∷ d ∷ []) h = refl
 four (a ∷ b ∷ c ∷ d ∷ e ∷ v) h = absurd (omega (arith, h))
 
-parts_from : (s : Text) → length s ≡ 49 → ((i : ℕ) → i < 49 → may_stand i (get_or s i 0) ≡ true) → Parts s
+parts_from : (s : Text) → length s ≡ 49 → ((i : ℕ) → i < 49 → may_stand_in_digest i (get_or s i 0) ≡ true) → Parts s
 parts_from [] size each = absurd (omega (arith, size))
 parts_from (a ∷ []) size each = absurd (omega (arith, size))
 parts_from (a ∷ b ∷ []) size each = absurd (omega (arith, size))
@@ -165,10 +165,10 @@ parts_from (a ∷ b ∷ c ∷ d ∷ e ∷ u) size each = record {
     cut : length (take 40 u) ≡ 40
     cut = length-take-le 40 u (omega (arith, size))
 
-    at_place : (j : ℕ) → j < 44 → may_stand (5 + j) (get_or u j 0) ≡ true
+    at_place : (j : ℕ) → j < 44 → may_stand_in_digest (5 + j) (get_or u j 0) ≡ true
     at_place j less =
         let count : suc (suc (suc (suc (suc j)))) ≡ 5 + j = omega arith in
-        subst (λ i. may_stand i (get_or u j 0) ≡ true) count (each (suc (suc (suc (suc (suc j))))) (omega (arith, less)))
+        subst (λ i. may_stand_in_digest i (get_or u j 0) ≡ true) count (each (suc (suc (suc (suc (suc j))))) (omega (arith, less)))
 
     padding : get_or (drop 40 u) 3 0 ≡ 0x3D
     padding = eqb-true (get_or (drop 40 u) 3 0) 0x3D (ap (λ b. b == 0x3D) (get_or-drop 40 u 3 0) ∙ at_place 43 (omega arith))
@@ -184,8 +184,8 @@ parts_from (a ∷ b ∷ c ∷ d ∷ e ∷ u) size each = record {
 abbrev some_digest : Text
 some_digest = codes "sha2:AAAAAAAAAAAAAAAAAAAAAAAAAAAAAAAAAAAAAAAAAAA="
 
-some_stands : (i : ℕ) → i < 49 → may_stand i (get_or some_digest i 0) ≡ true
-some_stands = below 49 (λ i. may_stand i (get_or some_digest i 0)) refl
+some_stands : (i : ℕ) → i < 49 → may_stand_in_digest i (get_or some_digest i 0) ≡ true
+some_stands = below 49 (λ i. may_stand_in_digest i (get_or some_digest i 0)) refl
 
 completed : (rest : Text) (n : ℕ) → HasDigestFront rest n → Parts (take n rest ++ drop n some_digest)
 completed rest n f = parts_from (take n rest ++ drop n some_digest) size each
@@ -196,15 +196,15 @@ completed rest n f = parts_from (take n rest ++ drop n some_digest) size each
     size : length (take n rest ++ drop n some_digest) ≡ 49
     size = length-append (take n rest) (drop n some_digest) ∙ omega (arith, cut, length-drop n some_digest, f.most)
 
-    each : (i : ℕ) → i < 49 → may_stand i (get_or (take n rest ++ drop n some_digest) i 0) ≡ true
+    each : (i : ℕ) → i < 49 → may_stand_in_digest i (get_or (take n rest ++ drop n some_digest) i 0) ≡ true
     each i less = by (cases_lt i n)
       where
-        by : (i < n) ⊎ (n ≤ i) → may_stand i (get_or (take n rest ++ drop n some_digest) i 0) ≡ true
-        by (inl low) = ap (may_stand i) (get_or_append_left (take n rest) (drop n some_digest) 0 i (omega (arith, low, cut)) ∙ get_or-take n rest i 0 low) ∙ f.each i low
+        by : (i < n) ⊎ (n ≤ i) → may_stand_in_digest i (get_or (take n rest ++ drop n some_digest) i 0) ≡ true
+        by (inl low) = ap (may_stand_in_digest i) (get_or_append_left (take n rest) (drop n some_digest) 0 i (omega (arith, low, cut)) ∙ get_or-take n rest i 0 low) ∙ f.each i low
         by (inr high) =
             let count : i ≡ length (take n rest) + (i - n) = omega (arith, cut, high) in
             let same : n + (i - n) ≡ i = omega (arith, high) in
-            ap (may_stand i) (ap (λ k. get_or (take n rest ++ drop n some_digest) k 0) count ∙ get_or-append-add (take n rest) (drop n some_digest) (i - n) 0 ∙ get_or-drop n some_digest (i - n) 0 ∙ ap (λ k. get_or some_digest k 0) same) ∙ some_stands i less
+            ap (may_stand_in_digest i) (ap (λ k. get_or (take n rest ++ drop n some_digest) k 0) count ∙ get_or-append-add (take n rest) (drop n some_digest) (i - n) 0 ∙ get_or-drop n some_digest (i - n) 0 ∙ ap (λ k. get_or some_digest k 0) same) ∙ some_stands i less
 
 -- a byte that may not stand there
 wrong : (rest s x y : Text) (d : Digest) (n k : ℕ) → HasDigestFront rest n → n < 49 → n < k → k ≤ length rest → SpellsDigest s d → take k rest ++ x ≡ s ++ y → ⊥
@@ -212,7 +212,7 @@ wrong rest s x y d n k f small more short p e =
     let size = digest_size s d p in
     let same : get_or s n 0 ≡ get_or rest n 0 =
     sym (get_or_append_left s y 0 n (omega (arith, small, size))) ∙ ap (λ t. get_or t n 0) (sym e) ∙ get_or_append_left (take k rest) x 0 n (omega (arith, more, length-take-le k rest short)) ∙ get_or-take k rest n 0 more in
-    false≢true (sym (f.ends small (omega (arith, more, short))) ∙ ap (may_stand n) (sym same) ∙ digest_stands s d p n small)
+    false≢true (sym (f.ends small (omega (arith, more, short))) ∙ ap (may_stand_in_digest n) (sym same) ∙ digest_stands s d p n small)
 
 pub IsNoFront-digest : (rest : Text) (n : ℕ) → HasDigestFront rest n → n < 49 → IsNoFront SpellsDigest rest n
 IsNoFront-digest rest n f small = record {

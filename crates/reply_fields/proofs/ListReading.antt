@@ -9,7 +9,7 @@ use Rattle.grid_model.specs.Words.{quoted_word}
 use Rattle.reply_fields.specs.declared.error.ReplyError.{ReplyError}
 use Rattle.reply_fields.specs.declared.error.ReplyError.TheVariants.{BadReply, Memory}
 use Rattle.reply_fields.specs.Fronts.{IsRead, ReadsFrom, Then}
-use Rattle.reply_fields.specs.Spelled.{IsEndedWord, is_among}
+use Rattle.reply_fields.specs.Spelled.{IsEndedWord, is_among_bytes}
 use Rattle.reply_fields.specs.WordLists.{IsWordList, last_word, more_words}
 use Rattle.reply_fields.proofs.Codes.{IsCode, ReadsFrom-same, reads_first, reads_then}
 use Rattle.reply_fields.proofs.WordReading.{IsCode-word}
@@ -29,7 +29,7 @@ data AfterWord : Text × ℕ → Text → List Text → Type 0 where
   ends : {r : Text × ℕ} {u : Text} {ws : List Text} → r.1 ≡ 0x0A → u ≡ [] → ws ≡ r.0 ∷ [] → AfterWord r u ws
   goes : {r : Text × ℕ} {u : Text} {ws : List Text} (others : List Text) → r.1 ≡ 0x20 → IsWordList u others → ws ≡ r.0 ∷ others → AfterWord r u ws
 
-same_ends : (text w : Text) (b : ℕ) (es fs : List ℕ) → is_among fs b ≡ true → IsEndedWord es text (w, b) → IsEndedWord fs text (w, b)
+same_ends : (text w : Text) (b : ℕ) (es fs : List ℕ) → is_among_bytes fs b ≡ true → IsEndedWord es text (w, b) → IsEndedWord fs text (w, b)
 same_ends text w b es fs among p = record { word_is = p.word_is; ends_is = among; is = p.is }
 
 to_list : (s : Text) (ws : List Text) → Then IsWord AfterWord s ws → IsWordList s ws
@@ -64,7 +64,7 @@ from_list s ws (more_words {text} {first} {rest} {w} {ws = others} split p more)
 some_list : IsWordList (0x61 ∷ 0x0A ∷ []) ((0x61 ∷ []) ∷ [])
 some_list = last_word (record { word_is = refl; ends_is = refl; is = refl })
 
-pub either_end : (b : ℕ) → is_among (0x20 ∷ 0x0A ∷ []) b ≡ true → (b ≡ 0x0A) ⊎ (b ≡ 0x20)
+pub either_end : (b : ℕ) → is_among_bytes (0x20 ∷ 0x0A ∷ []) b ≡ true → (b ≡ 0x0A) ⊎ (b ≡ 0x20)
 either_end b h = by (0x20 == b) refl (0x0A == b) refl
   where
     by : (x : Bool) → (0x20 == b) ≡ x → (y : Bool) → (0x0A == b) ≡ y → (b ≡ 0x0A) ⊎ (b ≡ 0x20)

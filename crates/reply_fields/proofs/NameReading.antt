@@ -7,7 +7,7 @@ use Rattle.std.proofs.lemmas.List.{take_all, take-append-drop, take_at, get_or-t
 use Rattle.grid_model.specs.Names.{Text}
 use Rattle.grid_model.specs.Places.{Begins}
 use Rattle.reply_fields.specs.Fronts.{IsFront, IsNoFront}
-use Rattle.reply_fields.specs.Spelled.{SharesFirst, IsNameOf, differs, are_apart}
+use Rattle.reply_fields.specs.Spelled.{SharesFirst, IsNameOf, is_apart, are_apart}
 use Rattle.reply_fields.proofs.Codes.{IsCode}
 
 -- no more bytes are shared
@@ -22,13 +22,13 @@ most_shared left right n k s in_left in_right same = by (cases_lt n k)
 
 -- ---- names of which none begins another
 
-differs-apart : (s t u v : Text) → differs s t ≡ true → s ++ u ≡ t ++ v → ⊥
+differs-apart : (s t u v : Text) → is_apart s t ≡ true → s ++ u ≡ t ++ v → ⊥
 differs-apart [] t u v d e = cc
 differs-apart (a ∷ s) [] u v d e = cc
 differs-apart (a ∷ s) (b ∷ t) u v d e = by (λ h. differs-apart s t u v h cc) (a == b) refl
   where
-    by : (differs s t ≡ true → ⊥) → (x : Bool) → (a == b) ≡ x → ⊥
-    by rest true same = rest (ap (λ x. not x || differs s t) (sym same) ∙ d)
+    by : (is_apart s t ≡ true → ⊥) → (x : Bool) → (a == b) ≡ x → ⊥
+    by rest true same = rest (ap (λ x. not x || is_apart s t) (sym same) ∙ d)
     by rest false other =
         let first : a ≡ b = cc in
         false≢true (sym other ∙ eq-eqb a b first)
@@ -41,9 +41,9 @@ at_all p (s ∷ names) (suc i) h within = at_all p names i (and_parts (p s) (lis
 one_name : (names : List Text) (i j : ℕ) (u v : Text) → are_apart names ≡ true → i < length names → j < length names → get_or names i [] ++ u ≡ get_or names j [] ++ v → i ≡ j
 one_name [] i j u v a h g e = absurd (omega (arith, h))
 one_name (s ∷ names) zero zero u v a h g e = refl
-one_name (s ∷ names) zero (suc j) u v a h g e = absurd (differs-apart s (get_or names j []) u v (at_all (differs s) names j (and_parts (list_all (differs s) names) (are_apart names) a).0 (omega (arith, g))) e)
-one_name (s ∷ names) (suc i) zero u v a h g e = absurd (differs-apart s (get_or names i []) v u (at_all (differs s) names i (and_parts (list_all (differs s) names) (are_apart names) a).0 (omega (arith, h))) (sym e))
-one_name (s ∷ names) (suc i) (suc j) u v a h g e = ap suc (one_name names i j u v (and_parts (list_all (differs s) names) (are_apart names) a).1 (omega (arith, h)) (omega (arith, g)) e)
+one_name (s ∷ names) zero (suc j) u v a h g e = absurd (differs-apart s (get_or names j []) u v (at_all (is_apart s) names j (and_parts (list_all (is_apart s) names) (are_apart names) a).0 (omega (arith, g))) e)
+one_name (s ∷ names) (suc i) zero u v a h g e = absurd (differs-apart s (get_or names i []) v u (at_all (is_apart s) names i (and_parts (list_all (is_apart s) names) (are_apart names) a).0 (omega (arith, h))) (sym e))
+one_name (s ∷ names) (suc i) (suc j) u v a h g e = ap suc (one_name names i j u v (and_parts (list_all (is_apart s) names) (are_apart names) a).1 (omega (arith, h)) (omega (arith, g)) e)
 
 pub IsCode-names : (names : List Text) → IsTrue (are_apart names) → IsCode (IsNameOf names)
 IsCode-names names apart = record {

@@ -9,7 +9,7 @@ use Rattle.std.proofs.lemmas.Fmt.{decimal_digit, decimal_nonempty}
 use Rattle.grid_model.specs.Names.{Text}
 use Rattle.grid_model.specs.Places.{Begins}
 use Rattle.reply_fields.specs.Fronts.{IsFront, IsNoFront}
-use Rattle.reply_fields.specs.Spelled.{IsNumber, is_no_digit, is_among}
+use Rattle.reply_fields.specs.Spelled.{IsNumber, is_no_digit, is_among_bytes}
 use Rattle.reply_fields.proofs.Codes.{IsCode, IsNoFront-next}
 use Rattle.reply_fields.proofs.Decimals.{decimal_some, digits-decimal, one_decimal, decimal-push, decimal-prefix, decimal-zero, same_digits, more_digits, among_all, first_among}
 
@@ -93,7 +93,7 @@ module _ (least most : ℕ) (ends : List ℕ) (bounds : Bounds least most ends) 
     next h = take_more rest len 0 h
 
     -- the next byte ends no number
-    pub IsNoFront-ended : (len < length rest → is_ascii_digit (get_or rest len 0) ≡ false) → (0 < len → len < length rest → ¬ (is_among ends (get_or rest len 0) ≡ true)) → IsNoFront (IsNumber least most ends) rest len
+    pub IsNoFront-ended : (len < length rest → is_ascii_digit (get_or rest len 0) ≡ false) → (0 < len → len < length rest → ¬ (is_among_bytes ends (get_or rest len 0) ≡ true)) → IsNoFront (IsNumber least most ends) rest len
     IsNoFront-ended no_digit no_end = IsNoFront-next (IsNumber least most ends) IsCode-number rest len t.short begun unspelled stops
       where
         stops : len < length rest → Begins (IsNumber least most ends) (take (len + 1) rest) → ⊥
@@ -104,9 +104,9 @@ module _ (least most : ℕ) (ends : List ℕ) (bounds : Bounds least most ends) 
             sym (append_assoc (take len rest) (c ∷ []) b.more) ∙ ap (λ x. x ++ b.more) (sym (next h)) ∙ p.is in
             let same = same_digits (take len rest) (decimal b.value.0) c b.value.1 b.more [] all_digits (digits-decimal b.value.0 (omega (arith, p.most_is, bounds.fits))) (ap not (no_digit h))
             (among_all is_no_digit ends b.value.1 bounds.apart p.ends_is) whole in
-            by (cases_zero len) same.0 (subst (λ x. is_among ends x ≡ true) (sym same.1) p.ends_is) (decimal_nonempty b.value.0 (omega (arith, p.most_is, bounds.fits)))
+            by (cases_zero len) same.0 (subst (λ x. is_among_bytes ends x ≡ true) (sym same.1) p.ends_is) (decimal_nonempty b.value.0 (omega (arith, p.most_is, bounds.fits)))
           where
-            by : (len ≡ 0) ⊎ (0 < len) → take len rest ≡ decimal b.value.0 → is_among ends (get_or rest len 0) ≡ true → 0 < length (decimal b.value.0) → ⊥
+            by : (len ≡ 0) ⊎ (0 < len) → take len rest ≡ decimal b.value.0 → is_among_bytes ends (get_or rest len 0) ≡ true → 0 < length (decimal b.value.0) → ⊥
             by (inl z) same end some = omega (arith, some, ap length (sym same ∙ ap (λ n. take n rest) z))
             by (inr more) same end some = no_end more h end
 
@@ -184,7 +184,7 @@ module _ (least most : ℕ) (ends : List ℕ) (bounds : Bounds least most ends) 
               digits = λ x. next h ∙ (λ i. t.digits g i ++ digit i ∷ []) ∙ decimal-push value d some small (omega (arith, t.most_is g, bounds.fits)) ∙ ap decimal (sym is);
             }
 
-    pub IsFront-number : 0 < len → len < length rest → is_among ends (get_or rest len 0) ≡ true → IsFront (IsNumber least most ends) rest (value, get_or rest len 0) (drop (len + 1) rest)
+    pub IsFront-number : 0 < len → len < length rest → is_among_bytes ends (get_or rest len 0) ≡ true → IsFront (IsNumber least most ends) rest (value, get_or rest len 0) (drop (len + 1) rest)
     IsFront-number some h end = record {
       spelled = take (len + 1) rest;
       split = sym (take-append-drop (len + 1) rest);

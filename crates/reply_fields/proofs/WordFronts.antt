@@ -11,7 +11,7 @@ use Rattle.grid_model.specs.Places.{Begins}
 use Rattle.grid_model.specs.Words.{is_bare, is_bare_byte, is_escaped, is_word_byte, quote_byte, quoted_word}
 use Rattle.grid_model.specs.Writable.{is_word}
 use Rattle.reply_fields.specs.Fronts.{IsFront, IsNoFront}
-use Rattle.reply_fields.specs.Spelled.{IsEndedWord, IsNoInnerByte, HasBareFront, is_among}
+use Rattle.reply_fields.specs.Spelled.{IsEndedWord, IsNoInnerByte, HasBareFront, is_among_bytes}
 use Rattle.reply_fields.proofs.Codes.{IsNoFront-next}
 use Rattle.reply_fields.proofs.Decimals.{first_among}
 use Rattle.reply_fields.proofs.WordReading.{Blanks, IsCode-word, Inside, Opened, opened, GoesOn, closes, escape, stands, goes_on, same_bare, bare_word_parts, bare_from_parts, written_bare, written_quoted, ended, tells}
@@ -52,7 +52,7 @@ module _ (ends : List ℕ) (blanks : Blanks ends) where
   first = get_or ends 0 0
 
   -- a closing quote and an end
-  closed_word : (front acc : Text) (e : ℕ) → front ≡ 0x22 ∷ flat_map quote_byte acc → is_word acc ≡ true → is_bare acc ≡ false → is_among ends e ≡ true → IsEndedWord ends (front ++ 0x22 ∷ e ∷ []) (acc, e)
+  closed_word : (front acc : Text) (e : ℕ) → front ≡ 0x22 ∷ flat_map quote_byte acc → is_word acc ≡ true → is_bare acc ≡ false → is_among_bytes ends e ≡ true → IsEndedWord ends (front ++ 0x22 ∷ e ∷ []) (acc, e)
   closed_word front acc e is words quotes end = record {
     word_is = words;
     ends_is = end;
@@ -88,7 +88,7 @@ module _ (ends : List ℕ) (blanks : Blanks ends) where
   opened_front front acc tail x a is p = opened acc (tail ++ x) a.0 a.1 (sym (append_assoc (0x22 ∷ flat_map quote_byte acc) tail x) ∙ ap (λ t. t ++ x) (sym is) ∙ p.is)
 
   no_front : (rest acc tail : Text) (n : ℕ) → n ≤ length rest → take n rest ≡ 0x22 ∷ flat_map quote_byte acc ++ tail → length tail ≤ 1 → Begins (IsEndedWord ends) (take n rest)
-      → (n < length rest → (x : Text) (a : Text × ℕ) → Opened acc (tail ++ get_or rest n 0 ∷ x) a.0 a.1 → is_word a.0 ≡ true → is_among ends a.1 ≡ true → ⊥) → IsNoFront (IsEndedWord ends) rest n
+      → (n < length rest → (x : Text) (a : Text × ℕ) → Opened acc (tail ++ get_or rest n 0 ∷ x) a.0 a.1 → is_word a.0 ≡ true → is_among_bytes ends a.1 ≡ true → ⊥) → IsNoFront (IsEndedWord ends) rest n
   no_front rest acc tail n within is short begun stops = IsNoFront-next (IsEndedWord ends) (IsCode-word ends blanks) rest n within begun unspelled next
     where
       unspelled : (a : Text × ℕ) → ¬ IsEndedWord ends (take n rest) a
@@ -148,17 +148,17 @@ module _ (ends : List ℕ) (blanks : Blanks ends) where
         stops h x a o (stands v plain is) = false≢true (sym plain)
 
     -- what stands behind the quote that closed the word ends none
-    pub IsNoFront-closed : len < length rest → get_or rest len 0 ≡ 0x22 → is_bare acc ≡ false → (len + 1 < length rest → ¬ (is_among ends (get_or rest (len + 1) 0) ≡ true)) → IsNoFront (IsEndedWord ends) rest (len + 1)
+    pub IsNoFront-closed : len < length rest → get_or rest len 0 ≡ 0x22 → is_bare acc ≡ false → (len + 1 < length rest → ¬ (is_among_bytes ends (get_or rest (len + 1) 0) ≡ true)) → IsNoFront (IsEndedWord ends) rest (len + 1)
     IsNoFront-closed h quote quotes none =
         no_front rest acc (0x22 ∷ []) (len + 1) (omega (arith, h)) (with_next 0x22 h quote ∙ ap (λ t. t ++ 0x22 ∷ []) i.front) (omega arith) (subst (Begins (IsEndedWord ends)) (sym (with_next 0x22 h quote)) (begun_closed rest acc len i quotes))
         (λ g x a o words end. stops g x a o end (goes_on 0x22 (get_or rest (len + 1) 0 ∷ x) o.more (a.1 ∷ []) o.rest_is))
       where
-        stops : len + 1 < length rest → (x : Text) (a : Text × ℕ) (o : Opened acc (0x22 ∷ get_or rest (len + 1) 0 ∷ x) a.0 a.1) → is_among ends a.1 ≡ true → GoesOn 0x22 (get_or rest (len + 1) 0 ∷ x) o.more (a.1 ∷ []) → ⊥
-        stops g x a o end (closes c empty r) = let same : a.1 ≡ get_or rest (len + 1) 0 = cc in none g (ap (is_among ends) (sym same) ∙ end)
+        stops : len + 1 < length rest → (x : Text) (a : Text × ℕ) (o : Opened acc (0x22 ∷ get_or rest (len + 1) 0 ∷ x) a.0 a.1) → is_among_bytes ends a.1 ≡ true → GoesOn 0x22 (get_or rest (len + 1) 0 ∷ x) o.more (a.1 ∷ []) → ⊥
+        stops g x a o end (closes c empty r) = let same : a.1 ≡ get_or rest (len + 1) 0 = cc in none g (ap (is_among_bytes ends) (sym same) ∙ end)
         stops g x a o end (escape d u c esc r) = omega (arith, c)
         stops g x a o end (stands v plain is) = false≢true (sym plain)
 
-    pub IsFront-quoted : len + 1 < length rest → get_or rest len 0 ≡ 0x22 → is_bare acc ≡ false → is_among ends (get_or rest (len + 1) 0) ≡ true → IsFront (IsEndedWord ends) rest (acc, get_or rest (len + 1) 0) (drop (len + 1 + 1) rest)
+    pub IsFront-quoted : len + 1 < length rest → get_or rest len 0 ≡ 0x22 → is_bare acc ≡ false → is_among_bytes ends (get_or rest (len + 1) 0) ≡ true → IsFront (IsEndedWord ends) rest (acc, get_or rest (len + 1) 0) (drop (len + 1 + 1) rest)
     IsFront-quoted h quote quotes end = record {
       spelled = take (len + 1 + 1) rest;
       split = sym (take-append-drop (len + 1 + 1) rest);
@@ -212,7 +212,7 @@ module _ (ends : List ℕ) (blanks : Blanks ends) where
         by x e = last (quoted_word a.0) (ap (list_all is_bare_byte) (sym p.is) ∙ f.bare)
 
     -- the next byte ends no word
-    pub IsNoFront-bare : (0 < n → n < length rest → ¬ (is_among ends (get_or rest n 0) ≡ true)) → IsNoFront (IsEndedWord ends) rest n
+    pub IsNoFront-bare : (0 < n → n < length rest → ¬ (is_among_bytes ends (get_or rest n 0) ≡ true)) → IsNoFront (IsEndedWord ends) rest n
     IsNoFront-bare none = IsNoFront-next (IsEndedWord ends) (IsCode-word ends blanks) rest n f.within begun_bare unspelled_bare next
       where
         next : n < length rest → Begins (IsEndedWord ends) (take (n + 1) rest) → ⊥
@@ -224,9 +224,9 @@ module _ (ends : List ℕ) (blanks : Blanks ends) where
             let bare = begins_bare c b.more b.value (λ z e. no_quote (omega (arith, h)) (ap (λ k. get_or rest k 0) (sym z) ∙ e)) whole in
             let parts = bare_word_parts b.value.0 bare in
             let same = same_bare (take n rest) b.value.0 c b.value.1 b.more [] f.bare parts.1 (f.ends h) (ended ends blanks b.value.1 p.ends_is) (whole ∙ ap (λ t. t ++ b.value.1 ∷ []) (written_bare b.value.0 bare)) in
-            none (omega (arith, parts.0, ap length same.0, length-take-le n rest f.within)) h (ap (is_among ends) same.1 ∙ p.ends_is)
+            none (omega (arith, parts.0, ap length same.0, length-take-le n rest f.within)) h (ap (is_among_bytes ends) same.1 ∙ p.ends_is)
 
-    pub IsFront-bare : 0 < n → n < length rest → is_among ends (get_or rest n 0) ≡ true → IsFront (IsEndedWord ends) rest (take n rest, get_or rest n 0) (drop (n + 1) rest)
+    pub IsFront-bare : 0 < n → n < length rest → is_among_bytes ends (get_or rest n 0) ≡ true → IsFront (IsEndedWord ends) rest (take n rest, get_or rest n 0) (drop (n + 1) rest)
     IsFront-bare some h end = record {
       spelled = take (n + 1) rest;
       split = sym (take-append-drop (n + 1) rest);

@@ -9,7 +9,7 @@ use Rattle.std.proofs.lemmas.List.Folds.{list_all-append}
 use Rattle.grid_model.specs.Names.{Text}
 use Rattle.grid_model.specs.Words.{is_bare, is_bare_byte, is_escaped, is_word_byte, quote_byte, quoted_word}
 use Rattle.grid_model.specs.Writable.{is_word}
-use Rattle.reply_fields.specs.Spelled.{IsEndedWord, IsInnerByte, is_blank, is_among}
+use Rattle.reply_fields.specs.Spelled.{IsEndedWord, IsInnerByte, is_word_end, is_among_bytes}
 use Rattle.reply_fields.proofs.Codes.{IsCode}
 use Rattle.reply_fields.proofs.Decimals.{among_all}
 
@@ -159,9 +159,9 @@ mixed (d ∷ v) w a b x y f e = let first : d ≡ 0x22 = cc in tells is_bare_byt
 -- what may end a word
 pub record Blanks (ends : List ℕ) : Type 0 where
   pub any : 0 < length ends
-  pub all : list_all is_blank ends ≡ true
+  pub all : list_all is_word_end ends ≡ true
 
-pub not_bare : (b : ℕ) → is_blank b ≡ true → is_bare_byte b ≡ false
+pub not_bare : (b : ℕ) → is_word_end b ≡ true → is_bare_byte b ≡ false
 not_bare b h = by (b == 0x20) refl
   where
     by : (x : Bool) → (b == 0x20) ≡ x → is_bare_byte b ≡ false
@@ -172,8 +172,8 @@ module _ (ends : List ℕ) (blanks : Blanks ends) where
   pub first_end : ℕ
   first_end = get_or ends 0 0
 
-  pub ended : (b : ℕ) → is_among ends b ≡ true → is_bare_byte b ≡ false
-  ended b h = not_bare b (among_all is_blank ends b blanks.all h)
+  pub ended : (b : ℕ) → is_among_bytes ends b ≡ true → is_bare_byte b ≡ false
+  ended b h = not_bare b (among_all is_word_end ends b blanks.all h)
 
   pub IsCode-word : IsCode (IsEndedWord ends)
   IsCode-word = record { only = λ s t u v a b e p q. only s t u v a b e p q (is_bare a.0) (is_bare b.0) refl refl }

@@ -13,8 +13,8 @@ abbrev pub is_last_symbol : ℕ → Bool
 is_last_symbol byte = list_any (λ s. s == byte) (codes "AEIMQUYcgkosw048")
 
 -- The byte may stand at this place: in the prefix, among the 43 symbols, or as the padding.
-abbrev pub may_stand : ℕ → ℕ → Bool
-may_stand place byte =
+abbrev pub may_stand_in_digest : ℕ → ℕ → Bool
+may_stand_in_digest place byte =
     if nat_lt place 5 then byte == slice_index (codes "sha2:") place
     else if nat_lt place 47 then is_symbol byte
     else if nat_lt place 48 then is_last_symbol byte
@@ -24,5 +24,5 @@ may_stand place byte =
 pub record HasDigestFront (rest : Text) (n : ℕ) : Type 0 where
   pub within : n ≤ length rest
   pub most : n ≤ 49
-  pub each : (i : ℕ) → i < n → may_stand i (slice_index rest i) ≡ true
-  pub ends : n < 49 → n < length rest → may_stand n (slice_index rest n) ≡ false
+  pub each : (i : ℕ) → i < n → may_stand_in_digest i (slice_index rest i) ≡ true
+  pub ends : n < 49 → n < length rest → may_stand_in_digest n (slice_index rest n) ≡ false

@@ -1,5 +1,6 @@
 -- How the parts of a reply's lines are spelled, each with what ends it.
-use Rattle.std.specs.Prelude.{◌≡◌, ◌≢◌, ◌⊎◌, ◌+◌, ℕ, ◌<◌, ◌≤◌, Bool, true, false, not, ◌&&◌, ◌||◌, List, [], ◌∷◌, ◌++◌, length, take, slice_index, slice_index_or, ◌==◌, IsTrue, decimal}
+use Rattle.std.specs.Prelude.{◌≡◌, ◌≢◌, ◌⊎◌, ◌+◌, ℕ, ◌<◌, ◌≤◌, Bool, true, false, not, ◌&&◌, ◌||◌, List, [], ◌∷◌, ◌++◌, length, take}
+use Rattle.std.specs.Prelude.{slice_index, slice_index_or, ◌==◌, IsTrue, decimal}
 use Rattle.std.specs.List.{list_all, list_any}
 use Rattle.std.specs.Char.{is_ascii_digit}
 use Rattle.grid_model.specs.Names.{Text}
@@ -19,39 +20,39 @@ pub record IsNameOf (names : List Text) (text : Text) (index : ℕ) : Type 0 whe
   pub is : text ≡ slice_index_or names index []
 
 -- of two texts neither begins the other
-abbrev pub differs : Text → Text → Bool
-differs [] t = false
-differs (a ∷ s) [] = false
-differs (a ∷ s) (b ∷ t) = not (a == b) || differs s t
+abbrev pub is_apart : Text → Text → Bool
+is_apart [] t = false
+is_apart (a ∷ s) [] = false
+is_apart (a ∷ s) (b ∷ t) = not (a == b) || is_apart s t
 
 -- no name begins another one
 abbrev pub are_apart : List Text → Bool
 are_apart [] = true
-are_apart (s ∷ names) = list_all (differs s) names && are_apart names
+are_apart (s ∷ names) = list_all (is_apart s) names && are_apart names
 
 -- no digit, and so what may end a number
 abbrev pub is_no_digit : ℕ → Bool
 is_no_digit b = not (is_ascii_digit b)
 
 -- the byte is one of these
-abbrev pub is_among : List ℕ → ℕ → Bool
-is_among ends b = list_any (λ e. e == b) ends
+abbrev pub is_among_bytes : List ℕ → ℕ → Bool
+is_among_bytes ends b = list_any (λ e. e == b) ends
 
 -- A number in decimal, and the byte that ends it.
 pub record IsNumber (least most : ℕ) (ends : List ℕ) (text : Text) (read : ℕ × ℕ) : Type 0 where
   pub least_is : least ≤ read.0
   pub most_is : read.0 ≤ most
-  pub ends_is : IsTrue (is_among ends read.1)
+  pub ends_is : IsTrue (is_among_bytes ends read.1)
   pub is : text ≡ decimal read.0 ++ read.1 ∷ []
 
 -- a space or a newline, and so what may end a word
-abbrev pub is_blank : ℕ → Bool
-is_blank b = b == 0x20 || b == 0x0A
+abbrev pub is_word_end : ℕ → Bool
+is_word_end b = b == 0x20 || b == 0x0A
 
 -- A word as it is written, and the byte that ends it.
 pub record IsEndedWord (ends : List ℕ) (text : Text) (read : Text × ℕ) : Type 0 where
   pub word_is : IsTrue (is_word read.0)
-  pub ends_is : IsTrue (is_among ends read.1)
+  pub ends_is : IsTrue (is_among_bytes ends read.1)
   pub is : text ≡ quoted_word read.0 ++ read.1 ∷ []
 
 -- so many bytes at the front may stand in a word without quotes, and the next one may not

@@ -1,7 +1,7 @@
 ghost use Rattle.std.specs.Prelude.{◌≡◌, ◌<◌, ◌≤◌, length};
 ghost use Rattle.grid_model.specs.Digests.{SpellsDigest};
 ghost use Rattle.reply_fields.specs.Fronts.{ReadsFrom};
-ghost use Rattle.reply_fields.specs.PrintedDigests.{HasDigestFront, may_stand};
+ghost use Rattle.reply_fields.specs.PrintedDigests.{HasDigestFront, may_stand_in_digest};
 
 use crate::error::ReplyError;
 use grid_model::Digest;
@@ -53,7 +53,7 @@ fn digest_len(rest: &[u8]) -> usize
 /// Whether the byte may stand at this place of a printed digest.
 fn may_stand(place: usize, byte: u8) -> bool
     requires { place < 49 }
-    ensures { result ≡ may_stand place byte }
+    ensures { result ≡ may_stand_in_digest place byte }
 {
     if place < 5 {
         byte == PREFIX[place]

@@ -2,7 +2,7 @@ ghost use Rattle.std.specs.Prelude.{◌≡◌, ◌≢◌, ◌<◌, ◌≤◌, Is
 ghost use Rattle.std.specs.List.{list_all};
 ghost use Rattle.grid_model.specs.Words.{is_escaped};
 ghost use Rattle.reply_fields.specs.Fronts.{ReadsFrom};
-ghost use Rattle.reply_fields.specs.Spelled.{IsEndedWord, IsInnerByte, IsNoInnerByte, HasBareFront, is_blank};
+ghost use Rattle.reply_fields.specs.Spelled.{IsEndedWord, IsInnerByte, IsNoInnerByte, HasBareFront, is_word_end};
 
 use crate::error::ReplyError;
 use grid_model::Text;
@@ -18,7 +18,7 @@ pub fn word(
 ) -> Result<((Text, u8), usize), ReplyError>
     requires place { at ≤ length text.now }
     requires some { 0 < length ends.now }
-    requires blank { IsTrue (list_all is_blank ends.now) }
+    requires blank { IsTrue (list_all is_word_end ends.now) }
     ensures { ReadsFrom (IsEndedWord ends.now) text.now at result }
 {
     if at < text.len() && text[at] == b'"' {
@@ -38,7 +38,7 @@ fn bare_word(
     requires place { at ≤ length text.now }
     requires no_quote { at < length text.now → slice_index text.now at ≢ 0x22 }
     requires some { 0 < length ends.now }
-    requires blank { IsTrue (list_all is_blank ends.now) }
+    requires blank { IsTrue (list_all is_word_end ends.now) }
     ensures { ReadsFrom (IsEndedWord ends.now) text.now at result }
 {
     let rest = &text[at..];
@@ -73,7 +73,7 @@ fn quoted_word(
     requires place { at < length text.now }
     requires quote { slice_index text.now at ≡ 0x22 }
     requires some { 0 < length ends.now }
-    requires blank { IsTrue (list_all is_blank ends.now) }
+    requires blank { IsTrue (list_all is_word_end ends.now) }
     ensures { ReadsFrom (IsEndedWord ends.now) text.now at result }
 {
     let rest = &text[at..];

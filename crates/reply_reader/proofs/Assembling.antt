@@ -7,7 +7,7 @@ use Rattle.grid_model.specs.declared.marks.Mark.{Mark}
 use Rattle.grid_model.specs.declared.replies.End.{End}
 use Rattle.grid_model.specs.declared.replies.Reply.{Reply}
 use Rattle.reply_fields.proofs.Codes.{IsCode}
-use Rattle.reply_reader.specs.Lines.{IsLine, phase_behind}
+use Rattle.reply_reader.specs.Lines.{IsReplyLine, phase_behind}
 use Rattle.reply_reader.specs.Parts.{with_end, with_line}
 use Rattle.reply_reader.specs.declared.lines.Line.{Line}
 use Rattle.reply_reader.specs.declared.lines.Line.TheVariants as line
@@ -21,7 +21,7 @@ pub data State : Type 0 where
   over : End → State
 
 abbrev pub LineAt : Text → State → Text → Line → Type 0
-LineAt first (reading p) = IsLine first p
+LineAt first (reading p) = IsReplyLine first p
 LineAt first (over e) = λ text l. ⊥
 
 abbrev pub next_state : State → Line → State

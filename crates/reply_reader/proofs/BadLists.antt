@@ -11,7 +11,7 @@ use Rattle.grid_model.specs.ReplySpelling.{FitBad}
 use Rattle.grid_model.specs.declared.marks.BadReplica.{BadReplica}
 use Rattle.reply_fields.specs.declared.error.ReplyError.{ReplyError}
 use Rattle.reply_fields.specs.Fronts.{IsRead, ReadsFrom}
-use Rattle.reply_fields.specs.Spelled.{is_among}
+use Rattle.reply_fields.specs.Spelled.{is_among_bytes}
 use Rattle.reply_fields.proofs.Codes.{IsCode}
 use Rattle.reply_fields.proofs.ListReading.{either_end}
 use Rattle.reply_reader.specs.MarkFields.{IsBadList, IsBadReplica}
@@ -64,7 +64,7 @@ to_list end s bs (inr e) (goes {first = first} {rest = rest} {a = r} {b = others
 pub record Cut (bs : List BadReplica) : Type 0 where
   pub end : ℕ
   pub rest : Text
-  pub among : is_among (0x20 ∷ 0x0A ∷ []) end ≡ true
+  pub among : is_among_bytes (0x20 ∷ 0x0A ∷ []) end ≡ true
   pub is : printed bs ≡ end ∷ rest
 
 pub cut : (bs : List BadReplica) → Cut bs

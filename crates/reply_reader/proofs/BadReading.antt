@@ -9,7 +9,7 @@ use Rattle.grid_model.specs.Replies.{bad_words}
 use Rattle.grid_model.specs.declared.marks.BadReplica.{BadReplica}
 use Rattle.reply_fields.specs.declared.error.ReplyError.{ReplyError}
 use Rattle.reply_fields.specs.Fronts.{IsRead, ReadsFrom, Then}
-use Rattle.reply_fields.specs.Spelled.{IsNameOf, is_among}
+use Rattle.reply_fields.specs.Spelled.{IsNameOf, is_among_bytes}
 use Rattle.reply_fields.proofs.Codes.{IsCode, IsCode-Then, reads_then}
 use Rattle.reply_fields.proofs.DigestFronts.{IsCode-digest}
 use Rattle.reply_fields.proofs.ListReading.{either_end}
@@ -69,7 +69,7 @@ to_bad s r t =
           ∙ ap (λ x. codes "bad " ++ x) (bad_fields n.begun l.begun d.begun (end_at e.value) n.first l.first d.first d.second n.spells_first.is l.spells_first.is d.spells_first.text_is (last e.value d.second e.spells));
     })
   where
-    among : {x : Text} (i : ℕ) → IsNameOf ends x i → is_among (0x20 ∷ 0x0A ∷ []) (end_at i) ≡ true
+    among : {x : Text} (i : ℕ) → IsNameOf ends x i → is_among_bytes (0x20 ∷ 0x0A ∷ []) (end_at i) ≡ true
     among zero p = refl
     among (suc i) p = refl
 

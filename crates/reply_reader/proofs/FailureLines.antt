@@ -20,7 +20,7 @@ use Rattle.reply_fields.specs.SignedLines.{IsSignedLine, at_least_zero, below_ze
 use Rattle.reply_fields.specs.Spelled.{IsNameOf}
 use Rattle.reply_fields.proofs.Codes.{IsCode, IsCode-Then, reads_then}
 use Rattle.reply_fields.proofs.NameReading.{IsCode-names}
-use Rattle.reply_reader.specs.Failures.{IsBehind, IsFailureLine, head_name, heads, numbered, numbered_name, most_u64}
+use Rattle.reply_reader.specs.Failures.{IsBehind, IsFailureLine, head_name, heads, refusal_numbered, numbered_name, most_u64}
 use Rattle.reply_reader.specs.declared.heads.Head.{Head}
 use Rattle.reply_reader.specs.declared.heads.Head.TheVariants as head
 use Rattle.reply_reader.specs.declared.heads.Numbered.{Numbered}
@@ -74,7 +74,7 @@ at_all p (x ∷ hs) (suc i) d h within = at_all p hs i d (and_parts (p x) (list_
 
 -- ---- what a head and what stands behind it spell together
 
-numbered_line : (k : Numbered) (s : Text) (n : ℕ) → n ≤ most_u64 → s ≡ decimal n ++ 0x0A ∷ [] → IsFailureLine (numbered_name k ++ s) (failure.Refused (numbered k n))
+numbered_line : (k : Numbered) (s : Text) (n : ℕ) → n ≤ most_u64 → s ≡ decimal n ++ 0x0A ∷ [] → IsFailureLine (numbered_name k ++ s) (failure.Refused (refusal_numbered k n))
 numbered_line kind.Syntax s n most e = record { fits = omega (arith, most); is = ap (λ t. codes "Syntax " ++ t) e }
 numbered_line kind.BadWord s n most e = record { fits = omega (arith, most); is = ap (λ t. codes "BadWord " ++ t) e }
 numbered_line kind.BadPath s n most e = record { fits = omega (arith, most); is = ap (λ t. codes "BadPath " ++ t) e }
@@ -162,8 +162,8 @@ row s f i h second within e split p = record {
 plain : (s : Text) (f : Failure) (i : ℕ) → i < length heads → get_or heads i head.Code ≡ head.Plain f → IsFailureLine s f → HeadThen s f
 plain s f i within e p = row s f i (head.Plain f) [] within e (p.is ∙ sym (append-nil (head_name (head.Plain f)))) (refl, refl)
 
-with_number : (s : Text) (k : Numbered) (n i : ℕ) → i < length heads → get_or heads i head.Code ≡ head.Numbered k → n < 2 ^ 64 → s ≡ numbered_name k ++ (decimal n ++ 0x0A ∷ []) → HeadThen s (failure.Refused (numbered k n))
-with_number s k n i within e fits is = row s (failure.Refused (numbered k n)) i (head.Numbered k) (decimal n ++ 0x0A ∷ []) within e is (record { value = n; is = refl; spells = record { most_is = omega (arith, fits); is = refl } })
+with_number : (s : Text) (k : Numbered) (n i : ℕ) → i < length heads → get_or heads i head.Code ≡ head.Numbered k → n < 2 ^ 64 → s ≡ numbered_name k ++ (decimal n ++ 0x0A ∷ []) → HeadThen s (failure.Refused (refusal_numbered k n))
+with_number s k n i within e fits is = row s (failure.Refused (refusal_numbered k n)) i (head.Numbered k) (decimal n ++ 0x0A ∷ []) within e is (record { value = n; is = refl; spells = record { most_is = omega (arith, fits); is = refl } })
 
 pub from_line : (s : Text) (f : Failure) → IsFailureLine s f → HeadThen s f
 from_line s (failure.Refused refusal.TooLong) p = plain s (failure.Refused refusal.TooLong) 0 (lit< tt) refl p

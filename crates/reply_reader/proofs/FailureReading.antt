@@ -17,7 +17,7 @@ use Rattle.reply_fields.specs.Fronts.{IsRead, ReadsFrom, Then}
 use Rattle.reply_fields.specs.SignedLines.{IsSignedLine, at_least_zero}
 use Rattle.reply_fields.proofs.Codes.{IsCode, IsCode-Then, reads_then}
 use Rattle.reply_fields.proofs.SignedReading.{IsCode-signed}
-use Rattle.reply_reader.specs.Failures.{IsBehind, numbered, most_u64}
+use Rattle.reply_reader.specs.Failures.{IsBehind, refusal_numbered, most_u64}
 use Rattle.reply_reader.specs.Fields.{IsDigestField, IsField, IsPrinted}
 use Rattle.reply_reader.specs.Images.{Image}
 use Rattle.reply_reader.specs.declared.heads.Head.{Head}
@@ -89,7 +89,7 @@ begins_size slot = begins_then (IsField most_u64 0x20) (Recorded slot) (begins_f
 
 pub begins_behind : (h : Head) → Begins (IsBehind h) []
 begins_behind (head.Plain f) = record { more = []; value = f; spells = (refl, refl) }
-begins_behind (head.Numbered k) = begins_image (λ n. failure.Refused (numbered k n)) (IsField most_u64 0x0A) (begins_field most_u64 0x0A)
+begins_behind (head.Numbered k) = begins_image (λ n. failure.Refused (refusal_numbered k n)) (IsField most_u64 0x0A) (begins_field most_u64 0x0A)
 begins_behind head.Truncated = begins_then (IsField most_u64 0x20) Want (begins_field most_u64 0x20) begins_want
 begins_behind head.TooMany = begins_then (IsPrinted print_what 0x20) Limit (begins_printed print_what 0x20 Users) begins_limit
 begins_behind head.BadTree = begins_image (λ cause. failure.Refused (refusal.BadTree cause)) (IsPrinted print_tree_cause 0x0A) (begins_printed print_tree_cause 0x0A Leaf)
@@ -103,7 +103,7 @@ IsCode-plain f = record { only = λ s t u v a b e p q. (p.0 ∙ sym q.0, p.1 ∙
 
 pub IsCode-behind : (h : Head) → IsCode (IsBehind h)
 IsCode-behind (head.Plain f) = IsCode-plain f
-IsCode-behind (head.Numbered k) = IsCode-Image (λ n. failure.Refused (numbered k n)) (IsField most_u64 0x0A) (IsCode-field most_u64 0x0A last_u64)
+IsCode-behind (head.Numbered k) = IsCode-Image (λ n. failure.Refused (refusal_numbered k n)) (IsField most_u64 0x0A) (IsCode-field most_u64 0x0A last_u64)
 IsCode-behind head.Truncated =
     IsCode-Then (IsField most_u64 0x20) Want (IsCode-field most_u64 0x20 mid_u64)
     (λ have. IsCode-Image (λ want. failure.Refused (refusal.Truncated have want)) (IsField most_u64 0x0A) (IsCode-field most_u64 0x0A last_u64))

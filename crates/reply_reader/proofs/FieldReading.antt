@@ -9,7 +9,7 @@ use Rattle.grid_model.specs.Digests.{Digest, SpellsDigest}
 use Rattle.grid_model.specs.Places.{Begins}
 use Rattle.reply_fields.specs.declared.error.ReplyError.{ReplyError}
 use Rattle.reply_fields.specs.Fronts.{IsRead, ReadsFrom, Then}
-use Rattle.reply_fields.specs.Spelled.{IsNameOf, IsNumber, is_among, is_no_digit, are_apart}
+use Rattle.reply_fields.specs.Spelled.{IsNameOf, IsNumber, is_among_bytes, is_no_digit, are_apart}
 use Rattle.reply_fields.proofs.Codes.{IsCode, IsCode-Then, reads_then}
 use Rattle.reply_fields.proofs.DigestFronts.{IsCode-digest, IsNoFront-digest}
 use Rattle.reply_fields.proofs.NameReading.{IsCode-names}
@@ -20,14 +20,14 @@ use Rattle.reply_reader.proofs.Readings.{mapped, reads_as, IsCode-as, begins_to,
 
 -- ---- a byte of which there is one choice
 
-pub only_end : (e b : ℕ) → is_among (e ∷ []) b ≡ true → b ≡ e
+pub only_end : (e b : ℕ) → is_among_bytes (e ∷ []) b ≡ true → b ≡ e
 only_end e b h = by (e == b) refl
   where
     by : (x : Bool) → (e == b) ≡ x → b ≡ e
     by true same = sym (eqb-true e b same)
     by false other = absurd (false≢true (ap (λ x. x || false) (sym other) ∙ h))
 
-pub is_end : (e : ℕ) → is_among (e ∷ []) e ≡ true
+pub is_end : (e : ℕ) → is_among_bytes (e ∷ []) e ≡ true
 is_end e = ap (λ x. x || false) (eq-eqb e e refl)
 
 -- the one name that there is

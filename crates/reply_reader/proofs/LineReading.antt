@@ -15,7 +15,7 @@ use Rattle.reply_fields.proofs.Codes.{IsCode, IsCode-Then, reads_then}
 use Rattle.reply_fields.proofs.CountedReading.{IsCode-data_part}
 use Rattle.reply_fields.proofs.NameReading.{IsCode-names}
 use Rattle.reply_reader.specs.Ends.{IsErrorEnd}
-use Rattle.reply_reader.specs.Lines.{IsKind, IsLine, IsRest, kind_name, may_come, skipped}
+use Rattle.reply_reader.specs.Lines.{IsKindIn, IsReplyLine, IsRest, kind_name, may_come, skipped}
 use Rattle.reply_reader.specs.MarkFields.{IsMark}
 use Rattle.reply_reader.specs.WordFields.{IsPassed, IsWords}
 use Rattle.reply_reader.specs.declared.lines.Kind.{Kind}
@@ -79,12 +79,12 @@ module _ (p : Phase) where
   abbrev pub names_from : List Text
   names_from = map kind_name (kinds_from p)
 
-  to_kind : (s : Text) (i : ℕ) → IsNameOf names_from s i → IsKind p s (get_or (kinds_from p) i kind.Error)
+  to_kind : (s : Text) (i : ℕ) → IsNameOf names_from s i → IsKindIn p s (get_or (kinds_from p) i kind.Error)
   to_kind s i n =
       let within : i < length (kinds_from p) = omega (arith, n.within, length-map (kinds_from p) kind_name) in
       record { comes = all_at (may_come p) (kinds_from p) i kind.Error (all_come p) within; is = n.is ∙ get_or-map kind_name (kinds_from p) i kind.Error [] within }
 
-  from_kind : (s : Text) (k : Kind) → IsKind p s k → (i : ℕ) × (k ≡ get_or (kinds_from p) i kind.Error) × IsNameOf names_from s i
+  from_kind : (s : Text) (k : Kind) → IsKindIn p s k → (i : ℕ) × (k ≡ get_or (kinds_from p) i kind.Error) × IsNameOf names_from s i
   from_kind s k q =
       let f = find p k q.comes in (
         f.0,
@@ -95,8 +95,8 @@ module _ (p : Phase) where
         },
       )
 
-  reads_kind : (text : Text) (at : ℕ) (r : Result (ℕ × ℕ) ReplyError) → ReadsFrom (IsNameOf names_from) text at r → ReadsFrom (IsKind p) text at (mapped (λ i. get_or (kinds_from p) i kind.Error) r)
-  reads_kind = reads_as (IsNameOf names_from) (IsKind p) (λ i. get_or (kinds_from p) i kind.Error) to_kind from_kind
+  reads_kind : (text : Text) (at : ℕ) (r : Result (ℕ × ℕ) ReplyError) → ReadsFrom (IsNameOf names_from) text at r → ReadsFrom (IsKindIn p) text at (mapped (λ i. get_or (kinds_from p) i kind.Error) r)
+  reads_kind = reads_as (IsNameOf names_from) (IsKindIn p) (λ i. get_or (kinds_from p) i kind.Error) to_kind from_kind
 
 apart : (p : Phase) → IsCode (IsNameOf (names_from p))
 apart phase.Data = IsCode-names (names_from phase.Data) refl
@@ -104,8 +104,8 @@ apart phase.Marks = IsCode-names (names_from phase.Marks) refl
 apart phase.Passed = IsCode-names (names_from phase.Passed) refl
 apart phase.Rows = IsCode-names (names_from phase.Rows) refl
 
-IsCode-kind : (p : Phase) → IsCode (IsKind p)
-IsCode-kind p = IsCode-as (IsNameOf (names_from p)) (IsKind p) (λ i. get_or (kinds_from p) i kind.Error) (to_kind p) (from_kind p) (apart p)
+IsCode-kind : (p : Phase) → IsCode (IsKindIn p)
+IsCode-kind p = IsCode-as (IsNameOf (names_from p)) (IsKindIn p) (λ i. get_or (kinds_from p) i kind.Error) (to_kind p) (from_kind p) (apart p)
 
 error_comes : (p : Phase) → may_come p kind.Error ≡ true
 error_comes phase.Data = refl
@@ -113,7 +113,7 @@ error_comes phase.Marks = refl
 error_comes phase.Passed = refl
 error_comes phase.Rows = refl
 
-begins_kind : (p : Phase) → Begins (IsKind p) []
+begins_kind : (p : Phase) → Begins (IsKindIn p) []
 begins_kind p = record { more = codes "err "; value = kind.Error; spells = record { comes = error_comes p; is = refl } }
 
 -- their names as a slice gives them
@@ -126,16 +126,16 @@ names_rest f xs n first p size names is =
     drop-map f (suc k) [] = refl
     drop-map f (suc k) (x ∷ xs) = drop-map f k xs
 
-pub kind_unread : {X : Type 0} (f : X → Text) (xs : List X) (n first : ℕ) (p : Phase) (text : Text) (at : ℕ) (e : ReplyError) → ReadsFrom (IsNameOf (map f (take (n - first) (drop first xs)))) text at (Err e) → n ≡ length xs → map f xs ≡ map kind_name all_kinds → first ≡ skipped p → ReadsFrom (IsKind p) text at (Err e)
+pub kind_unread : {X : Type 0} (f : X → Text) (xs : List X) (n first : ℕ) (p : Phase) (text : Text) (at : ℕ) (e : ReplyError) → ReadsFrom (IsNameOf (map f (take (n - first) (drop first xs)))) text at (Err e) → n ≡ length xs → map f xs ≡ map kind_name all_kinds → first ≡ skipped p → ReadsFrom (IsKindIn p) text at (Err e)
 kind_unread f xs n first p text at e h size names is = reads_kind p text at (Err e) (subst (λ ns. ReadsFrom (IsNameOf ns) text at (Err e)) (names_rest f xs n first p size names is) h)
 
-pub kind_read : {X : Type 0} (f : X → Text) (xs : List X) (n first : ℕ) (p : Phase) (text : Text) (at next i : ℕ) → IsRead (IsNameOf (map f (take (n - first) (drop first xs)))) text at i next → n ≡ length xs → map f xs ≡ map kind_name all_kinds → first ≡ skipped p → IsRead (IsKind p) text at (get_or all_kinds (first + i) kind.Data) next
+pub kind_read : {X : Type 0} (f : X → Text) (xs : List X) (n first : ℕ) (p : Phase) (text : Text) (at next i : ℕ) → IsRead (IsNameOf (map f (take (n - first) (drop first xs)))) text at i next → n ≡ length xs → map f xs ≡ map kind_name all_kinds → first ≡ skipped p → IsRead (IsKindIn p) text at (get_or all_kinds (first + i) kind.Data) next
 kind_read f xs n first p text at next i h size names is =
     let read : IsRead (IsNameOf (names_from p)) text at i next = subst (λ ns. IsRead (IsNameOf ns) text at i next) (names_rest f xs n first p size names is) h in
     let within : i < length (kinds_from p) = omega (arith, read.front.spells.within, length-map (kinds_from p) kind_name) in
     let same : get_or (kinds_from p) i kind.Error ≡ get_or all_kinds (first + i) kind.Data =
     same_entry (kinds_from p) i kind.Error kind.Data within ∙ get_or-drop (skipped p) all_kinds i kind.Data ∙ ap (λ k. get_or all_kinds (k + i) kind.Data) (sym is) in
-    subst (λ k. IsRead (IsKind p) text at k next) same (reads_kind p text at (Ok (i, next)) read)
+    subst (λ k. IsRead (IsKindIn p) text at k next) same (reads_kind p text at (Ok (i, next)) read)
 
 -- ---- the rest of a line
 
@@ -162,22 +162,22 @@ IsCode-rest kind.Error = IsCode-Image line.End IsErrorEnd IsCode-end
 
 module _ (first : Text) (p : Phase) where
   abbrev Numbered : ℕ → Text → Line → Type 0
-  Numbered i = Then (IsKind p) IsRest
+  Numbered i = Then (IsKindIn p) IsRest
 
-  begins_numbered : (i : ℕ) → Begins (Then (IsKind p) IsRest) []
+  begins_numbered : (i : ℕ) → Begins (Then (IsKindIn p) IsRest) []
   begins_numbered i =
       let b = begins_kind p in
       let r = begins_rest b.value in
       record { more = b.more ++ r.more; value = r.value; spells = record { first = b.more; second = r.more; begun = b.value; split = refl; spells_first = b.spells; spells_second = r.spells } }
 
-  pub line_unread : (text : Text) (at : ℕ) (e : ReplyError) → ReadsFrom (IsNameOf (first ∷ [])) text at (Err e) → ReadsFrom (IsLine first p) text at (Err e)
-  line_unread text at e h = first_unread (IsNameOf (first ∷ [])) (λ i. Then (IsKind p) IsRest) begins_numbered text at e h
+  pub line_unread : (text : Text) (at : ℕ) (e : ReplyError) → ReadsFrom (IsNameOf (first ∷ [])) text at (Err e) → ReadsFrom (IsReplyLine first p) text at (Err e)
+  line_unread text at e h = first_unread (IsNameOf (first ∷ [])) (λ i. Then (IsKindIn p) IsRest) begins_numbered text at e h
 
-  pub line_kind_unread : (text : Text) (at next i : ℕ) (e : ReplyError) → IsRead (IsNameOf (first ∷ [])) text at i next → ReadsFrom (IsKind p) text next (Err e) → ReadsFrom (IsLine first p) text at (Err e)
-  line_kind_unread text at next i e h rest = reads_then (IsNameOf (first ∷ [])) (λ i. Then (IsKind p) IsRest) (IsCode-one first) text at next i h (Err e) (first_unread (IsKind p) IsRest begins_rest text next e rest)
+  pub line_kind_unread : (text : Text) (at next i : ℕ) (e : ReplyError) → IsRead (IsNameOf (first ∷ [])) text at i next → ReadsFrom (IsKindIn p) text next (Err e) → ReadsFrom (IsReplyLine first p) text at (Err e)
+  line_kind_unread text at next i e h rest = reads_then (IsNameOf (first ∷ [])) (λ i. Then (IsKindIn p) IsRest) (IsCode-one first) text at next i h (Err e) (first_unread (IsKindIn p) IsRest begins_rest text next e rest)
 
-  pub line_read : (text : Text) (at next to i : ℕ) (k : Kind) → IsRead (IsNameOf (first ∷ [])) text at i next → IsRead (IsKind p) text next k to → (r : Result (Line × ℕ) ReplyError) → ReadsFrom (IsRest k) text to r → ReadsFrom (IsLine first p) text at r
-  line_read text at next to i k h g r rest = reads_then (IsNameOf (first ∷ [])) (λ i. Then (IsKind p) IsRest) (IsCode-one first) text at next i h r (reads_then (IsKind p) IsRest (IsCode-kind p) text next to k g r rest)
+  pub line_read : (text : Text) (at next to i : ℕ) (k : Kind) → IsRead (IsNameOf (first ∷ [])) text at i next → IsRead (IsKindIn p) text next k to → (r : Result (Line × ℕ) ReplyError) → ReadsFrom (IsRest k) text to r → ReadsFrom (IsReplyLine first p) text at r
+  line_read text at next to i k h g r rest = reads_then (IsNameOf (first ∷ [])) (λ i. Then (IsKindIn p) IsRest) (IsCode-one first) text at next i h r (reads_then (IsKindIn p) IsRest (IsCode-kind p) text next to k g r rest)
 
-  pub IsCode-line : IsCode (IsLine first p)
-  IsCode-line = IsCode-Then (IsNameOf (first ∷ [])) (λ i. Then (IsKind p) IsRest) (IsCode-one first) (λ i. IsCode-Then (IsKind p) IsRest (IsCode-kind p) IsCode-rest)
+  pub IsCode-line : IsCode (IsReplyLine first p)
+  IsCode-line = IsCode-Then (IsNameOf (first ∷ [])) (λ i. Then (IsKindIn p) IsRest) (IsCode-one first) (λ i. IsCode-Then (IsKindIn p) IsRest (IsCode-kind p) IsCode-rest)

@@ -16,10 +16,10 @@ use Rattle.grid_model.specs.declared.marks.Mark.TheVariants as mark
 use Rattle.grid_model.specs.declared.replies.End.{End}
 use Rattle.grid_model.specs.declared.replies.End.TheVariants as end
 use Rattle.grid_model.specs.declared.replies.Passed.{Passed}
-use Rattle.reply_fields.specs.Spelled.{is_among}
+use Rattle.reply_fields.specs.Spelled.{is_among_bytes}
 use Rattle.reply_fields.specs.WordLists.{IsWordList, last_word, more_words}
 use Rattle.reply_reader.specs.Ends.{IsErrorEnd}
-use Rattle.reply_reader.specs.Lines.{IsLine, IsRest, kind_name, may_come}
+use Rattle.reply_reader.specs.Lines.{IsReplyLine, IsRest, kind_name, may_come}
 use Rattle.reply_reader.specs.WordFields.{IsPassed, IsWords, no_words, some_words}
 use Rattle.reply_reader.specs.declared.lines.Kind.{Kind}
 use Rattle.reply_reader.specs.declared.lines.Line.{Line}
@@ -39,7 +39,7 @@ pub record Cut (n : ℕ) (p : Phase) (s : Text) (l : Line) : Type 0 where
   pub is : s ≡ start n ++ (kind_name kind ++ rest)
   pub spells : IsRest kind rest l
 
-pub cut_line : (n : ℕ) (p : Phase) (s : Text) (l : Line) → IsLine (start n) p s l → Cut n p s l
+pub cut_line : (n : ℕ) (p : Phase) (s : Text) (l : Line) → IsReplyLine (start n) p s l → Cut n p s l
 cut_line n p s l t =
     let k = t.spells_second in
     record {
@@ -50,7 +50,7 @@ cut_line n p s l t =
       spells = k.spells_second;
     }
 
-pub made_line : (n : ℕ) (p : Phase) (k : Kind) (s rest : Text) (l : Line) → may_come p k ≡ true → s ≡ start n ++ (kind_name k ++ rest) → IsRest k rest l → IsLine (start n) p s l
+pub made_line : (n : ℕ) (p : Phase) (k : Kind) (s rest : Text) (l : Line) → may_come p k ≡ true → s ≡ start n ++ (kind_name k ++ rest) → IsRest k rest l → IsReplyLine (start n) p s l
 made_line n p k s rest l comes is spells = record {
   first = start n;
   second = kind_name k ++ rest;
@@ -155,7 +155,7 @@ passed_text n s p t =
     ∙ ap (λ x. start n ++ (codes "passed " ++ (x ++ t.second))) (sym t.spells_first.is)
     ∙ ap (λ x. start n ++ (codes "passed " ++ x)) (sym t.split)
   where
-    space : (b : ℕ) → is_among (0x20 ∷ []) b ≡ true → 0x20 ≡ b
+    space : (b : ℕ) → is_among_bytes (0x20 ∷ []) b ≡ true → 0x20 ≡ b
     space b h = sym (only_end 0x20 b h)
 
 pub passed_writable : (s : Text) (p : Passed) → IsPassed s p → is_writable_passed p ≡ true

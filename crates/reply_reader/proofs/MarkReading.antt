@@ -23,7 +23,7 @@ use Rattle.reply_fields.proofs.NumberReading.{IsCode-number}
 use Rattle.reply_reader.specs.Failures.{most_u64}
 use Rattle.reply_reader.specs.Fields.{IsDigestField, IsField}
 use Rattle.reply_reader.specs.Images.{Image}
-use Rattle.reply_reader.specs.MarkFields.{IsBadList, IsMark, IsRan, IsFault, IsBad}
+use Rattle.reply_reader.specs.MarkFields.{IsBadList, IsMark, IsRan, IsFault, IsBadMark}
 use Rattle.reply_reader.proofs.Readings.{mapped, reads_as, IsCode-as, reads_image, IsCode-Image, begins_image, begins_then, first_unread}
 use Rattle.reply_reader.proofs.FieldReading.{IsCode-field, begins_field, IsCode-digest_field, begins_digest_field}
 use Rattle.reply_reader.proofs.FailureReading.{last_u64, mid_u64, mid_u8}
@@ -92,7 +92,7 @@ IsCode-fault =
     IsCode-Then (IsField 255 0x20) Sent (IsCode-field 255 0x20 mid_u8) (λ slot.
     IsCode-Image (λ sent. mark.Fault slot sent) (IsField most_u64 0x0A) (IsCode-field most_u64 0x0A last_u64))
 
-pub IsCode-bad_mark : IsCode IsBad
+pub IsCode-bad_mark : IsCode IsBadMark
 IsCode-bad_mark =
     IsCode-Then (IsField 255 0x20) LenMark (IsCode-field 255 0x20 mid_u8) (λ slot.
     IsCode-Then (IsField most_u64 0x20) (FoundMark slot) (IsCode-field most_u64 0x20 mid_u64) (λ len.
@@ -110,7 +110,7 @@ now_unread text at word e h = reads_first (IsNumber 0 most_u64 (0x20 ∷ 0x0A �
 pub now_bads : (text : Text) (at next word : ℕ) (now : ℕ × ℕ) → IsRead (IsNumber 0 most_u64 (0x20 ∷ 0x0A ∷ [])) text at now next → (r : Result (List BadReplica × ℕ) ReplyError) → ReadsFrom (IsBadList now.1) text next r → ReadsFrom (Now word) text at (mapped (λ bad. mark.Ran word now.0 bad) r)
 now_bads text at next word now h r rest = reads_then (IsNumber 0 most_u64 (0x20 ∷ 0x0A ∷ [])) (BadsBehind word) IsCode-now text at next now h (mapped (λ bad. mark.Ran word now.0 bad) r) (reads_image (λ bad. mark.Ran word now.0 bad) (IsBadList now.1) text next r rest)
 
-pub bad_len : (text : Text) (at next slot : ℕ) → IsRead (IsField 255 0x20) text at slot next → (r : Result (Mark × ℕ) ReplyError) → ReadsFrom (LenMark slot) text next r → ReadsFrom IsBad text at r
+pub bad_len : (text : Text) (at next slot : ℕ) → IsRead (IsField 255 0x20) text at slot next → (r : Result (Mark × ℕ) ReplyError) → ReadsFrom (LenMark slot) text next r → ReadsFrom IsBadMark text at r
 bad_len text at next slot h r = reads_then (IsField 255 0x20) LenMark (IsCode-field 255 0x20 mid_u8) text at next slot h r
 
 pub len_found : (text : Text) (at next slot len : ℕ) → IsRead (IsField most_u64 0x20) text at len next → (r : Result (Mark × ℕ) ReplyError) → ReadsFrom (FoundMark slot len) text next r → ReadsFrom (LenMark slot) text at r
@@ -127,7 +127,7 @@ mark_names = codes "ran " ∷ codes "fault " ∷ codes "bad " ∷ (codes "stop" 
 abbrev pub AfterMark : ℕ → Text → Mark → Type 0
 AfterMark zero = IsRan
 AfterMark (suc zero) = IsFault
-AfterMark (suc (suc zero)) = IsBad
+AfterMark (suc (suc zero)) = IsBadMark
 AfterMark (suc (suc (suc i))) = λ text m. (text ≡ []) × (m ≡ mark.Stop)
 
 abbrev pub MarkThen : Text → Mark → Type 0

@@ -10,7 +10,7 @@ use Rattle.grid_model.specs.declared.replies.End.TheVariants as end
 use Rattle.grid_model.specs.declared.replies.Reply.{Reply}
 use Rattle.reply_fields.specs.declared.error.ReplyError.{ReplyError}
 use Rattle.reply_fields.specs.Fronts.{IsRead, ReadsFrom}
-use Rattle.reply_reader.specs.Lines.{IsLine, IsReplyTo, kind_name, phase_behind}
+use Rattle.reply_reader.specs.Lines.{IsReplyLine, IsReplyTo, kind_name, phase_behind}
 use Rattle.reply_reader.specs.Parts.{with_end, with_line}
 use Rattle.reply_reader.specs.declared.lines.Line.{Line}
 use Rattle.reply_reader.specs.declared.lines.Line.TheVariants as line
@@ -24,7 +24,7 @@ use Rattle.reply_reader.proofs.ReplyTexts.{lines_of, end_lines}
 use Rattle.reply_reader.proofs.Runs.{stops, Leads, Leads-start, Leads-more, Leads-unread, Leads-end}
 
 -- a line takes some bytes
-pub line_forward : (n : ℕ) (p : Phase) (text : Text) (place to : ℕ) (l : Line) → IsRead (IsLine (start n) p) text place l to → place < to
+pub line_forward : (n : ℕ) (p : Phase) (text : Text) (place to : ℕ) (l : Line) → IsRead (IsReplyLine (start n) p) text place l to → place < to
 line_forward n p text place to l h =
     let c = cut_line n p h.front.spelled l h.front.spells in
     omega (arith, h.forward, h.within, ap length h.front.split, length-append h.front.spelled (drop to text), length-drop place text, length-drop to text, ap length c.is, length-append (start n) (kind_name c.kind ++ c.rest), length-append (decimal n) (0x20 ∷ []))
@@ -57,16 +57,16 @@ same_state p (line.Passed q) h = refl
 same_state p (line.Row ws) h = refl
 same_state p (line.End e) h = absurd (h e refl)
 
-pub ReadLines-more : (n : ℕ) (text : Text) (front more : Reply) (p : Phase) (place to : ℕ) (l : Line) → ReadLines n text front p place → IsRead (IsLine (start n) p) text place l to → ((e : End) → l ≢ line.End e) → more ≡ with_line front l → ReadLines n text more (phase_behind l) to
+pub ReadLines-more : (n : ℕ) (text : Text) (front more : Reply) (p : Phase) (place to : ℕ) (l : Line) → ReadLines n text front p place → IsRead (IsReplyLine (start n) p) text place l to → ((e : End) → l ≢ line.End e) → more ≡ with_line front l → ReadLines n text more (phase_behind l) to
 ReadLines-more n text front more p place to l r h none is = record {
   leads = Leads-more (LineAt (start n)) next_state line_before over_at (codes_at (start n)) (IsReplyTo n) (before_rest front) (before_rest more) text 0 place to (reading p) (reading (phase_behind l)) l refl r.leads h (same_state p l none)
       (λ b. before_more front l b ∙ ap (λ x. before_rest x b) (sym is));
 }
 
-pub ReadLines-unread : (n : ℕ) (text : Text) (front : Reply) (p : Phase) (place : ℕ) (e : ReplyError) → ReadLines n text front p place → ReadsFrom (IsLine (start n) p) text place (Err e) → ReadsFrom (IsReplyTo n) text 0 (Err e)
+pub ReadLines-unread : (n : ℕ) (text : Text) (front : Reply) (p : Phase) (place : ℕ) (e : ReplyError) → ReadLines n text front p place → ReadsFrom (IsReplyLine (start n) p) text place (Err e) → ReadsFrom (IsReplyTo n) text 0 (Err e)
 ReadLines-unread n text front p place e r h = Leads-unread (LineAt (start n)) next_state line_before over_at (codes_at (start n)) (IsReplyTo n) (begins_lines n) (before_rest front) text 0 place (reading p) e refl r.leads h
 
-pub ReadLines-end : (n : ℕ) (text : Text) (front : Reply) (p : Phase) (place to : ℕ) (e : End) → ReadLines n text front p place → IsRead (IsLine (start n) p) text place (line.End e) to → IsRead (IsReplyTo n) text 0 (with_end front e) to
+pub ReadLines-end : (n : ℕ) (text : Text) (front : Reply) (p : Phase) (place to : ℕ) (e : End) → ReadLines n text front p place → IsRead (IsReplyLine (start n) p) text place (line.End e) to → IsRead (IsReplyTo n) text 0 (with_end front e) to
 ReadLines-end n text front p place to e r h =
     subst (λ x. IsRead (IsReplyTo n) text 0 x to) (before_end front e)
     (Leads-end (LineAt (start n)) next_state line_before over_at (codes_at (start n)) (IsReplyTo n) (before_rest front) text 0 to (over e) (end_alone e) refl

@@ -18,7 +18,7 @@ use Rattle.grid_model.specs.declared.replies.End.TheVariants as end
 use Rattle.grid_model.specs.declared.replies.Passed.{Passed}
 use Rattle.grid_model.specs.declared.replies.Reply.{Reply}
 use Rattle.cmd_reply.proofs.DataParts.{data_lines-more}
-use Rattle.reply_reader.specs.Lines.{IsLine, IsReplyTo, may_come}
+use Rattle.reply_reader.specs.Lines.{IsReplyLine, IsReplyTo, may_come}
 use Rattle.reply_reader.specs.declared.lines.Kind.TheVariants as kind
 use Rattle.reply_reader.specs.declared.lines.Line.TheVariants as line
 use Rattle.reply_reader.specs.declared.lines.Phase.{Phase}
@@ -51,7 +51,7 @@ row_comes phase.Rows = refl
 -- ---- the lines, from the last one on
 
 module _ (n : ℕ) where
-  one_end : (p : Phase) (e : End) → IsLine (start n) p (end_line n e) (line.End e) → Lines (start n) (reading p) (end_line n e) (end_alone e)
+  one_end : (p : Phase) (e : End) → IsReplyLine (start n) p (end_line n e) (line.End e) → Lines (start n) (reading p) (end_line n e) (end_alone e)
   one_end p e l = goes {first = end_line n e} {rest = []} {a = line.End e} {b = end_alone e} refl (sym (append-nil (end_line n e))) l (stops refl refl) refl
 
   other_end : (p : Phase) (e : End) → is_done e ≡ false → is_writable_end e ≡ true → FitsEnd e → Lines (start n) (reading p) (end_line n e) (end_alone e)
@@ -97,7 +97,7 @@ module _ (n : ℕ) where
   no_data : (r : Reply) → r ≡ line_before (line.Data []) r
   no_data r = (λ i. record { marks = r.marks; shown = sym (shown_none r.marks r.shown) i; passed = r.passed; rows = r.rows; end = r.end })
 
-  data_made : (bytes : Text) → 0 < length bytes → length bytes ≤ part_size → IsLine (start n) phase.Data (data_line n bytes) (line.Data bytes)
+  data_made : (bytes : Text) → 0 < length bytes → length bytes ≤ part_size → IsReplyLine (start n) phase.Data (data_line n bytes) (line.Data bytes)
   data_made bytes some short = made_line n phase.Data kind.Data (data_line n bytes) ((decimal (length bytes) ++ 0x0A ∷ bytes) ++ 0x0A ∷ []) (line.Data bytes) refl (data_text n bytes)
       (record { value = bytes; is = refl; spells = record { some = omega (arith, some); most = short; is = refl } })
 
@@ -144,7 +144,7 @@ module _ (n : ℕ) where
 
   -- ---- marks
 
-  mark_made : (p : Phase) (m : Mark) → may_come p kind.Mark ≡ true → FitsMark m → IsLine (start n) p (mark_line n m) (line.Mark m)
+  mark_made : (p : Phase) (m : Mark) → may_come p kind.Mark ≡ true → FitsMark m → IsReplyLine (start n) p (mark_line n m) (line.Mark m)
   mark_made p m comes fits = made_line n p kind.Mark (mark_line n m) (spaced (mark_words m) ++ 0x0A ∷ []) (line.Mark m) comes (mark_text n m) (record { value = m; is = refl; spells = record { fits = fits; is = refl } })
 
   mark_lines : (front : Text) (ms : List Mark) → SpellsMarks n front ms → (t : Text) (shown : Text) (passed : List Passed) (rows : List (List Text)) (e : End)

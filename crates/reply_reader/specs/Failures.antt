@@ -22,15 +22,15 @@ pub record IsFailureLine (text : Text) (read : Failure) : Type 0 where
   pub is : text ≡ print_failure read ++ 0x0A ∷ []
 
 -- the refusal with this number
-abbrev pub numbered : Numbered → ℕ → Refusal
-numbered kind.Syntax n = refusal.Syntax n
-numbered kind.BadWord n = refusal.BadWord n
-numbered kind.BadPath n = refusal.BadPath n
-numbered kind.BadName n = refusal.BadName n
-numbered kind.TooLarge n = refusal.TooLarge n
-numbered kind.BadTriple n = refusal.BadTriple n
-numbered kind.NoSlot n = refusal.NoSlot n
-numbered kind.BadQuery n = refusal.BadQuery n
+abbrev pub refusal_numbered : Numbered → ℕ → Refusal
+refusal_numbered kind.Syntax n = refusal.Syntax n
+refusal_numbered kind.BadWord n = refusal.BadWord n
+refusal_numbered kind.BadPath n = refusal.BadPath n
+refusal_numbered kind.BadName n = refusal.BadName n
+refusal_numbered kind.TooLarge n = refusal.TooLarge n
+refusal_numbered kind.BadTriple n = refusal.BadTriple n
+refusal_numbered kind.NoSlot n = refusal.NoSlot n
+refusal_numbered kind.BadQuery n = refusal.BadQuery n
 
 -- its name and a space
 abbrev pub numbered_name : Numbered → Text
@@ -106,7 +106,7 @@ most_u64 = 18446744073709551615
 -- What stands behind the head: the fields, in their order.
 abbrev pub IsBehind : Head → Text → Failure → Type 0
 IsBehind (head.Plain f) = λ text read. (text ≡ []) × (read ≡ f)
-IsBehind (head.Numbered k) = Image (λ n. failure.Refused (numbered k n)) (IsField most_u64 0x0A)
+IsBehind (head.Numbered k) = Image (λ n. failure.Refused (refusal_numbered k n)) (IsField most_u64 0x0A)
 IsBehind head.Truncated = Then (IsField most_u64 0x20) (λ have. Image (λ want. failure.Refused (refusal.Truncated have want)) (IsField most_u64 0x0A))
 IsBehind head.TooMany = Then (IsPrinted print_what 0x20) (λ what. Image (λ limit. failure.Refused (refusal.TooMany what limit)) (IsField most_u64 0x0A))
 IsBehind head.BadTree = Image (λ cause. failure.Refused (refusal.BadTree cause)) (IsPrinted print_tree_cause 0x0A)

@@ -49,7 +49,7 @@ skipped phase.Passed = 2
 skipped phase.Rows = 3
 
 -- a kind that may come in this phase
-pub record IsKind (phase : Phase) (text : Text) (kind : Kind) : Type 0 where
+pub record IsKindIn (phase : Phase) (text : Text) (kind : Kind) : Type 0 where
   pub comes : IsTrue (may_come phase kind)
   pub is : text ≡ kind_name kind
 
@@ -63,8 +63,8 @@ IsRest kind.Good = Image (λ words. line.End (end.Done words)) IsWords
 IsRest kind.Error = Image line.End IsErrorEnd
 
 -- a line that begins with these bytes and may come in this phase
-abbrev pub IsLine : Text → Phase → Text → Line → Type 0
-IsLine first phase = Then (IsNameOf (first ∷ [])) (λ _. Then (IsKind phase) IsRest)
+abbrev pub IsReplyLine : Text → Phase → Text → Line → Type 0
+IsReplyLine first phase = Then (IsNameOf (first ∷ [])) (λ _. Then (IsKindIn phase) IsRest)
 
 -- the phase behind a line
 abbrev pub phase_behind : Line → Phase

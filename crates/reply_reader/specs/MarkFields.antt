@@ -8,7 +8,7 @@ use Rattle.grid_model.specs.declared.marks.BadReplica.{BadReplica}
 use Rattle.grid_model.specs.declared.marks.Mark.{Mark}
 use Rattle.grid_model.specs.declared.marks.Mark.TheVariants as mark
 use Rattle.reply_fields.specs.Fronts.{Then}
-use Rattle.reply_fields.specs.Spelled.{IsNumber, is_among}
+use Rattle.reply_fields.specs.Spelled.{IsNumber, is_among_bytes}
 use Rattle.reply_reader.specs.Failures.{most_u64}
 use Rattle.reply_reader.specs.Fields.{IsDigestField, IsField}
 use Rattle.reply_reader.specs.Images.{Image}
@@ -21,7 +21,7 @@ pub record IsMark (text : Text) (read : Mark) : Type 0 where
 -- a bad replica, and a space or a newline
 pub record IsBadReplica (text : Text) (read : BadReplica × ℕ) : Type 0 where
   pub fits : FitBad (read.0 ∷ [])
-  pub ends_is : IsTrue (is_among (0x20 ∷ 0x0A ∷ []) read.1)
+  pub ends_is : IsTrue (is_among_bytes (0x20 ∷ 0x0A ∷ []) read.1)
   pub is : text ≡ spaced (bad_words read.0) ++ read.1 ∷ []
 
 -- The bad replicas that follow this byte, which is a space before each of them, and a newline behind the last.
@@ -36,8 +36,8 @@ IsRan = Then (IsField most_u64 0x20) (λ word. Then (IsNumber 0 most_u64 (0x20 �
 abbrev pub IsFault : Text → Mark → Type 0
 IsFault = Then (IsField 255 0x20) (λ slot. Image (λ sent. mark.Fault slot sent) (IsField most_u64 0x0A))
 
-abbrev pub IsBad : Text → Mark → Type 0
-IsBad =
+abbrev pub IsBadMark : Text → Mark → Type 0
+IsBadMark =
     Then (IsField 255 0x20) (λ slot.
     Then (IsField most_u64 0x20) (λ len.
     Then (IsDigestField 0x20) (λ found.

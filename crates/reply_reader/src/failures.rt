@@ -1,6 +1,6 @@
 ghost use Rattle.std.specs.Prelude.{◌≡◌, ◌≤◌, length};
 ghost use Rattle.reply_fields.specs.Fronts.{ReadsFrom};
-ghost use Rattle.reply_reader.specs.Failures.{IsBehind, IsFailureLine, numbered};
+ghost use Rattle.reply_reader.specs.Failures.{IsBehind, IsFailureLine, refusal_numbered};
 
 use crate::causes::{rule_cause, tree_cause, what};
 use crate::fields::{digest_field, number_field};
@@ -56,7 +56,7 @@ fn numbered_refusal(text: &[u8], at: usize, kind: Numbered) -> Result<(Failure, 
 }
 
 fn with_number(kind: Numbered, number: u64) -> Refusal
-    ensures { result ≡ numbered kind number }
+    ensures { result ≡ refusal_numbered kind number }
 {
     match kind {
         Numbered::Syntax => Refusal::Syntax { at: number },

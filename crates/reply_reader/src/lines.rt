@@ -1,6 +1,6 @@
 ghost use Rattle.std.specs.Prelude.{◌≡◌, ◌<◌, ◌≤◌, length};
 ghost use Rattle.reply_fields.specs.Fronts.{ReadsFrom};
-ghost use Rattle.reply_reader.specs.Lines.{IsKind, IsLine, IsRest, phase_behind, skipped};
+ghost use Rattle.reply_reader.specs.Lines.{IsKindIn, IsReplyLine, IsRest, phase_behind, skipped};
 
 use crate::ends::error_end;
 use crate::mark_fields::mark;
@@ -66,7 +66,7 @@ pub fn next_line(
     phase: Phase,
 ) -> Result<(Line, usize), ReplyError>
     requires { at ≤ length text.now }
-    ensures { ReadsFrom (IsLine first.now phase) text.now at result }
+    ensures { ReadsFrom (IsReplyLine first.now phase) text.now at result }
 {
     let (_, next) = match one_of(text, at, &[first]) {
         Ok(read) => read,
@@ -82,7 +82,7 @@ pub fn next_line(
 /// Reads the kind of a line that may come in this phase.
 fn next_kind(text: &[u8], at: usize, phase: Phase) -> Result<(Kind, usize), ReplyError>
     requires { at ≤ length text.now }
-    ensures { ReadsFrom (IsKind phase) text.now at result }
+    ensures { ReadsFrom (IsKindIn phase) text.now at result }
 {
     let first = skipped(phase);
     match one_of(text, at, &NAMES[first..]) {

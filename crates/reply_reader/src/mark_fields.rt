@@ -1,6 +1,6 @@
 ghost use Rattle.std.specs.Prelude.{◌≤◌, length};
 ghost use Rattle.reply_fields.specs.Fronts.{ReadsFrom};
-ghost use Rattle.reply_reader.specs.MarkFields.{IsBad, IsFault, IsMark, IsRan};
+ghost use Rattle.reply_reader.specs.MarkFields.{IsBadMark, IsFault, IsMark, IsRan};
 
 use crate::bad_replicas::bad_list;
 use crate::fields::{digest_field, number_field};
@@ -74,7 +74,7 @@ fn fault(text: &[u8], at: usize) -> Result<(Mark, usize), ReplyError>
 
 fn bad(alloc: Global, text: &[u8], at: usize) -> Result<(Mark, usize), ReplyError>
     requires { at ≤ length text.now }
-    ensures { ReadsFrom IsBad text.now at result }
+    ensures { ReadsFrom IsBadMark text.now at result }
 {
     let (slot, next) = match number_field(text, at, 255, b' ') {
         Ok(read) => read,

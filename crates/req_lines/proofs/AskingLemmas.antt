@@ -11,13 +11,13 @@ use Rattle.grid_model.specs.declared.requests.Request.{Request}
 use Rattle.grid_model.specs.declared.refusal.Refusal.{Refusal}
 use Rattle.grid_model.specs.declared.refusal.Refusal.TheVariants as refusal
 use Rattle.cmd_read.specs.Orders as orders
-use Rattle.cmd_read.specs.Orders.{Texts, Means, promised}
+use Rattle.cmd_read.specs.Orders.{Texts, MeansOrder, promised}
 use Rattle.req_lines.specs.Hearing.{IsReadAs, a_request, cut_short, wrong_words, no_words, too_long, held_of}
 use Rattle.req_lines.proofs.PromiseLemmas.{promised_count}
 
 module _ (texts : Texts) (at : State) (line body : Text) where
   -- a request whose verb is built and asks for this order
-  pub asks_for : (request : Request) (order : Order) → IsReadAs line body (Ok request) → texts.built request.verb ≡ true → Means texts at request.verb body order
+  pub asks_for : (request : Request) (order : Order) → IsReadAs line body (Ok request) → texts.built request.verb ≡ true → MeansOrder texts at request.verb body order
       → orders.Asks texts at line body (Ok (request.session, order))
   asks_for request order (a_request r short spells reads all) built means = orders.asks_for request short spells reads refl all built means
 

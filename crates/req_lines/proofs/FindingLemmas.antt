@@ -10,7 +10,7 @@ use Rattle.grid_model.specs.Inputs.{Asked, HasBody, Takes, none_taken, takes_one
 use Rattle.grid_model.specs.declared.requests.Request.{Request}
 use Rattle.grid_model.specs.declared.refusal.Refusal.{Refusal}
 use Rattle.req_lines.specs.Reading.{Input, Gets, GetsAll, ReadsLine, ReadsPart, Passes}
-use Rattle.req_lines.specs.Hearing.{IsReadAs, held_of, ahead, GoesOver, IsAtEnd, Asks, Skips, Hears, GoesOn, BreaksOff, Finds, Stops}
+use Rattle.req_lines.specs.Hearing.{IsReadAs, held_of, ahead, GoesOver, IsAtEnd, IsOneRequest, Skips, Hears, GoesOn, BreaksOff, Finds, Stops}
 use Rattle.req_lines.specs.Heads.{HearsBehind, GoesOnBehind, BreaksOffBehind, FindsBehind, IsLast, passed_so}
 use Rattle.req_lines.specs.declared.line_reader.Ended.TheVariants as ended
 use Rattle.req_lines.specs.declared.requests.Heard.{Heard}
@@ -108,7 +108,7 @@ module _ (old mid : Input) (held : Text) (reads : ReadsLine old ended.Line mid h
           let one : Asked = record { line = line; body = body } in
           let P : ℕ → Type 0 = λ n. HasBody line n in
           let has : HasBody line (length body) = subst P (sym passes.ends.1) (line_body behind.count behind.has) in
-          let Q : Bool → Type 0 = λ b. Asks b (line ++ 0x0A ∷ body) one new in
+          let Q : Bool → Type 0 = λ b. IsOneRequest b (line ++ 0x0A ∷ body) one new in
           record {
             asked = one;
             bytes = line ++ 0x0A ∷ body;
@@ -131,7 +131,7 @@ module _ (old mid : Input) (held : Text) (reads : ReadsLine old ended.Line mid h
             ends = ends_in_body line body refl reads.is (line_some some) (line_body behind.count behind.has) passes.ends.1;
             are = refl;
           } in
-          let Q : Bool → Type 0 = λ b. Asks b (line ++ 0x0A ∷ body) one new in
+          let Q : Bool → Type 0 = λ b. IsOneRequest b (line ++ 0x0A ∷ body) one new in
           record {
             asked = one;
             bytes = line ++ 0x0A ∷ body;
@@ -233,7 +233,7 @@ finds_last old new held reads tells (next.Request heard) is =
     let one : Asked = record { line = line; body = [] } in
     let some : IsTrue (is_request line) = sym (held_request held line reads.held) ∙ is.0 in
     let are : AreRequests line (one ∷ []) = record { whole = []; left = line; last = one ∷ []; takes = none_taken; ends = ends_in_line reads.is some; are = refl } in
-    let Q : Bool → Type 0 = λ b. Asks b line one new in
+    let Q : Bool → Type 0 = λ b. IsOneRequest b line one new in
     record {
       asked = one;
       bytes = line;

@@ -5,7 +5,7 @@ use Rattle.grid_outside.specs.Source.{SourceState}
 use Rattle.grid_model.specs.Names.{Text}
 use Rattle.grid_model.specs.Inputs.{Asked, Takes, none_taken, takes_one, takes_blank, AreRequests}
 use Rattle.req_lines.specs.Reading.{Input, Reader, input}
-use Rattle.req_lines.specs.Hearing.{ahead, GoesOver, IsAtEnd, Asks, Hears, HearsNone, GoesOn, BreaksOff}
+use Rattle.req_lines.specs.Hearing.{ahead, GoesOver, IsAtEnd, IsOneRequest, Hears, HearsNone, GoesOn, BreaksOff}
 use Rattle.req_lines.specs.Progress.{HasHeard, HeardAll, HeardPart, HeardMost, HeardWithin}
 use Rattle.req_lines.specs.declared.requests.Heard.{Heard}
 use Rattle.req_lines.proofs.InputLemmas.{Takes-more, Takes-join, takes_of}
@@ -41,7 +41,7 @@ heard_within from now asked so_far most =
 -- a call goes ahead in the input
 pub heard_ahead : (old new : Input) (heard : Heard) (hears : Hears old new heard) → heard.ends ≡ false → old.reader.taken + length new.reader.unread < new.reader.taken + length old.reader.unread
 heard_ahead old new heard hears goes_on =
-    let takes = subst (λ (b : Bool). Asks b hears.bytes hears.asked new) goes_on hears.is_next in
+    let takes = subst (λ (b : Bool). IsOneRequest b hears.bytes hears.asked new) goes_on hears.is_next in
     omega (arith, hears.over.count, one_byte takes)
   where
     one_byte : {bytes left : Text} {asked : Asked} → Takes bytes (asked ∷ []) left → 0 < length bytes
@@ -75,7 +75,7 @@ module _ (from : SourceState) (old : Input) (asked : List Asked) (so_far : HasHe
     -- a request of which the input has more behind it
     pub heard_more : (heard : Heard) → IsTrue old.source.tells → (hears : Hears old new heard) → heard.ends ≡ false → HasHeard from new (asked ++ hears.asked ∷ [])
     heard_more heard told hears goes_on =
-        let takes = subst (λ (b : Bool). Asks b hears.bytes hears.asked new) goes_on hears.is_next in
+        let takes = subst (λ (b : Bool). IsOneRequest b hears.bytes hears.asked new) goes_on hears.is_next in
         record {
           front = so_far.front ++ hears.bytes;
           split = over_split hears.bytes (ahead new) (hears.over.split told);
@@ -97,7 +97,7 @@ module _ (from : SourceState) (old : Input) (asked : List Asked) (so_far : HasHe
     -- a request with which the input has ended
     pub heard_last : (heard : Heard) → IsTrue old.source.tells → IsTrue new.source.tells → (hears : Hears old new heard) → heard.ends ≡ true → HeardAll from new.source (asked ++ hears.asked ∷ [])
     heard_last heard told still hears over =
-        let is = subst (λ (b : Bool). Asks b hears.bytes hears.asked new) over hears.is_next in
+        let is = subst (λ (b : Bool). IsOneRequest b hears.bytes hears.asked new) over hears.is_next in
         ends_all hears.bytes (hears.asked ∷ []) told still hears.over is.1 is.0
 
     -- the input has no more

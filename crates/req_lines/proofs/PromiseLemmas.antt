@@ -8,9 +8,9 @@ use Rattle.grid_model.proofs.Comparing.{same_text-Decides}
 use Rattle.grid_model.specs.declared.requests.Request.{Request}
 use Rattle.grid_model.specs.declared.requests.Verb.{Verb}
 use Rattle.req_words.proofs.OneReading.{SpellsLine-unique}
-use Rattle.cmd_read.specs.Table.{Form, a_number, Value, Means, Asks, Way, way, Row, among, number_of, table, of_sessions, of_users, of_resources, of_rules, of_collections, of_objects, of_uploads, of_metadata}
+use Rattle.cmd_read.specs.Table.{Form, a_number, FormValue, Means, VerbFrom, Way, way, Row, among, number_of, table, of_sessions, of_users, of_resources, of_rules, of_collections, of_objects, of_uploads, of_metadata}
 use Rattle.cmd_read.specs.Table as table
-use Rattle.cmd_read.specs.Reading.{fits, chosen, Makes, AsksBy, AsksFor, ReadsVerb, ReadsIn, ReadsBehind, Reads, session_of}
+use Rattle.cmd_read.specs.Reading.{fits_forms, chosen, Makes, WordsAsk, AsksFor, ReadsVerb, ReadsIn, ReadsBehind, Reads, session_of}
 use Rattle.cmd_read.specs.Counting.{has_body, promises}
 use Rattle.cmd_read.specs.Orders.{promised}
 use Rattle.cmd_read.proofs.Counting.{counts, no_promise}
@@ -19,16 +19,16 @@ use Rattle.cmd_read.proofs.Numbers.{number_some}
 -- ---- ways
 
 -- what is made promises nothing
-abbrev PromisesNone : (fs : List Form) → Asks fs → Type 0
+abbrev PromisesNone : (fs : List Form) → VerbFrom fs → Type 0
 PromisesNone [] v = promised v ≡ 0
-PromisesNone (f ∷ fs) v = (x : Value f) → PromisesNone fs (v x)
+PromisesNone (f ∷ fs) v = (x : FormValue f) → PromisesNone fs (v x)
 
 -- what is made promises as many bytes as a last word says
-abbrev PromisesLast : (fs : List Form) → Asks (fs ++ a_number ∷ []) → Type 0
+abbrev PromisesLast : (fs : List Form) → VerbFrom (fs ++ a_number ∷ []) → Type 0
 PromisesLast [] v = (n : ℕ) → promised (v n) ≡ n
-PromisesLast (f ∷ fs) v = (x : Value f) → PromisesLast fs (v x)
+PromisesLast (f ∷ fs) v = (x : FormValue f) → PromisesLast fs (v x)
 
-none_made : (fs : List Form) (v : Asks fs) (ws : List Text) (verb : Verb) → PromisesNone fs v → Makes fs ws v verb → promised verb ≡ 0
+none_made : (fs : List Form) (v : VerbFrom fs) (ws : List Text) (verb : Verb) → PromisesNone fs v → Makes fs ws v verb → promised verb ≡ 0
 none_made [] v [] verb none m = ap promised (sym m) ∙ none
 none_made [] v (w ∷ ws) verb none m = absurd m
 none_made (f ∷ fs) v [] verb none m = absurd m
@@ -41,7 +41,7 @@ record LastCounts (ws : List Text) (verb : Verb) : Type 0 where
   are : ws ≡ front ++ last ∷ []
   is : number_of last ≡ Some (promised verb)
 
-last_made : (fs : List Form) (v : Asks (fs ++ a_number ∷ [])) (ws : List Text) (verb : Verb) → PromisesLast fs v → Makes (fs ++ a_number ∷ []) ws v verb → LastCounts ws verb
+last_made : (fs : List Form) (v : VerbFrom (fs ++ a_number ∷ [])) (ws : List Text) (verb : Verb) → PromisesLast fs v → Makes (fs ++ a_number ∷ []) ws v verb → LastCounts ws verb
 last_made [] v [] verb told m = absurd m
 last_made [] v (w ∷ []) verb told m = record { front = []; last = w; are = refl; is = m.1 ∙ ap Some (sym (ap promised (sym m.2) ∙ told m.0)) }
 last_made [] v (w ∷ x ∷ ws) verb told m = absurd m.2
@@ -57,20 +57,20 @@ WaysNone (w ∷ ws) = PromisesNone w.forms w.makes × WaysNone ws
 -- the ways of a verb: with a body, and a last word that says how many bytes, or with none
 data Counts (v : Text) (ways : List Way) : Type 0 where
   none : has_body v ≡ false → WaysNone ways → Counts v ways
-  last : has_body v ≡ true → (fs : List Form) (m : Asks (fs ++ a_number ∷ [])) → PromisesLast fs m → ways ≡ way (fs ++ a_number ∷ []) m ∷ [] → Counts v ways
+  last : has_body v ≡ true → (fs : List Form) (m : VerbFrom (fs ++ a_number ∷ [])) → PromisesLast fs m → ways ≡ way (fs ++ a_number ∷ []) m ∷ [] → Counts v ways
 
 chosen_none : (ways : List Way) (ws : List Text) (verb : Verb) → WaysNone ways → AsksFor ways ws verb → promised verb ≡ 0
 chosen_none [] ws verb all asks = absurd asks
-chosen_none (w ∷ ways) ws verb all asks = by (fits w.forms ws) asks (chosen_none ways ws verb all.1)
+chosen_none (w ∷ ways) ws verb all asks = by (fits_forms w.forms ws) asks (chosen_none ways ws verb all.1)
   where
-    by : (b : Bool) → AsksBy (cond b (Some w) (chosen ways ws)) ws verb → (AsksFor ways ws verb → promised verb ≡ 0) → promised verb ≡ 0
+    by : (b : Bool) → WordsAsk (cond b (Some w) (chosen ways ws)) ws verb → (AsksFor ways ws verb → promised verb ≡ 0) → promised verb ≡ 0
     by true made more = none_made w.forms w.makes ws verb all.0 made
     by false made more = more made
 
-chosen_last : (fs : List Form) (m : Asks (fs ++ a_number ∷ [])) (ws : List Text) (verb : Verb) → PromisesLast fs m → AsksFor (way (fs ++ a_number ∷ []) m ∷ []) ws verb → LastCounts ws verb
-chosen_last fs m ws verb told asks = by (fits (fs ++ a_number ∷ []) ws) asks
+chosen_last : (fs : List Form) (m : VerbFrom (fs ++ a_number ∷ [])) (ws : List Text) (verb : Verb) → PromisesLast fs m → AsksFor (way (fs ++ a_number ∷ []) m ∷ []) ws verb → LastCounts ws verb
+chosen_last fs m ws verb told asks = by (fits_forms (fs ++ a_number ∷ []) ws) asks
   where
-    by : (b : Bool) → AsksBy (cond b (Some (way (fs ++ a_number ∷ []) m)) None) ws verb → LastCounts ws verb
+    by : (b : Bool) → WordsAsk (cond b (Some (way (fs ++ a_number ∷ []) m)) None) ws verb → LastCounts ws verb
     by true made = last_made fs m ws verb told made
     by false made = absurd made
 

@@ -4,7 +4,7 @@ use Rattle.grid_outside.specs.Source.{SourceState}
 use Rattle.grid_model.specs.Names.{Text}
 use Rattle.grid_model.specs.Inputs.{Asked, Takes, none_taken, AreRequests}
 use Rattle.req_lines.specs.Reading.{Input}
-use Rattle.req_lines.specs.Hearing.{ahead, Asks, Skips, BreaksOff, Finds, Stops}
+use Rattle.req_lines.specs.Hearing.{ahead, IsOneRequest, Skips, BreaksOff, Finds, Stops}
 use Rattle.req_lines.specs.declared.requests.Next.{Next}
 use Rattle.req_lines.specs.declared.requests.Next.TheVariants as next
 use Rattle.req_lines.proofs.InputLemmas.{Takes-more, Takes-join}
@@ -35,7 +35,7 @@ module _ (old mid : Input) (tells : mid.source.tells ≡ old.source.tells) (skip
     none = behind skips.bytes more.bytes [] [] skips.none more.none;
   }
 
-  asks_behind : (ends : Bool) (bytes : Text) (asked : Asked) (new : Input) → Asks ends bytes asked new → Asks ends (skips.bytes ++ bytes) asked new
+  asks_behind : (ends : Bool) (bytes : Text) (asked : Asked) (new : Input) → IsOneRequest ends bytes asked new → IsOneRequest ends (skips.bytes ++ bytes) asked new
   asks_behind false bytes asked new is = behind skips.bytes bytes [] (asked ∷ []) skips.none is
   asks_behind true bytes asked new is = (all_behind skips.bytes bytes (asked ∷ []) skips.none is.0, is.1)
 

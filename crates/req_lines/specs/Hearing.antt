@@ -58,9 +58,9 @@ pub record IsAtEnd (at : Input) : Type 0 where
   pub left : IsTrue at.source.tells → at.source.left ≡ []
 
 -- These bytes are lines without words and then this request, whole or as the end of the input leaves it.
-abbrev pub Asks : Bool → Text → Asked → Input → Type 0
-Asks false bytes asked new = Takes bytes (asked ∷ []) []
-Asks true bytes asked new = AreRequests bytes (asked ∷ []) × IsAtEnd new
+abbrev pub IsOneRequest : Bool → Text → Asked → Input → Type 0
+IsOneRequest false bytes asked new = Takes bytes (asked ∷ []) []
+IsOneRequest true bytes asked new = AreRequests bytes (asked ∷ []) × IsAtEnd new
 
 -- lines without words were gone over
 pub record Skips (old new : Input) : Type 0 where
@@ -73,7 +73,7 @@ pub record Hears (old new : Input) (heard : Heard) : Type 0 where
   pub asked : Asked
   pub bytes : Text
   pub over : GoesOver old new bytes
-  pub is_next : Asks heard.ends bytes asked new
+  pub is_next : IsOneRequest heard.ends bytes asked new
   pub read : IsReadAs asked.line asked.body heard.asked
   pub held : heard.body ≡ held_of heard.asked asked.body
   pub fits : length heard.body ≤ object_size

@@ -46,14 +46,14 @@ Follows (Escape begun) rest words = GoesOnEscaped begun.items rest words
 Follows Closed rest words = EndsWord rest × SpellsLine rest words
 
 -- after the byte exactly that follows which follows at the next place, behind the words that ended
-pub record Step (place : Place) (byte : ℕ) (next : Place) (ended : List Text) : Type 0 where
+pub record ByteStep (place : Place) (byte : ℕ) (next : Place) (ended : List Text) : Type 0 where
   pub to : (rest : Text) (words : List Text) → Follows next rest words → Follows place (byte ∷ rest) (ended ++ words)
   pub from : (rest : Text) (words : List Text) → Follows place (byte ∷ rest) words → (later : List Text) × (words ≡ ended ++ later) × Follows next rest later
 
 -- where nothing is next, no such byte may stand
 abbrev pub StepsTo : Place → ℕ → Option Place → List Text → Type 0
 StepsTo place byte None ended = (rest : Text) (words : List Text) → ¬ Follows place (byte ∷ rest) words
-StepsTo place byte (Some next) ended = Step place byte next ended
+StepsTo place byte (Some next) ended = ByteStep place byte next ended
 
 -- the words before the byte and after it
 abbrev pub Moves : Place → List Text → ℕ → Option Place → List Text → Type 0

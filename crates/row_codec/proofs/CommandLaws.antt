@@ -1,7 +1,7 @@
 -- The readers of what a command has that is not done.
 use Rattle.std.proofs.Common.{◌≡◌, ℕ, true, false, Bool, List, [], ◌∷◌, ◌++◌, Option, Some, None, Ok, refl, subst}
 use Rattle.grid_model.specs.Names.{Text}
-use Rattle.grid_model.specs.Deltas.{Part, all_fit, joined, whole, code, flag, u8, u64, digest, each, call, bad_replica, mark, passed, running, pending}
+use Rattle.grid_model.specs.Deltas.{Part, all_fit, joined, whole, code, flag, u8, u64, digest, each, call, bad_replica, mark, passed, running_call, pending}
 use Rattle.grid_model.specs.declared.calls.Call.{Call}
 use Rattle.grid_model.specs.declared.marks.BadReplica.{BadReplica}
 use Rattle.grid_model.specs.declared.marks.Mark.{Mark}
@@ -149,11 +149,11 @@ running_again : (o : Option Call) (rest : Text) → all_fit (running_body o) ≡
 running_again None rest fits = no_call.law.again _ rest (tt, refl, fits)
 running_again (Some c) rest fits = some_call.law.again _ rest (c, refl, fits)
 
-flagged_call : (o : Option Call) → whole (code (flag (is_there o)) ∷ running_body o) ≡ running o
+flagged_call : (o : Option Call) → whole (code (flag (is_there o)) ∷ running_body o) ≡ running_call o
 flagged_call None = refl
 flagged_call (Some c) = refl
 
-running_part : IsPart running_at running
+running_part : IsPart running_at running_call
 unfolding running_at
 running_part = subst (λ (part : Option Call → Part). IsPart running_at part) (λ i o. flagged_call o i) (IsPart-whole (IsRow-then is_there flag_part (IsRow-behind running_if is_there running_body behind_flag running_again)))
 

@@ -8,7 +8,7 @@ use Rattle.std.proofs.lemmas.List.{append-nil, length-append, length-take, lengt
 use Rattle.std.proofs.lemmas.Nat.{be_bytes_4, be_bytes_8, from_be_bytes-to_be_bytes_4, from_be_bytes-to_be_bytes_8, mod_below}
 use Rattle.grid_model.specs.Names.{Text}
 use Rattle.grid_model.specs.Deltas.{is_byte, u8, u32, u64, four_bytes, eight_bytes, code_if, digest}
-use Rattle.row_codec.specs.Codes.{known_in}
+use Rattle.row_codec.specs.Codes.{value_numbered}
 use Rattle.row_codec.specs.Reading.{Read, bind, and_then, give, byte_at, fixed_at, u32_at, u64_at, known_or, coded_at}
 use Rattle.row_codec.proofs.ReaderLaws.{IsBytes, IsBytes-front, IsBytes-append, StopsAt, Law, ok_is, Law-refit, Law-map, IsPart}
 
@@ -97,11 +97,11 @@ find_passes {A = A} p may (x ∷ all) a h e = by (p x) refl e (λ f. find_passes
     by true is f later = let same : x ≡ a = cc in (ap may (sym same) ∙ both.0, ap p (sym same) ∙ is)
     by false is f later = later f
 
-pub coded_part : {A : Type 0} (number : A → ℕ) (may : A → Bool) (all : List A) → list_all may all ≡ true → ((a : A) → may a ≡ true → known_in number all (number a) ≡ Some a) → (some : A) → may some ≡ true
-    → IsPart (coded_at (known_in number all)) (λ a. code_if (may a) (number a))
-coded_part {A = A} number may all fits back some some_may = record { law = coded_law number may (known_in number all) back found some some_may }
+pub coded_part : {A : Type 0} (number : A → ℕ) (may : A → Bool) (all : List A) → list_all may all ≡ true → ((a : A) → may a ≡ true → value_numbered number all (number a) ≡ Some a) → (some : A) → may some ≡ true
+    → IsPart (coded_at (value_numbered number all)) (λ a. code_if (may a) (number a))
+coded_part {A = A} number may all fits back some some_may = record { law = coded_law number may (value_numbered number all) back found some some_may }
   where
-    found : (n : ℕ) (a : A) → known_in number all n ≡ Some a → (may a ≡ true) × (number a ≡ n)
+    found : (n : ℕ) (a : A) → value_numbered number all n ≡ Some a → (may a ≡ true) × (number a ≡ n)
     found n a e = let x = find_passes (λ b. eqb (number b) n) may all a fits e in (x.0, eqb-true _ _ x.1)
 
 -- ---- so many bytes

@@ -4,7 +4,7 @@ use Rattle.std.specs.Prelude.{◌&&◌}
 use Rattle.std.specs.List.{list_all, prefix_len, flat_map}
 use Rattle.std.proofs.lemmas.Bool.{and_parts, and_from, eqb-true, eqb-false, eq-eqb, ne_eqb, cond-true}
 use Rattle.grid_model.specs.Names.{Text}
-use Rattle.grid_model.specs.Deltas.{Part, all_fit, joined, eight_bytes, is_shown_byte, is_rule_byte, text_of, each}
+use Rattle.grid_model.specs.Deltas.{Part, all_fit, joined, eight_bytes, is_shown_byte, is_rule_byte, sized_text, each}
 use Rattle.row_codec.specs.declared.fields.Alphabet.{Alphabet}
 use Rattle.row_codec.specs.declared.fields.Alphabet.TheVariants.{Shown, Rules}
 use Rattle.row_codec.specs.Reading.{Read, bind, and_then, give, u64_at, known_or, coded_at, is_allowed, chars_at, text_at, many_at, list_at}
@@ -136,10 +136,10 @@ module _ (ok : ℕ → Bool) (some : ℕ) (some_may : ok some ≡ true) where
       subst (λ (r : Text → Read Text). Law r (λ t. (length t ≡ n) × (list_all ok t ≡ true)) (λ t. t)) (λ i s. sym (as_slowly n s) i)
       (subst (λ (spell : Text → Text). Law (slowly n) (λ t. (length t ≡ n) × (list_all ok t ≡ true)) spell) (λ i t. one_by_one t i) (many_law (coded_at (passing ok)) ok (λ b. b ∷ []) char_law n))
 
-  pub text_law : IsPart (and_then u64_at at_once) (text_of ok)
+  pub text_law : IsPart (and_then u64_at at_once) (sized_text ok)
   text_law = counted at_once (list_all ok) (λ t. t) chars_law
 
-pub text_part : (a : Alphabet) → IsPart (text_at a) (text_of (is_allowed a))
+pub text_part : (a : Alphabet) → IsPart (text_at a) (sized_text (is_allowed a))
 unfolding text_at chars_at
 text_part Shown = text_law is_shown_byte 0x20 refl
 text_part Rules = text_law is_rule_byte 0x20 refl

@@ -4,7 +4,7 @@ use Rattle.std.proofs.lemmas.List.{append-nil}
 use Rattle.grid_model.specs.Names.{Text}
 use Rattle.row_codec.specs.declared.stop.Stop.{Stop}
 use Rattle.row_codec.specs.declared.stop.Stop.TheVariants.{Memory, Broken}
-use Rattle.row_codec.specs.Reading.{Read, Stops, bind, and_then, give, many_at}
+use Rattle.row_codec.specs.Reading.{Read, StopsReading, bind, and_then, give, many_at}
 
 -- what was read before, and what is still read
 abbrev pub with_front : {A : Type 0} → List A → Read (List A) → Read (List A)
@@ -23,8 +23,8 @@ module _ {A : Type 0} (read : Text → Read A) where
       let one : with_front front (many_at read (count - i) s) ≡ with_front (front ++ x ∷ []) (many_at read (count - (i + 1)) behind) = rw (k, h) (regroup front x (many_at read (count - (i + 1)) behind)) in
       sym one ∙ so_far
 
-  pub ends : (e : Stop) (front : List A) (count i : ℕ) (s : Text) (total : Read (List A)) → i < count → Stops e (read s)
-      → with_front front (many_at read (count - i) s) ≡ total → Stops e total
+  pub ends : (e : Stop) (front : List A) (count i : ℕ) (s : Text) (total : Read (List A)) → i < count → StopsReading e (read s)
+      → with_front front (many_at read (count - i) s) ≡ total → StopsReading e total
   unfolding many_at and_then give
   ends Memory front count i s total lt h so_far = tt
   ends (Broken left) front count i s total lt h so_far =

@@ -9,9 +9,9 @@ use Rattle.grid_model.specs.declared.deltas.Delta.{Delta}
 use Rattle.row_codec.specs.declared.stop.Stop.{Stop}
 use Rattle.row_codec.specs.declared.stop.Stop.TheVariants as stop
 use Rattle.row_codec.specs.declared.error.CodecError.TheVariants.{BadRecord}
-use Rattle.row_codec.specs.Reading.{Stops}
+use Rattle.row_codec.specs.Reading.{StopsReading}
 use Rattle.row_codec.specs.Rows.{delta_at}
-use Rattle.row_codec.specs.Stopping.{IsWithin, refusal_of}
+use Rattle.row_codec.specs.Stopping.{IsWithin, codec_error_of}
 use Rattle.row_codec.proofs.ReaderLaws.{IsBytes, IsBytes-behind}
 use Rattle.row_codec.proofs.DeltaLaws.{delta_law}
 use Rattle.row_codec.proofs.Spelled.{AllFit, AllFit-push, spellings, spellings-push, IsBytes-each, shorter, within, IsRefusedAt-left}
@@ -19,12 +19,12 @@ use Rattle.row_codec.proofs.Spelled.{AllFit, AllFit-push, spellings, spellings-p
 rest_fits : (bytes s : Text) (ds : List Delta) → ((i : ℕ) → get_or bytes i 0 < 256) → bytes ≡ spellings ds ++ s → IsBytes s
 rest_fits bytes s ds fit is = IsBytes-behind (spellings ds) s (subst IsBytes is (IsBytes-each bytes fit))
 
-pub stop_within : (bytes s : Text) (ds : List Delta) (e : Stop) → ((i : ℕ) → get_or bytes i 0 < 256) → bytes ≡ spellings ds ++ s → Stops e (delta_at s) → IsWithin e (length bytes)
+pub stop_within : (bytes s : Text) (ds : List Delta) (e : Stop) → ((i : ℕ) → get_or bytes i 0 < 256) → bytes ≡ spellings ds ++ s → StopsReading e (delta_at s) → IsWithin e (length bytes)
 stop_within bytes s ds stop.Memory fit is h = tt
 stop_within bytes s ds (stop.Broken left) fit is h = within bytes s ds left (rest_fits bytes s ds fit is) is h
 
-pub stop_refuses : (bytes s : Text) (ds : List Delta) (e : Stop) → ((i : ℕ) → get_or bytes i 0 < 256) → AllFit ds → bytes ≡ spellings ds ++ s → (s ≡ [] → ⊥) → Stops e (delta_at s)
-    → (at : ℕ) → refusal_of e (length bytes) ≡ BadRecord at → IsRefusedAt SpellsDeltas bytes at
+pub stop_refuses : (bytes s : Text) (ds : List Delta) (e : Stop) → ((i : ℕ) → get_or bytes i 0 < 256) → AllFit ds → bytes ≡ spellings ds ++ s → (s ≡ [] → ⊥) → StopsReading e (delta_at s)
+    → (at : ℕ) → codec_error_of e (length bytes) ≡ BadRecord at → IsRefusedAt SpellsDeltas bytes at
 stop_refuses bytes s ds stop.Memory bytes_fit fit is some h at e = absurd cc
 stop_refuses bytes s ds (stop.Broken left) bytes_fit fit is some h at e =
     let place : length bytes - left ≡ at = cc in

@@ -3,13 +3,13 @@ use Rattle.std.proofs.Common.{◌≡◌, ℕ, true, List, [], ◌∷◌, refl, s
 use Rattle.std.proofs.lemmas.Bool.{and_parts, and_from}
 use Rattle.std.proofs.lemmas.List.{append-nil}
 use Rattle.grid_model.specs.Names.{Text}
-use Rattle.grid_model.specs.Deltas.{Part, all_fit, u8, u32, u64, text, is_rule_byte, text_of, entry_kind, user_row, member_row, collection_row, object_row, replica_row, triple_row, entry_row, resource_row, orphan_row, numbers}
+use Rattle.grid_model.specs.Deltas.{Part, all_fit, u8, u32, u64, text, is_rule_byte, sized_text, entry_kind, user_row, member_row, collection_row, object_row, replica_row, triple_row, entry_row, resource_row, orphan_row, numbers}
 use Rattle.grid_model.specs.declared.grid.ItemKind.{ItemKind}
 use Rattle.grid_model.specs.declared.deltas.EntryRow.{EntryRow}
 use Rattle.row_codec.specs.declared.fields.Alphabet.TheVariants.{Shown, Rules}
 use Rattle.row_codec.specs.declared.tags.EntryKind.{EntryKind}
 use Rattle.row_codec.specs.Reading.{Read, u64_at, text_at}
-use Rattle.row_codec.specs.Rows.{user_at, member_at, collection_at, object_at, replica_at, triple_at, entry_at, resource_at, orphan_at, numbers_at, zone_at, no_replica_at, no_entry_at}
+use Rattle.row_codec.specs.Rows.{user_at, member_at, collection_row_at, object_row_at, replica_at, triple_at, entry_at, resource_at, orphan_at, numbers_at, zone_at, no_replica_at, no_entry_at}
 use Rattle.row_codec.proofs.ReaderLaws.{Law, Law-refit, IsPart, IsRow, Any, IsRow-then, IsRow-give}
 use Rattle.row_codec.proofs.FieldLaws.{byte_part, u32_part, u64_part, digest_part}
 use Rattle.row_codec.proofs.ListLaws.{text_part}
@@ -39,8 +39,8 @@ member_is =
     IsRow-then (λ r. r.user) u32_part (λ user.
     IsRow-give _ ((tt, refl), refl) (λ b h i. record { group = h.0.1 i; user = h.1 i })))
 
-pub collection_is : IsRow collection_at Any collection_row
-unfolding collection_at
+pub collection_is : IsRow collection_row_at Any collection_row
+unfolding collection_row_at
 collection_is =
     IsRow-then (λ r. r.id) u64_part (λ id.
     IsRow-then (λ r. r.parent) u64_part (λ parent.
@@ -48,8 +48,8 @@ collection_is =
     IsRow-then (λ r. r.inherit) flag_part (λ inherit.
     IsRow-give _ ((((tt, refl), refl), refl), refl) (λ b h i. record { id = h.0.0.0.1 i; parent = h.0.0.1 i; name = h.0.1 i; inherit = h.1 i })))))
 
-pub object_is : IsRow object_at Any object_row
-unfolding object_at
+pub object_is : IsRow object_row_at Any object_row
+unfolding object_row_at
 object_is =
     IsRow-then (λ r. r.id) u64_part (λ id.
     IsRow-then (λ r. r.collection) u64_part (λ collection.
@@ -161,7 +161,7 @@ pub u64_is : IsRow u64_at Any (λ n. u64 n ∷ [])
 u64_is = alone u64_part
 
 -- the text of rules
-pub rules_is : IsRow (text_at Rules) Any (λ t. text_of is_rule_byte t ∷ [])
+pub rules_is : IsRow (text_at Rules) Any (λ t. sized_text is_rule_byte t ∷ [])
 rules_is = alone (text_part Rules)
 
 pub shown_is : IsRow (text_at Shown) Any (λ t. text t ∷ [])

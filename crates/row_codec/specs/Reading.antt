@@ -15,13 +15,13 @@ abbrev pub Read : Type 0 → Type 0
 Read A = Result (A × Text) ℕ
 
 -- what a call answered is what reading gives, unless memory ran out
-abbrev pub Stops : {A : Type 0} → Stop → Read A → Type 0
-Stops Memory read = Unit {0}
-Stops (Broken left) read = read ≡ Err left
+abbrev pub StopsReading : {A : Type 0} → Stop → Read A → Type 0
+StopsReading Memory read = Unit {0}
+StopsReading (Broken left) read = read ≡ Err left
 
 abbrev pub Gives : {X A : Type 0} → (X → A × Text) → Result X Stop → Read A → Type 0
 Gives view (Ok x) read = read ≡ Ok (view x)
-Gives view (Err e) read = Stops e read
+Gives view (Err e) read = StopsReading e read
 
 -- one reader, and then the reader that its value picks
 abbrev pub bind : {A B : Type 0} → Read A → (A → Text → Read B) → Read B

@@ -41,16 +41,16 @@ member_at = do
   user ← u32_at
   give (record { group = group; user = user })
 
-unfoldable pub collection_at : Text → Read CollectionRow
-collection_at = do
+unfoldable pub collection_row_at : Text → Read CollectionRow
+collection_row_at = do
   id ← u64_at
   parent ← u64_at
   name ← text_at Shown
   inherit ← coded_at known_flag
   give (record { id = id; parent = parent; name = name; inherit = inherit })
 
-unfoldable pub object_at : Text → Read ObjectRow
-object_at = do
+unfoldable pub object_row_at : Text → Read ObjectRow
+object_row_at = do
   id ← u64_at
   collection ← u64_at
   name ← text_at Shown
@@ -213,9 +213,9 @@ body_of tag.Zone = and_then zone_at (λ x. give (delta.Zone x.0 x.1))
 body_of tag.User = and_then user_at (λ row. give (delta.User row))
 body_of tag.Member = and_then member_at (λ row. give (delta.Member row))
 body_of tag.NoMember = and_then member_at (λ row. give (delta.NoMember row))
-body_of tag.Collection = and_then collection_at (λ row. give (delta.Collection row))
+body_of tag.Collection = and_then collection_row_at (λ row. give (delta.Collection row))
 body_of tag.NoCollection = and_then u64_at (λ id. give (delta.NoCollection id))
-body_of tag.Object = and_then object_at (λ row. give (delta.Object row))
+body_of tag.Object = and_then object_row_at (λ row. give (delta.Object row))
 body_of tag.NoObject = and_then u64_at (λ id. give (delta.NoObject id))
 body_of tag.Replica = and_then replica_at (λ row. give (delta.Replica row))
 body_of tag.NoReplica = and_then no_replica_at (λ x. give (delta.NoReplica x.0 x.1))

@@ -11,6 +11,6 @@ IsWithin stop.Memory len = Unit {0}
 IsWithin (stop.Broken left) len = left ≤ len
 
 -- the refusal of so many bytes
-abbrev pub refusal_of : Stop → ℕ → CodecError
-refusal_of stop.Memory len = Memory
-refusal_of (stop.Broken left) len = BadRecord (len - left)
+abbrev pub codec_error_of : Stop → ℕ → CodecError
+codec_error_of stop.Memory len = Memory
+codec_error_of (stop.Broken left) len = BadRecord (len - left)

@@ -1,6 +1,7 @@
 -- A change as its tag and the parts behind it.
 use Rattle.std.specs.Prelude.{List, [], ◌∷◌}
-use Rattle.grid_model.specs.Deltas.{Part, u8, u32, u64, text, text_of, is_rule_byte, entry_kind, user_row, member_row, collection_row, object_row, replica_row, triple_row, entry_row, resource_row, orphan_row, numbers, pending}
+use Rattle.grid_model.specs.Deltas.{Part, u8, u32, u64, text, sized_text, is_rule_byte, entry_kind, user_row, member_row, collection_row}
+use Rattle.grid_model.specs.Deltas.{object_row, replica_row, triple_row, entry_row, resource_row, orphan_row, numbers, pending}
 use Rattle.grid_model.specs.declared.deltas.Delta.{Delta}
 use Rattle.grid_model.specs.declared.deltas.Delta.TheVariants as delta
 use Rattle.row_codec.specs.declared.tags.Tag.{Tag}
@@ -47,7 +48,7 @@ body (delta.NoTriple row) = triple_row row
 body (delta.Entry row) = entry_row row
 body (delta.NoEntry item id user) = entry_kind item ∷ u64 id ∷ u32 user ∷ []
 body (delta.Resource row) = resource_row row
-body (delta.Rules rules) = text_of is_rule_byte rules ∷ []
+body (delta.Rules rules) = sized_text is_rule_byte rules ∷ []
 body (delta.Orphan row) = orphan_row row
 body (delta.NoOrphan vault) = u64 vault ∷ []
 body (delta.Numbers row) = numbers row

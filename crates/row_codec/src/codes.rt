@@ -1,7 +1,8 @@
 ghost use Rattle.std.specs.Prelude.{◌≡◌, ℕ, Option};
 ghost use Rattle.grid_model.specs.Deltas.{user_kind, resource_kind, level, flag};
 ghost use Rattle.grid_model.specs.Rows.{item_number};
-ghost use Rattle.row_codec.specs.Codes.{entry_kind_number, known_flag, known_user_kind, known_item_kind, known_entry_kind, known_level, known_resource_kind, mark_number, known_mark, tag_number, known_tag};
+ghost use Rattle.row_codec.specs.Codes.{entry_kind_number, known_flag, known_user_kind, known_item_kind, known_entry_kind, known_level};
+ghost use Rattle.row_codec.specs.Codes.{known_resource_kind, mark_number, known_mark, tag_number, known_tag};
 
 use crate::tags::{EntryKind, MarkTag, Tag};
 use grid_model::{ItemKind, Level, ResourceKind, UserKind};

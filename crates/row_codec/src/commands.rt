@@ -1,7 +1,7 @@
 //! What a command has that is not done: marks, calls and refused recoveries, read and added.
 
 ghost use Rattle.std.specs.Prelude.{◌≡◌, [], ◌∷◌, ◌++◌, OnOk};
-ghost use Rattle.grid_model.specs.Deltas.{joined, text as text_part, bad_replica, call, passed, mark, running as running_part, pending as pending_row};
+ghost use Rattle.grid_model.specs.Deltas.{joined, text as text_part, bad_replica, call, passed, mark, running_call as running_part, pending as pending_row};
 ghost use Rattle.row_codec.specs.Reading.{Gives};
 ghost use Rattle.row_codec.specs.declared.fields.Alphabet.TheVariants.{Shown};
 ghost use Rattle.row_codec.specs.Reading.{text_at};

@@ -1,7 +1,8 @@
 //! Rows, added field by field.
 
 ghost use Rattle.std.specs.Prelude.{◌≡◌, ◌++◌, OnOk};
-ghost use Rattle.grid_model.specs.Deltas.{joined, user_row, member_row, collection_row, object_row, replica_row, triple_row, entry_row, resource_row, orphan_row, numbers};
+ghost use Rattle.grid_model.specs.Deltas.{joined, user_row, member_row, collection_row, object_row, replica_row, triple_row, entry_row};
+ghost use Rattle.grid_model.specs.Deltas.{resource_row, orphan_row, numbers};
 
 use crate::putting::{put_byte, put_code, put_digest, put_text, put_u32, put_u64};
 use grid_model::{

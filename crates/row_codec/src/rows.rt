@@ -1,9 +1,10 @@
 //! Rows at the front of bytes: each reader answers the row and the bytes behind it.
-#![tactic(auto, unfolding(crate::specs::Reading::and_then, crate::specs::Reading::give, crate::specs::Rows::user_at, crate::specs::Rows::member_at, crate::specs::Rows::collection_at, crate::specs::Rows::object_at, crate::specs::Rows::replica_at, crate::specs::Rows::triple_at, crate::specs::Rows::entry_at, crate::specs::Rows::resource_at, crate::specs::Rows::orphan_at, crate::specs::Rows::numbers_at, crate::specs::Rows::zone_at, crate::specs::Rows::no_replica_at, crate::specs::Rows::no_entry_at))]
+#![tactic(auto, unfolding(crate::specs::Reading::and_then, crate::specs::Reading::give, crate::specs::Rows::user_at, crate::specs::Rows::member_at, crate::specs::Rows::collection_row_at, crate::specs::Rows::object_row_at, crate::specs::Rows::replica_at, crate::specs::Rows::triple_at, crate::specs::Rows::entry_at, crate::specs::Rows::resource_at, crate::specs::Rows::orphan_at, crate::specs::Rows::numbers_at, crate::specs::Rows::zone_at, crate::specs::Rows::no_replica_at, crate::specs::Rows::no_entry_at))]
 
 ghost use Rattle.std.specs.Prelude.{◌≡◌};
 ghost use Rattle.row_codec.specs.Reading.{Gives};
-ghost use Rattle.row_codec.specs.Rows.{user_at, member_at, collection_at, object_at, replica_at, triple_at, entry_at, resource_at, orphan_at, numbers_at, zone_at, no_replica_at, no_entry_at};
+ghost use Rattle.row_codec.specs.Rows.{user_at, member_at, collection_row_at, object_row_at, replica_at, triple_at, entry_at, resource_at};
+ghost use Rattle.row_codec.specs.Rows.{orphan_at, numbers_at, zone_at, no_replica_at, no_entry_at};
 
 use crate::fields::{Alphabet, byte, coded, hash_of, text, u32_of, u64_of};
 use crate::stop::Stop;
@@ -35,7 +36,7 @@ pub fn member(bytes: &[u8]) -> Result<(MemberRow, &[u8]), Stop>
 
 /// Reads the fields of a collection, and gives the bytes behind them too.
 pub fn collection(alloc: Global, bytes: &[u8]) -> Result<(CollectionRow, &[u8]), Stop>
-    ensures { Gives (λ x. (x.0, x.1.now)) result (collection_at bytes.now) }
+    ensures { Gives (λ x. (x.0, x.1.now)) result (collection_row_at bytes.now) }
 {
     let (id, rest) = u64_of(bytes)?;
     let (parent, rest) = u64_of(rest)?;
@@ -52,7 +53,7 @@ pub fn collection(alloc: Global, bytes: &[u8]) -> Result<(CollectionRow, &[u8]),
 
 /// Reads the fields of an object, and gives the bytes behind them too.
 pub fn object(alloc: Global, bytes: &[u8]) -> Result<(ObjectRow, &[u8]), Stop>
-    ensures { Gives (λ x. (x.0, x.1.now)) result (object_at bytes.now) }
+    ensures { Gives (λ x. (x.0, x.1.now)) result (object_row_at bytes.now) }
 {
     let (id, rest) = u64_of(bytes)?;
     let (collection, rest) = u64_of(rest)?;

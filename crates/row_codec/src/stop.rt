@@ -1,5 +1,5 @@
 ghost use Rattle.std.specs.Prelude.{◌≡◌};
-ghost use Rattle.row_codec.specs.Stopping.{IsWithin, refusal_of};
+ghost use Rattle.row_codec.specs.Stopping.{IsWithin, codec_error_of};
 ghost use Rattle.row_codec.specs.declared.stop.Stop.TheVariants.{Memory};
 
 use crate::error::CodecError;
@@ -17,7 +17,7 @@ impl Stop {
     /// The same of bytes that are so many.
     pub fn refusal(self, len: usize) -> CodecError
         requires { IsWithin self len }
-        ensures { result ≡ refusal_of self len }
+        ensures { result ≡ codec_error_of self len }
     {
         match self {
             Stop::Memory => CodecError::Memory,

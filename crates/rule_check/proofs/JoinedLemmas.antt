@@ -15,7 +15,7 @@ use Rattle.grid_model.specs.declared.rules.Expr.{Expr}
 use Rattle.grid_model.specs.declared.rules.Rule.{Rule}
 use Rattle.rule_check.specs.Faults.{keep}
 use Rattle.rule_check.specs.Rules.{head_faults, known_of, name_faults, steps_faults}
-use Rattle.rule_check.specs.Tables.{plain_rules}
+use Rattle.rule_check.specs.Tables.{without_places}
 use Rattle.rule_check.specs.Words.{words}
 use Rattle.rule_check.specs.declared.known.Known.{Known}
 use Rattle.rule_check.proofs.Keeping.{keep-append, keep-nil}
@@ -28,7 +28,7 @@ literal_faults-none (Some ts) = refl
 two : (a b c : Option Fault) (x y : List Fault) → b ≡ keep a x → c ≡ keep b y → c ≡ keep a (x ++ y)
 two a b c x y p q = q ∙ ap (λ o. keep o y) p ∙ sym (keep-append a x y)
 
-pub call_joined : (rs : List meaning.Rule) (k : checks.Known) (call : Call0) (name : Text) (args : List Expr) (a b c d : Option Fault) → name ≡ call.name → args ≡ call.args
+pub call_joined : (rs : List meaning.Rule) (k : checks.KnownNames) (call : Call0) (name : Text) (args : List Expr) (a b c d : Option Fault) → name ≡ call.name → args ≡ call.args
     → b ≡ keep a (name_faults rs name call.at (length args))
     → c ≡ keep b (literal_faults (first_texts name) (map term_of args))
     → d ≡ keep c (flat_map (argument_faults k name) (map term_of args))
@@ -43,7 +43,7 @@ call_joined rs k call name args a b c d name_is args_is p q r =
     let r2 = subst (λ es. d ≡ keep c (flat_map (argument_faults k call.name) (map term_of es))) args_is r1 in
     two a c d _ _ (two a b c _ _ p2 q2) r2
 
-pub rule_joined : (rs : List meaning.Rule) (k : checks.Known) (rule : Rule) (a b c d : Option Fault) → k ≡ known_in (rule_of rule)
+pub rule_joined : (rs : List meaning.Rule) (k : checks.KnownNames) (rule : Rule) (a b c d : Option Fault) → k ≡ known_in (rule_of rule)
     → b ≡ keep a (head_faults rs rule.name rule.at (length rule.params) (repeats rule.params))
     → c ≡ keep b (condition_faults k (option_map term_of rule.cond))
     → d ≡ keep c (steps_faults rs k rule.steps)
@@ -75,10 +75,10 @@ from_none : (fs : List Fault) → keep None fs ≡ first_fault fs
 unfolding keep
 from_none fs = refl
 
-pub rules_joined : (rs : List Rule) (a b c : Option Fault) → a ≡ None → b ≡ keep a (count_faults (map rule_of rs)) → c ≡ keep b (flat_map (rule_faults (plain_rules rs)) (map rule_of rs)) → c ≡ first_fault (rules_faults (map rule_of rs))
+pub rules_joined : (rs : List Rule) (a b c : Option Fault) → a ≡ None → b ≡ keep a (count_faults (map rule_of rs)) → c ≡ keep b (flat_map (rule_faults (without_places rs)) (map rule_of rs)) → c ≡ first_fault (rules_faults (map rule_of rs))
 rules_joined rs a b c none p q = two a b c _ _ p q ∙ ap (λ o. keep o (rules_faults (map rule_of rs))) none ∙ from_none (rules_faults (map rule_of rs))
 
-pub call_alone : (rs : List meaning.Rule) (k : checks.Known) (call : Call0) (a b : Option Fault) → a ≡ None → k ≡ record { params = []; sessions = codes "userNameClient" ∷ [] } → b ≡ keep a (call_faults rs k (call_of call)) → b ≡ first_fault (exec_faults rs (call_of call))
+pub call_alone : (rs : List meaning.Rule) (k : checks.KnownNames) (call : Call0) (a b : Option Fault) → a ≡ None → k ≡ record { params = []; sessions = codes "userNameClient" ∷ [] } → b ≡ keep a (call_faults rs k (call_of call)) → b ≡ first_fault (exec_faults rs (call_of call))
 call_alone rs k call a b none known p =
     p
     ∙ ap (λ o. keep o (call_faults rs k (call_of call))) none

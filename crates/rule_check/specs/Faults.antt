@@ -10,8 +10,8 @@ abbrev pub fault_of : Fault → checks.Fault
 fault_of f = (f.at, f.cause)
 
 -- the fault that counts so far
-abbrev pub found : Findings → Option checks.Fault
-found f = option_map fault_of f.first
+abbrev pub fault_so_far : Findings → Option checks.Fault
+fault_so_far f = option_map fault_of f.first
 
 -- the one that counts of that and these
 unfoldable pub keep : Option checks.Fault → List checks.Fault → Option checks.Fault

@@ -7,18 +7,18 @@ use Rattle.grid_model.specs.Parsed.{step_of}
 use Rattle.grid_model.specs.RuleText.{Rule}
 use Rattle.grid_model.specs.declared.rules.Step as parsed
 use Rattle.grid_model.specs.declared.refusal.RuleCause.TheVariants.{Arity, Param, Taken, Unknown}
-use Rattle.rule_check.specs.Tables.{plain_rules}
+use Rattle.rule_check.specs.Tables.{without_places}
 use Rattle.rule_check.specs.Words.{words}
 use Rattle.rule_check.specs.declared.known.Known.{Known}
 use Rattle.rule_check.specs.declared.names.RuleNames.{RuleNames}
 
 -- what an expression may name
-abbrev pub known_of : Known → checks.Known
+abbrev pub known_of : Known → checks.KnownNames
 known_of k = record { params = k.params.now; sessions = words k.sessions.now }
 
 -- the rules, without places
-abbrev pub rules_of : RuleNames → List Rule
-rules_of names = plain_rules names.rules.now
+abbrev pub named_rules : RuleNames → List Rule
+named_rules names = without_places names.rules.now
 
 -- what is wrong with the name and the number of the arguments of a call
 abbrev pub name_faults : List Rule → Text → ℕ → ℕ → List Fault
@@ -36,5 +36,5 @@ head_faults rs name place count is_repeated =
     ++ fault_if (not (rule_takes rs name count)) place Arity
 
 -- what is wrong with steps
-abbrev pub steps_faults : List Rule → checks.Known → List parsed.Step → List Fault
+abbrev pub steps_faults : List Rule → checks.KnownNames → List parsed.Step → List Fault
 steps_faults rs k steps = flat_map (checks.step_faults rs k) (map step_of steps)

@@ -1,9 +1,10 @@
 #![tactic(auto, using(crate::proofs::Keeping::keeping))]
 
-ghost use Rattle.grid_model.specs.Checks.{call_faults, first_texts, is_literal_of, is_no_recovery, is_rule, literal_faults, recovery_faults, rule_takes, step_faults};
+ghost use Rattle.grid_model.specs.Checks.{call_faults, first_texts, is_literal_of, is_no_recovery, is_rule, literal_faults};
+ghost use Rattle.grid_model.specs.Checks.{recovery_faults, rule_takes, step_faults};
 ghost use Rattle.grid_model.specs.Parsed.{call_of, shape_of, step_of, term_of};
-ghost use Rattle.rule_check.specs.Faults.{found, keep};
-ghost use Rattle.rule_check.specs.Rules.{known_of, name_faults, rules_of};
+ghost use Rattle.rule_check.specs.Faults.{fault_so_far, keep};
+ghost use Rattle.rule_check.specs.Rules.{known_of, name_faults, named_rules};
 ghost use Rattle.rule_check.specs.Words.{words};
 ghost use Rattle.std.specs.Prelude.{◌≡◌, flat_map, map, option_map};
 
@@ -16,14 +17,14 @@ use grid_model::{Call0, Expr, Form, RuleCause, Step};
 
 /// Whether a rule has the name.
 fn is_rule(names: &RuleNames, name: &[u8]) -> bool
-    ensures { result ≡ is_rule (rules_of names.now) name.now }
+    ensures { result ≡ is_rule (named_rules names.now) name.now }
 {
     names.params_of(name).is_some()
 }
 
 /// Whether the first rule of the name takes so many arguments.
 pub fn rule_takes(names: &RuleNames, name: &[u8], count: usize) -> bool
-    ensures { result ≡ rule_takes (rules_of names.now) name.now count }
+    ensures { result ≡ rule_takes (named_rules names.now) name.now count }
 {
     match names.params_of(name) {
         None => false,
@@ -33,7 +34,7 @@ pub fn rule_takes(names: &RuleNames, name: &[u8], count: usize) -> bool
 
 /// Looks at the name and the number of the arguments of a call.
 fn check_name(findings: &mut Findings, names: &RuleNames, name: &[u8], at: u64, count: usize)
-    ensures { found findings.new ≡ keep (found findings.old) (name_faults (rules_of names.now) name.now at count) }
+    ensures { fault_so_far findings.new ≡ keep (fault_so_far findings.old) (name_faults (named_rules names.now) name.now at count) }
 {
     let is_service = tables::is_service(name);
     let is_rule = is_rule(names, name);
@@ -56,7 +57,7 @@ fn is_literal_of(table: &[&[u8]], form: &Form) -> bool
 
 /// Looks at the first argument of a call, which may have to be one of some texts.
 fn check_first(findings: &mut Findings, name: &[u8], args: &[Expr])
-    ensures { found findings.new ≡ keep (found findings.old) (literal_faults (first_texts name.now) (map term_of args.now)) }
+    ensures { fault_so_far findings.new ≡ keep (fault_so_far findings.old) (literal_faults (first_texts name.now) (map term_of args.now)) }
 {
     match tables::first_texts(name) {
         None => {}
@@ -72,7 +73,7 @@ fn check_first(findings: &mut Findings, name: &[u8], args: &[Expr])
 
 /// Looks at a call.
 pub fn check_call(findings: &mut Findings, names: &RuleNames, known: &Known, call: &Call0)
-    ensures { found findings.new ≡ keep (found findings.old) (call_faults (rules_of names.now) (known_of known.now) (call_of call.now)) }
+    ensures { fault_so_far findings.new ≡ keep (fault_so_far findings.old) (call_faults (named_rules names.now) (known_of known.now) (call_of call.now)) }
 {
     let name = call.name.as_slice();
     let args = call.args.as_slice();
@@ -83,7 +84,7 @@ pub fn check_call(findings: &mut Findings, names: &RuleNames, known: &Known, cal
 
 /// Whether a call of the name recovers from nothing.
 fn is_no_recovery(names: &RuleNames, name: &[u8]) -> bool
-    ensures { result ≡ is_no_recovery (rules_of names.now) name.now }
+    ensures { result ≡ is_no_recovery (named_rules names.now) name.now }
 {
     tables::is_no_recovery(name) || (is_rule(names, name) && !tables::is_service(name))
 }
@@ -95,7 +96,10 @@ fn check_recovery(
     known: &Known,
     recovery: &Option<Call0>,
 )
-    ensures { found findings.new ≡ keep (found findings.old) (recovery_faults (rules_of names.now) (known_of known.now) (option_map call_of recovery.now)) }
+    ensures {
+        fault_so_far findings.new
+        ≡ keep (fault_so_far findings.old) (recovery_faults (named_rules names.now) (known_of known.now) (option_map call_of recovery.now))
+    }
 {
     match recovery {
         None => {}
@@ -109,7 +113,7 @@ fn check_recovery(
 
 /// Looks at a step.
 fn check_step(findings: &mut Findings, names: &RuleNames, known: &Known, step: &Step)
-    ensures { found findings.new ≡ keep (found findings.old) (step_faults (rules_of names.now) (known_of known.now) (step_of step.now)) }
+    ensures { fault_so_far findings.new ≡ keep (fault_so_far findings.old) (step_faults (named_rules names.now) (known_of known.now) (step_of step.now)) }
 {
     check_call(findings, names, known, &step.call);
     check_recovery(findings, names, known, &step.recovery);
@@ -117,7 +121,10 @@ fn check_step(findings: &mut Findings, names: &RuleNames, known: &Known, step: &
 
 /// Looks at steps.
 pub fn check_steps(findings: &mut Findings, names: &RuleNames, known: &Known, steps: &[Step])
-    ensures { found findings.new ≡ keep (found findings.old) (flat_map (step_faults (rules_of names.now) (known_of known.now)) (map step_of steps.now)) }
+    ensures {
+        fault_so_far findings.new
+        ≡ keep (fault_so_far findings.old) (flat_map (step_faults (named_rules names.now) (known_of known.now)) (map step_of steps.now))
+    }
 {
     for step in steps {
         check_step(findings, names, known, step);

@@ -1,5 +1,5 @@
 ghost use Rattle.grid_model.specs.Checks.{cause_rank, comes_first, fault_if};
-ghost use Rattle.rule_check.specs.Faults.{fault_of, found, keep};
+ghost use Rattle.rule_check.specs.Faults.{fault_of, fault_so_far, keep};
 ghost use Rattle.std.specs.Prelude.{◌≡◌, ◌∷◌, [], None, Some};
 
 use grid_model::RuleCause;
@@ -46,14 +46,14 @@ fn comes_first(fault: Fault, other: Fault) -> bool
 impl Findings {
     /// Nothing was found.
     pub fn new() -> Findings
-        ensures { found result ≡ None }
+        ensures { fault_so_far result ≡ None }
     {
         Findings { first: None }
     }
 
     /// Adds a fault.
     fn add(&mut self, fault: Fault)
-        ensures { found self.new ≡ keep (found self.old) (fault_of fault ∷ []) }
+        ensures { fault_so_far self.new ≡ keep (fault_so_far self.old) (fault_of fault ∷ []) }
     {
         match self.first {
             None => self.first = Some(fault),
@@ -67,7 +67,7 @@ impl Findings {
 
     /// Adds a fault, where there is one.
     pub fn note(&mut self, is_fault: bool, at: u64, cause: RuleCause)
-        ensures { found self.new ≡ keep (found self.old) (fault_if is_fault at cause) }
+        ensures { fault_so_far self.new ≡ keep (fault_so_far self.old) (fault_if is_fault at cause) }
     {
         if is_fault {
             self.add(Fault { at, cause });

@@ -1,5 +1,5 @@
 ghost use Rattle.grid_model.specs.Checks.{is_one_of, repeats};
-ghost use Rattle.rule_check.specs.Tables.{AddsText, HasTexts, is_in};
+ghost use Rattle.rule_check.specs.Tables.{AddsText, HasTexts, is_in_set};
 ghost use Rattle.rule_check.specs.Words.{words};
 ghost use Rattle.std.specs.Prelude.{◌≡◌, IfOk, not};
 
@@ -22,7 +22,7 @@ pub struct Known<'a> {
 
 /// Adds a text, and says whether it is new.
 fn add<'a>(set: &mut IndexSet<&'a [u8]>, text: &'a [u8]) -> Result<bool, AllocError>
-    ensures fresh { IfOk result (λ fresh. fresh ≡ not (is_in set.old text.now)) }
+    ensures fresh { IfOk result (λ fresh. fresh ≡ not (is_in_set set.old text.now)) }
     ensures added { IfOk result (λ fresh. AddsText set.old text.now set.new) }
 {
     let (_, fresh) = set.insert_full(text)?;

@@ -1,5 +1,5 @@
 ghost use Rattle.grid_model.specs.Checks.{params_of};
-ghost use Rattle.rule_check.specs.Tables.{AddsName, CountsRules, plain_rules};
+ghost use Rattle.rule_check.specs.Tables.{AddsName, CountsRules, without_places};
 ghost use Rattle.std.specs.Prelude.{◌≡◌, IfOk, OnOk, length};
 
 use grid_model::Rule;
@@ -49,7 +49,7 @@ impl<'a> RuleNames<'a> {
 
     /// How many parameters the first rule of the name has.
     pub fn params_of(&self, name: &[u8]) -> Option<usize>
-        ensures { result ≡ params_of (plain_rules self.now.rules.now) name.now }
+        ensures { result ≡ params_of (without_places self.now.rules.now) name.now }
     {
         self.counts.get(&name).copied()
     }

@@ -2,9 +2,9 @@
 
 ghost use Rattle.grid_model.specs.Checks.{exec_faults, first_fault, rule_faults, rules_faults, count_faults};
 ghost use Rattle.grid_model.specs.Parsed.{call_of, rule_of};
-ghost use Rattle.rule_check.specs.Faults.{found, keep};
-ghost use Rattle.rule_check.specs.Rules.{head_faults, known_of, rules_of};
-ghost use Rattle.rule_check.specs.Tables.{plain_rules};
+ghost use Rattle.rule_check.specs.Faults.{fault_so_far, keep};
+ghost use Rattle.rule_check.specs.Rules.{head_faults, known_of, named_rules};
+ghost use Rattle.rule_check.specs.Tables.{without_places};
 ghost use Rattle.rule_check.specs.declared.error.RuleError.TheVariants.{Bad};
 ghost use Rattle.grid_model.specs.declared.refusal.RuleCause.{RuleCause};
 ghost use Rattle.std.specs.Prelude.{◌≡◌, ℕ, None, Some, IfOk, IsErrOf, OnOk, flat_map, map};
@@ -31,7 +31,7 @@ fn check_head(
     count: usize,
     is_repeated: bool,
 )
-    ensures { found findings.new ≡ keep (found findings.old) (head_faults (rules_of names.now) name.now at count is_repeated) }
+    ensures { fault_so_far findings.new ≡ keep (fault_so_far findings.old) (head_faults (named_rules names.now) name.now at count is_repeated) }
 {
     let is_taken = is_service(name);
     let is_point = is_point(name);
@@ -49,7 +49,7 @@ fn check_rule(
     names: &RuleNames,
     rule: &Rule,
 ) -> Result<(), AllocError>
-    ensures { OnOk result (found findings.new ≡ keep (found findings.old) (rule_faults (rules_of names.now) (rule_of rule.now))) }
+    ensures { OnOk result (fault_so_far findings.new ≡ keep (fault_so_far findings.old) (rule_faults (named_rules names.now) (rule_of rule.now))) }
 {
     let params = rule.params.as_slice();
     let known = Known::new(alloc, params, &SESSIONS)?;
@@ -73,7 +73,9 @@ fn check_each(
     names: &RuleNames,
     rules: &[Rule],
 ) -> Result<(), AllocError>
-    ensures { OnOk result (found findings.new ≡ keep (found findings.old) (flat_map (rule_faults (rules_of names.now)) (map rule_of rules.now))) }
+    ensures {
+        OnOk result (fault_so_far findings.new ≡ keep (fault_so_far findings.old) (flat_map (rule_faults (named_rules names.now)) (map rule_of rules.now)))
+    }
 {
     for rule in rules {
         check_rule(alloc, findings, names, rule)?;
@@ -83,7 +85,7 @@ fn check_each(
 
 /// Looks at the number of rules.
 fn check_count(findings: &mut Findings, rules: &[Rule])
-    ensures { found findings.new ≡ keep (found findings.old) (count_faults (map rule_of rules.now)) }
+    ensures { fault_so_far findings.new ≡ keep (fault_so_far findings.old) (count_faults (map rule_of rules.now)) }
 {
     match rules.get(MOST_RULES) {
         None => {}
@@ -93,8 +95,8 @@ fn check_count(findings: &mut Findings, rules: &[Rule])
 
 /// The answer to what was found.
 fn answer(findings: &Findings) -> Result<(), RuleError>
-    ensures ok { IfOk result (λ done. found findings.now ≡ None) }
-    ensures bad { (at : ℕ) (cause : RuleCause) → IsErrOf result (Bad at cause) → found findings.now ≡ Some (at, cause) }
+    ensures ok { IfOk result (λ done. fault_so_far findings.now ≡ None) }
+    ensures bad { (at : ℕ) (cause : RuleCause) → IsErrOf result (Bad at cause) → fault_so_far findings.now ≡ Some (at, cause) }
 {
     match findings.first {
         None => Ok(()),
@@ -107,7 +109,7 @@ fn answer(findings: &Findings) -> Result<(), RuleError>
 
 /// What is wrong with these rules. Fails for want of memory alone.
 fn look_at_rules(alloc: Global, names: &RuleNames) -> Result<Findings, AllocError>
-    ensures { IfOk result (λ findings. found findings ≡ first_fault (rules_faults (map rule_of names.now.rules.now))) }
+    ensures { IfOk result (λ findings. fault_so_far findings ≡ first_fault (rules_faults (map rule_of names.now.rules.now))) }
 {
     let mut findings = Findings::new();
     check_count(&mut findings, names.rules);
@@ -117,7 +119,7 @@ fn look_at_rules(alloc: Global, names: &RuleNames) -> Result<Findings, AllocErro
 
 /// What is wrong with a call by itself, where there are these rules. Fails for want of memory alone.
 fn look_at_call(alloc: Global, names: &RuleNames, call: &Call0) -> Result<Findings, AllocError>
-    ensures { IfOk result (λ findings. found findings ≡ first_fault (exec_faults (rules_of names.now) (call_of call.now))) }
+    ensures { IfOk result (λ findings. fault_so_far findings ≡ first_fault (exec_faults (named_rules names.now) (call_of call.now))) }
 {
     let known = Known::new(alloc, &[], &EXEC_SESSIONS)?;
     let mut findings = Findings::new();
@@ -152,9 +154,9 @@ pub fn check_rules(alloc: Global, rules: &Rules) -> Result<(), RuleError>
 ///
 /// As for [`check_rules`], where it speaks of a call.
 pub fn check_call(alloc: Global, rules: &Rules, call: &Call0) -> Result<(), RuleError>
-    ensures ok { IfOk result (λ done. first_fault (exec_faults (plain_rules rules.now) (call_of call.now)) ≡ None) }
+    ensures ok { IfOk result (λ done. first_fault (exec_faults (without_places rules.now) (call_of call.now)) ≡ None) }
     ensures bad { (at : ℕ) (cause : RuleCause) → IsErrOf result (Bad at cause)
-        → first_fault (exec_faults (plain_rules rules.now) (call_of call.now)) ≡ Some (at, cause) }
+        → first_fault (exec_faults (without_places rules.now) (call_of call.now)) ≡ Some (at, cause) }
 {
     let names = RuleNames::new(alloc, rules.as_slice())?;
     let findings = look_at_call(alloc, &names, call)?;

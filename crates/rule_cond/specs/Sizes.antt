@@ -9,7 +9,7 @@ use Rattle.grid_model.specs.Parsed.{plain, term_of}
 use Rattle.grid_model.specs.declared.rules.Expr as parsed
 use Rattle.grid_model.specs.RuleText.{Expr}
 use Rattle.grid_model.specs.Values as values
-use Rattle.rule_cond.specs.Scopes.{scope_of}
+use Rattle.rule_cond.specs.Scopes.{scope_seen}
 use Rattle.rule_cond.specs.declared.scope.Scope.{Scope}
 
 -- a grid with nothing in it
@@ -32,7 +32,7 @@ sized env size = record env { put_size = Some size }
 
 -- the value of an expression in the scope, by the size alone
 abbrev pub value_in : Scope → Expr → values.Value
-value_in s e = values.value (record (scope_of s) { env = sized (scope_of s).env s.size }) nowhere e
+value_in s e = values.value (record (scope_seen s) { env = sized (scope_seen s).env s.size }) nowhere e
 
 -- a text is not too long for an argument
 abbrev pub is_short_text : Text → Bool

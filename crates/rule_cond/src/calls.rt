@@ -1,6 +1,6 @@
 ghost use Rattle.grid_model.specs.Grid.{Grid};
 ghost use Rattle.grid_model.specs.Values.{is_short};
-ghost use Rattle.rule_cond.specs.Scopes.{HasSize, computed_on};
+ghost use Rattle.rule_cond.specs.Scopes.{HasScopeSize, computed_on};
 ghost use Rattle.rule_cond.specs.Sizes.{arg_in, args_in, are_short, is_short_text};
 ghost use Rattle.rule_cond.specs.declared.error.ComputeError.TheVariants.{LongText};
 ghost use Rattle.std.specs.Prelude.{◌≡◌, false, IfOk, IsErrOf, IsTrue, MatchResult};
@@ -45,9 +45,9 @@ fn compute_all(alloc: Global, args: &[Expr], scope: &Scope) -> Result<Texts, Com
 /// A call with its arguments computed in a scope, on every grid on which its size is that of the scope: texts, and numbers
 /// in their decimal form. Refused with `LongText` exactly where one of them has more than 4,096 bytes.
 pub fn compute(alloc: Global, call: &Call0, scope: &Scope) -> Result<Call, ComputeError>
-    ensures call { IfOk result (λ done. (g : Grid) → HasSize scope.now g → done ≡ computed_on scope.now g call.now) }
+    ensures call { IfOk result (λ done. (g : Grid) → HasScopeSize scope.now g → done ≡ computed_on scope.now g call.now) }
     ensures short { IfOk result (λ done. IsTrue (is_short done)) }
-    ensures long { IsErrOf result LongText → (g : Grid) → HasSize scope.now g → is_short (computed_on scope.now g call.now) ≡ false }
+    ensures long { IsErrOf result LongText → (g : Grid) → HasScopeSize scope.now g → is_short (computed_on scope.now g call.now) ≡ false }
 {
     match compute_all(alloc, call.args.as_slice(), scope) {
         Ok(args) => {

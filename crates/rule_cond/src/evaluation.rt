@@ -1,7 +1,7 @@
 ghost use Rattle.grid_model.specs.Parsed.{plain, term_of};
 ghost use Rattle.grid_model.specs.RuleText.{session};
 ghost use Rattle.grid_model.specs.Values.{text_of, text_value};
-ghost use Rattle.rule_cond.specs.Scopes.{HasSize, holds_on, value_on};
+ghost use Rattle.rule_cond.specs.Scopes.{HasScopeSize, holds_on, value_on};
 ghost use Rattle.rule_cond.specs.Seen.{value_of};
 ghost use Rattle.rule_cond.specs.Sizes.{value_in};
 ghost use Rattle.grid_model.specs.Grid.{Grid};
@@ -109,7 +109,7 @@ fn value(alloc: Global, expr: &Expr, scope: &Scope) -> Result<Value, AllocError>
 /// where an operator is not made for the types of its operands, it takes their texts, of which that of a truth is empty,
 /// and what is no truth counts as false. Fails for want of memory alone.
 pub fn eval(alloc: Global, expr: &Expr, scope: &Scope) -> Result<Value, AllocError>
-    ensures { IfOk result (λ v. (g : Grid) → HasSize scope.now g → value_of v ≡ value_on scope.now g expr.now) }
+    ensures { IfOk result (λ v. (g : Grid) → HasScopeSize scope.now g → value_of v ≡ value_on scope.now g expr.now) }
 {
     value(alloc, expr, scope)
 }
@@ -117,7 +117,7 @@ pub fn eval(alloc: Global, expr: &Expr, scope: &Scope) -> Result<Value, AllocErr
 /// Whether a condition holds in a scope, on every grid on which its size is that of the scope. A rule without one always
 /// applies. Fails for want of memory alone.
 pub fn holds(alloc: Global, cond: &Option<Expr>, scope: &Scope) -> Result<bool, AllocError>
-    ensures { IfOk result (λ truth. (g : Grid) → HasSize scope.now g → truth ≡ holds_on scope.now g cond.now) }
+    ensures { IfOk result (λ truth. (g : Grid) → HasScopeSize scope.now g → truth ≡ holds_on scope.now g cond.now) }
 {
     match cond {
         None => Ok(true),

@@ -3,9 +3,9 @@ use Rattle.std.proofs.Common.{◌≡◌, ℕ, ◌<◌, Bool, true, false, [], �
 use Rattle.std.specs.Prelude.{◌&&◌, ◌||◌, ◌==◌, not}
 use Rattle.std.specs.List.{list_all}
 use Rattle.std.proofs.lemmas.Bool.{both_ways, eqb-true}
-use Rattle.rule_lex.specs.Bytes.{Text, is_letter, is_digit, is_space, is_quote, starts_with_letter, is_word_byte}
-use Rattle.rule_lex.specs.Symbols.{spelling}
-use Rattle.rule_lex.specs.Tokens.{Token, SpellsToken, a_name, a_param, a_session, a_number, a_text, a_symbol, SpellsNumber, from_zero, below_zero, IsDecimal}
+use Rattle.rule_lex.specs.Bytes.{SourceText, is_letter, is_digit, is_space, is_quote, starts_with_letter, is_rule_name_byte}
+use Rattle.rule_lex.specs.Symbols.{symbol_text}
+use Rattle.rule_lex.specs.Tokens.{RuleToken, SpellsToken, a_name, a_param, a_session, a_number, a_text, a_symbol, SpellsNumber, from_zero, below_zero, IsPlainDecimal}
 use Rattle.rule_lex.specs.declared.token.Symbol.{Symbol}
 use Rattle.rule_lex.specs.declared.token.Symbol.TheVariants.{On}
 
@@ -26,7 +26,7 @@ abbrev pub is_first : ℕ → Bool
 is_first b = not (is_space b) && not (b == 0x23)
 
 -- the text begins so
-abbrev pub StartsToken : Text → Type 0
+abbrev pub StartsToken : SourceText → Type 0
 StartsToken [] = ⊥
 StartsToken (b ∷ s) = is_first b ≡ true
 
@@ -55,24 +55,24 @@ digit_is_first b h = first_byte is_digit (record { space = refl; tab = refl; ret
 pub quote_is_first : (b : ℕ) → is_quote b ≡ true → is_first b ≡ true
 quote_is_first b h = first_byte is_quote (record { space = refl; tab = refl; return = refl; line = refl; hash = refl }) b h
 
-symbol_starts : (x : Symbol) → StartsToken (spelling x)
+symbol_starts : (x : Symbol) → StartsToken (symbol_text x)
 symbol_starts On = refl
 symbol_starts _ = refl
 
-letter_starts : (s : Text) → starts_with_letter s && list_all is_word_byte s ≡ true → StartsToken s
+letter_starts : (s : SourceText) → starts_with_letter s && list_all is_rule_name_byte s ≡ true → StartsToken s
 letter_starts [] h = absurd (cc)
-letter_starts (b ∷ s) h = letter_is_first b (both_true (is_letter b) (list_all is_word_byte (b ∷ s)) h).0
+letter_starts (b ∷ s) h = letter_is_first b (both_true (is_letter b) (list_all is_rule_name_byte (b ∷ s)) h).0
 
-digits_start : (s : Text) → IsDecimal s → StartsToken s
+digits_start : (s : SourceText) → IsPlainDecimal s → StartsToken s
 digits_start [] d = absurd (omega (arith, d.some))
 digits_start (b ∷ s) d = digit_is_first b (both_true (is_digit b) (list_all is_digit s) d.digits).0
 
-number_starts : {s : Text} {n : _} → SpellsNumber s n → StartsToken s
+number_starts : {s : SourceText} {n : _} → SpellsNumber s n → StartsToken s
 number_starts (from_zero {s = s} d low) = digits_start s d
 number_starts (below_zero digits is d some low) = subst StartsToken (sym is) refl
 
 -- each token begins so
-pub starts_token : {s : Text} {t : Token} → SpellsToken s t → StartsToken s
+pub starts_token : {s : SourceText} {t : RuleToken} → SpellsToken s t → StartsToken s
 starts_token (a_name {s = s} n) = letter_starts s n.word
 starts_token (a_param name is n) = subst StartsToken (sym is) refl
 starts_token (a_session name is n) = subst StartsToken (sym is) refl
@@ -80,10 +80,10 @@ starts_token (a_number n) = number_starts n
 starts_token (a_text quote inner q spells is) = subst StartsToken (sym is) (quote_is_first quote q)
 starts_token (a_symbol x is) = subst StartsToken (sym is) (symbol_starts x)
 
-pub starts_append : (s t : Text) → StartsToken s → StartsToken (s ++ t)
+pub starts_append : (s t : SourceText) → StartsToken s → StartsToken (s ++ t)
 starts_append [] t h = absurd h
 starts_append (b ∷ s) t h = h
 
-pub starts_length : (s : Text) → StartsToken s → 0 < length s
+pub starts_length : (s : SourceText) → StartsToken s → 0 < length s
 starts_length [] h = absurd h
 starts_length (b ∷ s) h = omega arith

@@ -3,10 +3,10 @@ use Rattle.std.proofs.Common.{◌≡◌, ◌≢◌, ℕ, zero, suc, ◌<◌, ◌
 use Rattle.std.specs.Prelude.{◌⊎◌, ◌&&◌, ◌||◌, ◌==◌, not, slice_index}
 use Rattle.std.proofs.lemmas.Bool.{both_ways}
 use Rattle.std.proofs.lemmas.Bool.Decides.{eqb_tells}
-use Rattle.rule_lex.specs.Bytes.{Text, is_letter, is_other, starts_with_letter}
-use Rattle.rule_lex.specs.Symbols.{spelling}
-use Rattle.rule_lex.specs.Tokens.{Token, SpellsToken, a_symbol, symbol}
-use Rattle.rule_lex.specs.Fronts.{BeginsToken, IsFront, IsNoFront}
+use Rattle.rule_lex.specs.Bytes.{SourceText, is_letter, is_other, starts_with_letter}
+use Rattle.rule_lex.specs.Symbols.{symbol_text}
+use Rattle.rule_lex.specs.Tokens.{RuleToken, SpellsToken, a_symbol, symbol}
+use Rattle.rule_lex.specs.Fronts.{BeginsToken, IsLongestToken, IsNoFront}
 use Rattle.rule_lex.specs.declared.token.Symbol.{Symbol}
 use Rattle.rule_lex.specs.declared.token.Symbol.TheVariants.{On, Like, True, False}
 use Rattle.rule_lex.proofs.KindLemmas.{starts_so, is_sign_first, of_other, front_by_end, no_front_by_end, no_empty_token}
@@ -60,14 +60,14 @@ two_so (c ∷ b ∷ d ∷ s) = true
 abbrev sign_so : List ℕ → Bool
 sign_so s = first_so s && second_so s && third_so s && fourth_so s && one_so s && two_so s
 
-abbrev each_sign : (x : Symbol) → (starts_so is_letter (spelling x) ≡ true) ⊎ (sign_so (spelling x) ≡ true)
+abbrev each_sign : (x : Symbol) → (starts_so is_letter (symbol_text x) ≡ true) ⊎ (sign_so (symbol_text x) ≡ true)
 each_sign On = inl refl
 each_sign Like = inl refl
 each_sign True = inl refl
 each_sign False = inl refl
 each_sign _ = inr refl
 
-record Sign (s : Text) : Type 0 where
+record Sign (s : SourceText) : Type 0 where
   first : first_so s ≡ true
   second : second_so s ≡ true
   third : third_so s ≡ true
@@ -85,16 +85,16 @@ parts true false c d e f h = absurd (both_ways false refl h)
 parts false b c d e f h = absurd (both_ways false refl h)
 
 -- what begins as no other token is a sign
-as_sign : {c : ℕ} {r : Text} {t : Token} → is_other c ≡ true → SpellsToken (c ∷ r) t → Sign (c ∷ r)
+as_sign : {c : ℕ} {r : SourceText} {t : RuleToken} → is_other c ≡ true → SpellsToken (c ∷ r) t → Sign (c ∷ r)
 as_sign {c = c} {r = r} o h = by (of_other o h refl)
   where
-    by : (x : Symbol) × (c ∷ r ≡ spelling x) × (starts_so is_letter (spelling x) ≡ true → ⊥) → Sign (c ∷ r)
+    by : (x : Symbol) × (c ∷ r ≡ symbol_text x) × (starts_so is_letter (symbol_text x) ≡ true → ⊥) → Sign (c ∷ r)
     by (x, is, no_letter) = split (each_sign x)
       where
-        split : (starts_so is_letter (spelling x) ≡ true) ⊎ (sign_so (spelling x) ≡ true) → Sign (c ∷ r)
+        split : (starts_so is_letter (symbol_text x) ≡ true) ⊎ (sign_so (symbol_text x) ≡ true) → Sign (c ∷ r)
         split (inl letter) = absurd (no_letter letter)
         split (inr sign) =
-            let s = parts (first_so (spelling x)) (second_so (spelling x)) (third_so (spelling x)) (fourth_so (spelling x)) (one_so (spelling x)) (two_so (spelling x)) sign in
+            let s = parts (first_so (symbol_text x)) (second_so (symbol_text x)) (third_so (symbol_text x)) (fourth_so (symbol_text x)) (one_so (symbol_text x)) (two_so (symbol_text x)) sign in
             subst Sign (sym is) (record { first = s.0; second = s.1; third = s.2; fourth = s.3; one = s.4; two = s.5 })
 
 pub same_false : (a b : ℕ) → (a ≡ b → ⊥) → (a == b) ≡ false
@@ -104,23 +104,23 @@ same_false a b apart = by (eqb_tells a b)
     by (inl same) = absurd (apart same.1)
     by (inr other) = other.0
 
-no_letter_first : (c : ℕ) (r : Text) → is_other c ≡ true → starts_with_letter (c ∷ r) ≡ true → ⊥
+no_letter_first : (c : ℕ) (r : SourceText) → is_other c ≡ true → starts_with_letter (c ∷ r) ≡ true → ⊥
 no_letter_first c r o h = both_ways (is_other c) (rw h refl) o
 
 -- a sign of one byte, behind which none stands that lengthens it
-pub one_byte : (rest : Text) (c : ℕ) (x : Symbol) → 0 < length rest → slice_index rest 0 ≡ c → is_other c ≡ true → spelling x ≡ c ∷ [] → second_of c (slice_index rest 1) ≡ false → (1 ≤ length rest) × IsFront (take 1 rest) (drop 1 rest) (symbol x)
+pub one_byte : (rest : SourceText) (c : ℕ) (x : Symbol) → 0 < length rest → slice_index rest 0 ≡ c → is_other c ≡ true → symbol_text x ≡ c ∷ [] → second_of c (slice_index rest 1) ≡ false → (1 ≤ length rest) × IsLongestToken (take 1 rest) (drop 1 rest) (symbol x)
 one_byte [] c x some is o spelled last = absurd (omega (arith, some))
 one_byte (a ∷ r) c x some is o spelled last =
     (omega (arith, some), front_by_end (a ∷ []) r (symbol x) (a_symbol x (ap (λ b. b ∷ []) is ∙ sym spelled)) (λ b s e h. ends b s e h))
   where
-    ends : (b : ℕ) (s : Text) → r ≡ b ∷ s → BeginsToken (a ∷ b ∷ []) → ⊥
+    ends : (b : ℕ) (s : SourceText) → r ≡ b ∷ s → BeginsToken (a ∷ b ∷ []) → ⊥
     ends b s e h =
         both_ways (second_of a b)
         (ap (λ k. second_of k b) is ∙ ap (second_of c) (sym (ap (λ t. slice_index (a ∷ t) 1) e)) ∙ last)
         (as_sign (subst (λ k. is_other k ≡ true) (sym is) o) h.spells).second
 
 -- a sign of two bytes, which none of three begins
-pub two_bytes : (rest : Text) (c d : ℕ) (x : Symbol) → slice_index rest 0 ≡ c → slice_index rest 1 ≡ d → 0 < d → is_other c ≡ true → spelling x ≡ c ∷ d ∷ [] → (c == 0x3A) ≡ false → (2 ≤ length rest) × IsFront (take 2 rest) (drop 2 rest) (symbol x)
+pub two_bytes : (rest : SourceText) (c d : ℕ) (x : Symbol) → slice_index rest 0 ≡ c → slice_index rest 1 ≡ d → 0 < d → is_other c ≡ true → symbol_text x ≡ c ∷ d ∷ [] → (c == 0x3A) ≡ false → (2 ≤ length rest) × IsLongestToken (take 2 rest) (drop 2 rest) (symbol x)
 two_bytes [] c d x is also some o spelled last = absurd (omega (arith, also, some))
 two_bytes (a ∷ []) c d x is also some o spelled last = absurd (omega (arith, also, some))
 two_bytes (a ∷ b ∷ r) c d x is also some o spelled last =
@@ -133,7 +133,7 @@ two_bytes (a ∷ b ∷ r) c d x is also some o spelled last =
         (as_sign (subst (λ k. is_other k ≡ true) (sym is) o) h.spells).third
 
 -- a sign of three bytes
-pub three_bytes : (rest : Text) (c d e : ℕ) (x : Symbol) → slice_index rest 0 ≡ c → slice_index rest 1 ≡ d → slice_index rest 2 ≡ e → 0 < d → 0 < e → is_other c ≡ true → spelling x ≡ c ∷ d ∷ e ∷ [] → (3 ≤ length rest) × IsFront (take 3 rest) (drop 3 rest) (symbol x)
+pub three_bytes : (rest : SourceText) (c d e : ℕ) (x : Symbol) → slice_index rest 0 ≡ c → slice_index rest 1 ≡ d → slice_index rest 2 ≡ e → 0 < d → 0 < e → is_other c ≡ true → symbol_text x ≡ c ∷ d ∷ e ∷ [] → (3 ≤ length rest) × IsLongestToken (take 3 rest) (drop 3 rest) (symbol x)
 three_bytes [] c d e x is also last some more o spelled = absurd (omega (arith, also, some))
 three_bytes (a ∷ []) c d e x is also last some more o spelled = absurd (omega (arith, also, some))
 three_bytes (a ∷ b ∷ []) c d e x is also last some more o spelled = absurd (omega (arith, last, more))
@@ -144,7 +144,7 @@ three_bytes (a ∷ b ∷ y ∷ r) c d e x is also last some more o spelled =
     ends f h = both_ways false refl (as_sign (subst (λ k. is_other k ≡ true) (sym is) o) h.spells).fourth
 
 -- a byte that begins no sign
-pub no_bytes : (rest : Text) → 0 < length rest → is_other (slice_index rest 0) ≡ true → is_sign_first (slice_index rest 0) ≡ false → IsNoFront rest 0
+pub no_bytes : (rest : SourceText) → 0 < length rest → is_other (slice_index rest 0) ≡ true → is_sign_first (slice_index rest 0) ≡ false → IsNoFront rest 0
 no_bytes [] some o never = absurd (omega (arith, some))
 no_bytes (a ∷ r) some o never =
     no_front_by_end (a ∷ r) 0 (omega arith) (λ h. no_letter_first a r o h)
@@ -156,7 +156,7 @@ no_bytes (a ∷ r) some o never =
     zero_is k low = omega (arith, low)
 
 -- one byte that begins signs, and is none
-pub begun_one : (rest : Text) (c : ℕ) (x : Symbol) (more : Text) → 0 < length rest → slice_index rest 0 ≡ c → is_other c ≡ true → spelling x ≡ c ∷ more → is_one c ≡ false → second_of c (slice_index rest 1) ≡ false → IsNoFront rest 1
+pub begun_one : (rest : SourceText) (c : ℕ) (x : Symbol) (more : SourceText) → 0 < length rest → slice_index rest 0 ≡ c → is_other c ≡ true → symbol_text x ≡ c ∷ more → is_one c ≡ false → second_of c (slice_index rest 1) ≡ false → IsNoFront rest 1
 begun_one [] c x more some is o spelled no_one last = absurd (omega (arith, some))
 begun_one (a ∷ r) c x more some is o spelled no_one last =
     no_front_by_end (a ∷ r) 1 (omega arith) (λ h. no_letter_first a r o_a h) (λ k u low h. none k u low h)
@@ -166,17 +166,17 @@ begun_one (a ∷ r) c x more some is o spelled no_one last =
     o_a : is_other a ≡ true
     o_a = subst (λ k. is_other k ≡ true) (sym is) o
 
-    none : (k : ℕ) (u : Token) → k ≤ 1 → SpellsToken (take k (a ∷ r)) u → ⊥
+    none : (k : ℕ) (u : RuleToken) → k ≤ 1 → SpellsToken (take k (a ∷ r)) u → ⊥
     none zero u low h = no_empty_token h
     none (suc zero) u low h = both_ways (is_one a) (ap is_one is ∙ no_one) (as_sign o_a h).one
     none (suc (suc k)) u low h = omega (arith, low)
 
-    ends : (s : Text) → BeginsToken (take 2 (a ∷ s)) → 0 < length s → second_of c (slice_index (a ∷ s) 1) ≡ false → ⊥
+    ends : (s : SourceText) → BeginsToken (take 2 (a ∷ s)) → 0 < length s → second_of c (slice_index (a ∷ s) 1) ≡ false → ⊥
     ends [] b low never = omega (arith, low)
     ends (y ∷ s) b low never = both_ways (second_of a y) (ap (λ k. second_of k y) is ∙ never) (as_sign o_a b.spells).second
 
 -- two bytes that begin a sign of three
-pub begun_two : (rest : Text) (c d : ℕ) (x : Symbol) (more : Text) → slice_index rest 0 ≡ c → slice_index rest 1 ≡ d → 0 < d → is_other c ≡ true → spelling x ≡ c ∷ d ∷ more → is_one c ≡ false → (c == 0x3A) ≡ true → (slice_index rest 2 == 0x3A) ≡ false → IsNoFront rest 2
+pub begun_two : (rest : SourceText) (c d : ℕ) (x : Symbol) (more : SourceText) → slice_index rest 0 ≡ c → slice_index rest 1 ≡ d → 0 < d → is_other c ≡ true → symbol_text x ≡ c ∷ d ∷ more → is_one c ≡ false → (c == 0x3A) ≡ true → (slice_index rest 2 == 0x3A) ≡ false → IsNoFront rest 2
 begun_two [] c d x more is also some o spelled no_one colon last = absurd (omega (arith, also, some))
 begun_two (a ∷ []) c d x more is also some o spelled no_one colon last = absurd (omega (arith, also, some))
 begun_two (a ∷ y ∷ r) c d x more is also some o spelled no_one colon last =
@@ -187,13 +187,13 @@ begun_two (a ∷ y ∷ r) c d x more is also some o spelled no_one colon last =
     o_a : is_other a ≡ true
     o_a = subst (λ k. is_other k ≡ true) (sym is) o
 
-    none : (k : ℕ) (u : Token) → k ≤ 2 → SpellsToken (take k (a ∷ y ∷ r)) u → ⊥
+    none : (k : ℕ) (u : RuleToken) → k ≤ 2 → SpellsToken (take k (a ∷ y ∷ r)) u → ⊥
     none zero u low h = no_empty_token h
     none (suc zero) u low h = both_ways (is_one a) (ap is_one is ∙ no_one) (as_sign o_a h).one
     none (suc (suc zero)) u low h = both_ways (not (a == 0x3A)) (ap (λ k. not (k == 0x3A)) is ∙ ap not colon) (as_sign o_a h).two
     none (suc (suc (suc k))) u low h = omega (arith, low)
 
-    ends : (s : Text) → BeginsToken (take 3 (a ∷ y ∷ s)) → 0 < length s → (slice_index (a ∷ y ∷ s) 2 == 0x3A) ≡ false → ⊥
+    ends : (s : SourceText) → BeginsToken (take 3 (a ∷ y ∷ s)) → 0 < length s → (slice_index (a ∷ y ∷ s) 2 == 0x3A) ≡ false → ⊥
     ends [] b low never = omega (arith, low)
     ends (z ∷ s) b low never = both_ways (a == 0x3A && z == 0x3A) (by (a == 0x3A)) (as_sign o_a b.spells).third
       where

@@ -2,16 +2,16 @@
 use Rattle.std.proofs.Common.{◌≡◌, ℕ, ◌+◌, ◌-◌, ◌<◌, ◌≤◌, List, [], ◌∷◌, ◌++◌, length, take, drop, refl, sym, ap, ◌∙◌, arith}
 use Rattle.std.specs.Prelude.{slice_range}
 use Rattle.std.proofs.lemmas.List.{drop-drop, take_at, drop_at, length-append, length-drop}
-use Rattle.rule_lex.specs.Bytes.{Text}
-use Rattle.rule_lex.specs.Tokens.{Placed, SpellsTokens, at_end, space, comment, token}
+use Rattle.rule_lex.specs.Bytes.{SourceText}
+use Rattle.rule_lex.specs.Tokens.{PlacedToken, SpellsRuleTokens, at_end, space, comment, token}
 use Rattle.rule_lex.specs.Spans.{StandInOrder}
 use Rattle.rule_lex.proofs.Firsts.{starts_token, starts_length}
 
 -- what is behind a front of a rest
-behind : (text : Text) (place : ℕ) (f rest : Text) → drop place text ≡ f ++ rest → drop (place + length f) text ≡ rest
+behind : (text : SourceText) (place : ℕ) (f rest : SourceText) → drop place text ≡ f ++ rest → drop (place + length f) text ≡ rest
 behind text place f rest e = sym (drop-drop (length f) place text) ∙ ap (drop (length f)) e ∙ drop_at f rest (length f) refl
 
-pub in_order : {place : ℕ} {all : Text} {ts : List Placed} (text : Text) (from : ℕ) → SpellsTokens place all ts → drop place text ≡ all → from ≤ place → StandInOrder text from ts
+pub in_order : {place : ℕ} {all : SourceText} {ts : List PlacedToken} (text : SourceText) (from : ℕ) → SpellsRuleTokens place all ts → drop place text ≡ all → from ≤ place → StandInOrder text from ts
 in_order text from at_end e low = tt
 in_order {place = place} text from (space {b = b} {rest = rest} is more) e low = in_order text from more (behind text place (b ∷ []) rest e) (omega (arith, low))
 in_order {place = place} text from (comment {rest = rest} line c more) e low =

@@ -2,8 +2,8 @@
 use Rattle.std.specs.Prelude.{ℕ, Bool, false, not, ◌&&◌, ◌||◌, List, [], ◌∷◌, nat_le, ◌==◌}
 
 -- some bytes
-abbrev pub Text : Type 0
-Text = List ℕ
+abbrev pub SourceText : Type 0
+SourceText = List ℕ
 
 -- from the one to the other
 abbrev pub is_within : ℕ → ℕ → ℕ → Bool
@@ -18,11 +18,11 @@ abbrev pub is_digit : ℕ → Bool
 is_digit b = is_within 0x30 0x39 b
 
 -- a letter or a digit
-abbrev pub is_word_byte : ℕ → Bool
-is_word_byte b = is_letter b || is_digit b
+abbrev pub is_rule_name_byte : ℕ → Bool
+is_rule_name_byte b = is_letter b || is_digit b
 
 -- the text begins with a letter
-abbrev pub starts_with_letter : Text → Bool
+abbrev pub starts_with_letter : SourceText → Bool
 starts_with_letter [] = false
 starts_with_letter (b ∷ t) = is_letter b
 
@@ -39,9 +39,9 @@ abbrev pub is_other : ℕ → Bool
 is_other b = not (is_letter b) && not (is_digit b) && not (b == 0x2D) && not (is_quote b) && not (b == 0x2A) && not (b == 0x24)
 
 -- `\` and the quotes, which stand with a `\` before them
-abbrev pub is_escaped : ℕ → Bool
-is_escaped b = b == 0x5C || is_quote b
+abbrev pub needs_backslash : ℕ → Bool
+needs_backslash b = b == 0x5C || is_quote b
 
 -- what stands for itself between quotes
-abbrev pub is_plain : ℕ → Bool
-is_plain b = nat_le 0x20 b && not (b == 0x7F) && not (is_escaped b)
+abbrev pub stands_for_itself : ℕ → Bool
+stands_for_itself b = nat_le 0x20 b && not (b == 0x7F) && not (needs_backslash b)

@@ -1,5 +1,5 @@
 -- Tokens as the code has them, without where they lie in memory.
-use Rattle.rule_lex.specs.Tokens.{Token as Meaning, Placed, named, param, session, number, text, symbol}
+use Rattle.rule_lex.specs.Tokens.{RuleToken as Meaning, PlacedToken, named, param, session, number, text, symbol}
 use Rattle.rule_lex.specs.declared.token.Value.{Value}
 use Rattle.rule_lex.specs.declared.token.Value.TheVariants as value
 use Rattle.rule_lex.specs.declared.token.Token.{Token}
@@ -14,5 +14,5 @@ meaning_of (value.Text v) = text v.items
 meaning_of (value.Symbol x) = symbol x
 
 -- with its place and its bytes
-abbrev pub placed : Token → Placed
-placed t = record { at = t.at; spelled = t.spelled.now; token = meaning_of t.value }
+abbrev pub rule_token_of : Token → PlacedToken
+rule_token_of t = record { at = t.at; spelled = t.spelled.now; token = meaning_of t.value }

@@ -1,29 +1,31 @@
 -- The words and signs of the language.
 use Rattle.std.specs.Prelude.{codes}
-use Rattle.rule_lex.specs.Bytes.{Text}
+use Rattle.rule_lex.specs.Bytes.{SourceText}
 use Rattle.rule_lex.specs.declared.token.Symbol.{Symbol}
-use Rattle.rule_lex.specs.declared.token.Symbol.TheVariants.{On, Like, True, False, OpenParenthesis, CloseParenthesis, OpenBrace, CloseBrace, Comma, Semicolon, Recovery, Join, Equal, NotEqual, AtMost, AtLeast, Less, Greater, And, Or, Not}
+use Rattle.rule_lex.specs.declared.token.Symbol.TheVariants.{On, Like, True, False, OpenParenthesis, CloseParenthesis, OpenBrace}
+use Rattle.rule_lex.specs.declared.token.Symbol.TheVariants.{CloseBrace, Comma, Semicolon, Recovery, Join, Equal, NotEqual, AtMost, AtLeast}
+use Rattle.rule_lex.specs.declared.token.Symbol.TheVariants.{Less, Greater, And, Or, Not}
 
 -- the bytes of a word or a sign
-abbrev pub spelling : Symbol → Text
-spelling On = codes "on"
-spelling Like = codes "like"
-spelling True = codes "true"
-spelling False = codes "false"
-spelling OpenParenthesis = codes "("
-spelling CloseParenthesis = codes ")"
-spelling OpenBrace = codes "{"
-spelling CloseBrace = codes "}"
-spelling Comma = codes ","
-spelling Semicolon = codes ";"
-spelling Recovery = codes ":::"
-spelling Join = codes "++"
-spelling Equal = codes "=="
-spelling NotEqual = codes "!="
-spelling AtMost = codes "<="
-spelling AtLeast = codes ">="
-spelling Less = codes "<"
-spelling Greater = codes ">"
-spelling And = codes "&&"
-spelling Or = codes "||"
-spelling Not = codes "!"
+abbrev pub symbol_text : Symbol → SourceText
+symbol_text On = codes "on"
+symbol_text Like = codes "like"
+symbol_text True = codes "true"
+symbol_text False = codes "false"
+symbol_text OpenParenthesis = codes "("
+symbol_text CloseParenthesis = codes ")"
+symbol_text OpenBrace = codes "{"
+symbol_text CloseBrace = codes "}"
+symbol_text Comma = codes ","
+symbol_text Semicolon = codes ";"
+symbol_text Recovery = codes ":::"
+symbol_text Join = codes "++"
+symbol_text Equal = codes "=="
+symbol_text NotEqual = codes "!="
+symbol_text AtMost = codes "<="
+symbol_text AtLeast = codes ">="
+symbol_text Less = codes "<"
+symbol_text Greater = codes ">"
+symbol_text And = codes "&&"
+symbol_text Or = codes "||"
+symbol_text Not = codes "!"

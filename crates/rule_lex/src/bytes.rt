@@ -1,5 +1,5 @@
 ghost use Rattle.std.specs.Prelude.{◌≡◌, slice_index};
-ghost use Rattle.rule_lex.specs.Bytes.{is_letter, is_digit, is_word_byte, is_space, is_plain, is_escaped};
+ghost use Rattle.rule_lex.specs.Bytes.{is_letter, is_digit, is_rule_name_byte, is_space, stands_for_itself, needs_backslash};
 
 /// An ASCII letter or `_`.
 pub fn is_letter(byte: u8) -> bool
@@ -17,7 +17,7 @@ pub fn is_digit(byte: u8) -> bool
 
 /// A letter, `_` or a digit.
 pub fn is_word_byte(byte: u8) -> bool
-    ensures { result ≡ is_word_byte byte }
+    ensures { result ≡ is_rule_name_byte byte }
 {
     is_letter(byte) || is_digit(byte)
 }
@@ -31,14 +31,14 @@ pub fn is_space(byte: u8) -> bool
 
 /// What stands in a text with a `\` before it.
 pub fn is_escaped(byte: u8) -> bool
-    ensures { result ≡ is_escaped byte }
+    ensures { result ≡ needs_backslash byte }
 {
     matches!(byte, b'\\' | b'"' | b'\'')
 }
 
 /// What stands in a text for itself.
 pub fn is_plain(byte: u8) -> bool
-    ensures { result ≡ is_plain byte }
+    ensures { result ≡ stands_for_itself byte }
 {
     byte >= 0x20 && byte != 0x7F && !is_escaped(byte)
 }

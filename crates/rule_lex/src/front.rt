@@ -1,5 +1,5 @@
 ghost use Rattle.std.specs.Prelude.{◌<◌, length, IfOk};
-ghost use Rattle.rule_lex.specs.Fronts.{IsFrontOf};
+ghost use Rattle.rule_lex.specs.Fronts.{IsRestFront};
 
 use crate::numbers::number;
 use crate::quoted::quoted;
@@ -19,7 +19,7 @@ pub enum Front<'a> {
 /// The longest token at the front of the rest.
 pub fn front_of<'a>(alloc: Global, rest: &'a [u8]) -> Result<Front<'a>, AllocError>
     requires { 0 < length rest.now }
-    ensures { IfOk result (λ f. IsFrontOf rest.now f) }
+    ensures { IfOk result (λ f. IsRestFront rest.now f) }
 {
     match rest[0] {
         b'A'..=b'Z' | b'a'..=b'z' | b'_' => Ok(word(rest)),

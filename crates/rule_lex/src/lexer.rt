@@ -1,7 +1,7 @@
 ghost use Rattle.std.specs.Prelude.{◌≡◌, ℕ, List, IfOk, MatchResult, map, IsErrOf};
 ghost use Rattle.rule_lex.specs.Places.{IsRefusedAt};
-ghost use Rattle.rule_lex.specs.Seen.{placed};
-ghost use Rattle.rule_lex.specs.Tokens.{Placed, SpellsTokens};
+ghost use Rattle.rule_lex.specs.Seen.{rule_token_of};
+ghost use Rattle.rule_lex.specs.Tokens.{PlacedToken, SpellsRuleTokens};
 
 use crate::error::LexError;
 use crate::front::{Front, front_of};
@@ -18,10 +18,10 @@ use std::alloc::Global;
 /// `BadToken` where the text is not made of tokens, at the length of its longest front that begins such a text, and
 /// `Memory` where there is no memory.
 pub fn lex<'a>(alloc: Global, text: &'a [u8]) -> Result<Tokens<'a>, LexError>
-    ensures tokens { IfOk result (λ tokens. SpellsTokens 0 text.now (map placed tokens.items)) }
+    ensures tokens { IfOk result (λ tokens. SpellsRuleTokens 0 text.now (map rule_token_of tokens.items)) }
     // What is made of tokens is read as they are, unless there is no memory.
-    ensures only { (all : List Placed) → SpellsTokens 0 text.now all
-        → MatchResult result (λ tokens. map placed tokens.items ≡ all) (λ e. e ≡ LexError.Memory) }
+    ensures only { (all : List PlacedToken) → SpellsRuleTokens 0 text.now all
+        → MatchResult result (λ tokens. map rule_token_of tokens.items ≡ all) (λ e. e ≡ LexError.Memory) }
     ensures bad_token { (at : ℕ) → IsErrOf result (LexError.BadToken at) → IsRefusedAt text.now at }
 {
     let mut tokens = Vec::new(alloc);

@@ -1,6 +1,6 @@
 ghost use Rattle.std.specs.Prelude.{◌≡◌, ◌^◌, ◌<◌, ◌≤◌, ◌⊎◌, IsTrue, length, slice_index, pos};
 ghost use Rattle.rule_lex.specs.Bytes.{is_digit};
-ghost use Rattle.rule_lex.specs.Fronts.{IsFrontOf, AreDigits};
+ghost use Rattle.rule_lex.specs.Fronts.{IsRestFront, AreDigits};
 ghost use Rattle.rule_lex.specs.Tokens.{minus};
 
 use crate::bytes::is_digit;
@@ -54,7 +54,7 @@ fn negated(value: u64) -> i64
 pub fn number<'a>(rest: &'a [u8]) -> Front<'a>
     requires some { 0 < length rest.now }
     requires begins { IsTrue (is_digit (slice_index rest.now 0)) ⊎ (slice_index rest.now 0 ≡ 0x2D) }
-    ensures { IsFrontOf rest.now result }
+    ensures { IsRestFront rest.now result }
 {
     if rest[0] == b'0' {
         return Front::Token(1, Value::Number(0));

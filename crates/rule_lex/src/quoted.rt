@@ -1,7 +1,7 @@
 ghost use Rattle.std.specs.Prelude.{◌≡◌, ◌<◌, IsTrue, IfOk, length, slice_index};
 ghost use Rattle.rule_lex.specs.Bytes.{is_quote};
-ghost use Rattle.rule_lex.specs.Fronts.{IsFrontOf};
-ghost use Rattle.rule_lex.specs.Quotes.{IsPiece};
+ghost use Rattle.rule_lex.specs.Fronts.{IsRestFront};
+ghost use Rattle.rule_lex.specs.Quotes.{IsQuotedPiece};
 
 use crate::bytes::{byte_at, is_escaped, is_plain};
 use crate::front::Front;
@@ -22,7 +22,7 @@ enum Piece {
 /// The next piece of a text that this quote closes.
 fn next_piece(rest: &[u8], quote: u8) -> Piece
     requires { IsTrue (is_quote quote) }
-    ensures { IsPiece quote rest.now result }
+    ensures { IsQuotedPiece quote rest.now result }
 {
     let byte = byte_at(rest, 0);
     let second = byte_at(rest, 1);
@@ -45,7 +45,7 @@ fn next_piece(rest: &[u8], quote: u8) -> Piece
 pub fn quoted<'a>(alloc: Global, rest: &'a [u8]) -> Result<Front<'a>, AllocError>
     requires some { 0 < length rest.now }
     requires begins { IsTrue (is_quote (slice_index rest.now 0)) }
-    ensures { IfOk result (λ f. IsFrontOf rest.now f) }
+    ensures { IfOk result (λ f. IsRestFront rest.now f) }
 {
     let quote = rest[0];
     let mut value = Vec::new(alloc);

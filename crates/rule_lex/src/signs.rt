@@ -1,6 +1,6 @@
 ghost use Rattle.std.specs.Prelude.{◌≡◌, ◌<◌, length, slice_index, IsTrue};
 ghost use Rattle.rule_lex.specs.Bytes.{is_other};
-ghost use Rattle.rule_lex.specs.Fronts.{IsFrontOf};
+ghost use Rattle.rule_lex.specs.Fronts.{IsRestFront};
 
 use crate::bytes::byte_at;
 use crate::front::Front;
@@ -10,7 +10,7 @@ use crate::token::{Symbol, Value};
 pub fn sign<'a>(rest: &'a [u8]) -> Front<'a>
     requires some { 0 < length rest.now }
     requires begins { IsTrue (is_other (slice_index rest.now 0)) }
-    ensures { IsFrontOf rest.now result }
+    ensures { IsRestFront rest.now result }
 {
     let second = byte_at(rest, 1);
     match rest[0] {
@@ -43,7 +43,7 @@ pub fn sign<'a>(rest: &'a [u8]) -> Front<'a>
 fn colons<'a>(rest: &'a [u8]) -> Front<'a>
     requires some { 0 < length rest.now }
     requires begins { slice_index rest.now 0 ≡ 0x3A }
-    ensures { IsFrontOf rest.now result }
+    ensures { IsRestFront rest.now result }
 {
     if byte_at(rest, 1) != b':' {
         Front::Bad(1)

@@ -1,6 +1,6 @@
 ghost use Rattle.std.specs.Prelude.{◌≡◌, ◌<◌, ◌≤◌, ◌+◌, length, take, drop, slice_index, IsTrue, false, slice_range};
 ghost use Rattle.std.specs.List.{list_all};
-ghost use Rattle.rule_lex.specs.Skipping.{Skips, is_skipped};
+ghost use Rattle.rule_lex.specs.Skipping.{SkipsBlanks, is_skipped};
 ghost use Rattle.rule_lex.specs.Tokens.{is_in_line, EndsLine};
 
 use crate::bytes::is_space;
@@ -25,7 +25,7 @@ pub fn skip(text: &[u8], from: usize) -> usize
     requires { from ≤ length text.now }
     ensures within { result ≤ length text.now }
     ensures from { from ≤ result }
-    ensures skips { Skips from (drop from text.now) result (drop result text.now) }
+    ensures skips { SkipsBlanks from (drop from text.now) result (drop result text.now) }
     ensures ends { result < length text.now → is_skipped (slice_index text.now result) ≡ false }
 {
     let mut at = from;

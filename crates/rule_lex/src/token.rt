@@ -1,5 +1,5 @@
 ghost use Rattle.std.specs.Prelude.{◌≡◌};
-ghost use Rattle.rule_lex.specs.Symbols.{spelling};
+ghost use Rattle.rule_lex.specs.Symbols.{symbol_text};
 
 /// A word or a sign of the language.
 #[derive(Clone, Copy, Debug, PartialEq, Eq)]

@@ -1,9 +1,9 @@
 ghost use Rattle.std.specs.Prelude.{◌≡◌, ◌≢◌, ℕ, ◌+◌, ◌<◌, ◌≤◌, ◌&&◌, length, take, drop, IsTrue, false, slice_index, MatchOption, ◌⊎◌};
 ghost use Rattle.std.specs.List.{list_all};
-ghost use Rattle.rule_lex.specs.Bytes.{is_word_byte, starts_with_letter};
-ghost use Rattle.rule_lex.specs.Fronts.{IsFirstName, IsFrontOf};
-ghost use Rattle.rule_lex.specs.Symbols.{spelling};
-ghost use Rattle.rule_lex.specs.Tokens.{is_word};
+ghost use Rattle.rule_lex.specs.Bytes.{is_rule_name_byte, starts_with_letter};
+ghost use Rattle.rule_lex.specs.Fronts.{IsFirstName, IsRestFront};
+ghost use Rattle.rule_lex.specs.Symbols.{symbol_text};
+ghost use Rattle.rule_lex.specs.Tokens.{is_identifier};
 ghost use Rattle.rule_lex.specs.declared.token.Symbol.{Symbol};
 
 use crate::bytes::{is_letter, is_word_byte};
@@ -17,8 +17,8 @@ const LONGEST: usize = 255;
 pub fn run_len(bytes: &[u8]) -> usize
     ensures within { result ≤ length bytes.now }
     ensures short { result ≤ 255 }
-    ensures words { IsTrue (list_all is_word_byte (take result bytes.now)) }
-    ensures ends { result < 255 → result < length bytes.now → is_word_byte (slice_index bytes.now result) ≡ false }
+    ensures words { IsTrue (list_all is_rule_name_byte (take result bytes.now)) }
+    ensures ends { result < 255 → result < length bytes.now → is_rule_name_byte (slice_index bytes.now result) ≡ false }
 {
     let mut len = 0;
     while len < bytes.len() && len < LONGEST && is_word_byte(bytes[len]) {
@@ -30,8 +30,8 @@ pub fn run_len(bytes: &[u8]) -> usize
 /// The word of the language that these letters and digits are.
 pub fn our_word(bytes: &[u8]) -> Option<Symbol>
     ensures { MatchOption result
-        (IsTrue (is_word bytes.now) → (x : Symbol) → bytes.now ≢ spelling x)
-        (λ x. bytes.now ≡ spelling x) }
+        (IsTrue (is_identifier bytes.now) → (x : Symbol) → bytes.now ≢ symbol_text x)
+        (λ x. bytes.now ≡ symbol_text x) }
 {
     if bytes == b"on".as_slice() {
         Some(Symbol::On)
@@ -65,7 +65,7 @@ pub fn name_len(bytes: &[u8]) -> Option<usize>
 /// The name or word of the language at the front of what begins with a letter.
 pub fn word<'a>(rest: &'a [u8]) -> Front<'a>
     requires { IsTrue (starts_with_letter rest.now) }
-    ensures { IsFrontOf rest.now result }
+    ensures { IsRestFront rest.now result }
 {
     let len = run_len(rest);
     let bytes = &rest[..len];
@@ -79,7 +79,7 @@ pub fn word<'a>(rest: &'a [u8]) -> Front<'a>
 pub fn sigil<'a>(rest: &'a [u8]) -> Front<'a>
     requires some { 0 < length rest.now }
     requires begins { (slice_index rest.now 0 ≡ 0x2A) ⊎ (slice_index rest.now 0 ≡ 0x24) }
-    ensures { IsFrontOf rest.now result }
+    ensures { IsRestFront rest.now result }
 {
     let after = &rest[1..];
     let Some(len) = name_len(after) else {

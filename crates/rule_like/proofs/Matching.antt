@@ -5,7 +5,7 @@ use Rattle.std.proofs.lemmas.Bool.Decides.{eqb_tells}
 use Rattle.std.proofs.lemmas.List.{append_assoc, append-nil}
 use Rattle.std.specs.List.{AllByRecursion}
 use Rattle.rule_like.specs.Patterns.{Matches, MatchesInTwo, nothing, this_byte, one_byte, any_bytes, star_piece, sql_piece}
-use Rattle.rule_like.specs.Moves.{StandsFor}
+use Rattle.rule_like.specs.Moves.{TakesByte}
 use Rattle.rule_like.specs.declared.piece.Piece.{Piece}
 use Rattle.rule_like.specs.declared.piece.Piece.TheVariants.{AnyBytes, Byte}
 
@@ -22,7 +22,7 @@ at_wildcard any (one_byte is more) = absurd (cc)
 at_wildcard any (any_bytes before is split more) = record { before = before; rest = _; split = split; matches = more }
 
 -- a pattern's byte that stands for one byte takes one
-pub at_byte : {m : ℕ → Piece} {b c : ℕ} {text pattern : List ℕ} → (m c ≡ AnyBytes → ⊥) → Matches m (b ∷ text) (c ∷ pattern) → StandsFor (m c) b × Matches m text pattern
+pub at_byte : {m : ℕ → Piece} {b c : ℕ} {text pattern : List ℕ} → (m c ≡ AnyBytes → ⊥) → Matches m (b ∷ text) (c ∷ pattern) → TakesByte (m c) b × Matches m text pattern
 at_byte not_any (this_byte is more) = (inr is, more)
 at_byte not_any (one_byte is more) = (inl is, more)
 at_byte not_any (any_bytes before is split more) = absurd (not_any is)
@@ -33,7 +33,7 @@ no_text not_any (any_bytes before is split more) = not_any is
 pub no_pattern : {m : ℕ → Piece} {b : ℕ} {text : List ℕ} → Matches m (b ∷ text) [] → ⊥
 no_pattern h = elim h [ ]
 
-pub past_byte : {m : ℕ → Piece} {b c : ℕ} {text pattern : List ℕ} → StandsFor (m c) b → Matches m text pattern → Matches m (b ∷ text) (c ∷ pattern)
+pub past_byte : {m : ℕ → Piece} {b c : ℕ} {text pattern : List ℕ} → TakesByte (m c) b → Matches m text pattern → Matches m (b ∷ text) (c ∷ pattern)
 past_byte (inl one) more = one_byte one more
 past_byte (inr this) more = this_byte this more
 

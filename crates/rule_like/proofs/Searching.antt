@@ -3,7 +3,7 @@ use Rattle.std.proofs.Common.{◌≡◌, ℕ, ◌+◌, ◌-◌, ◌*◌, ◌<◌
 use Rattle.std.specs.Prelude.{◌⊎◌, slice_index}
 use Rattle.std.proofs.lemmas.List.{drop_more, drop_all, drop-drop, length-drop, length-append, drop_at, take-append-drop}
 use Rattle.rule_like.specs.Patterns.{Matches, any_bytes, nothing}
-use Rattle.rule_like.specs.Moves.{StandsFor}
+use Rattle.rule_like.specs.Moves.{TakesByte}
 use Rattle.rule_like.specs.declared.piece.Piece.{Piece}
 use Rattle.rule_like.specs.declared.piece.Piece.TheVariants.{AnyBytes, Byte}
 use Rattle.rule_like.specs.declared.search.Places.{Places}
@@ -62,17 +62,17 @@ module _ (m : ℕ → Piece) (text pattern : List ℕ) where
   text_at : {t : ℕ} → t < length text → drop t text ≡ slice_index text t ∷ drop (t + 1) text
   text_at {t} low = drop_more text t 0 low
 
-  not_any : {c b : ℕ} → StandsFor (m c) b → m c ≡ AnyBytes → ⊥
+  not_any : {c b : ℕ} → TakesByte (m c) b → m c ≡ AnyBytes → ⊥
   not_any (inl one) any = cc
   not_any (inr this) any = cc
 
   -- a byte that stands for this one is passed, and by each match
-  pub into_byte : (t p : ℕ) → t < length text → p < length pattern → StandsFor (m (slice_index pattern p)) (slice_index text t) → MatchesAt (t + 1) (p + 1) → MatchesAt t p
+  pub into_byte : (t p : ℕ) → t < length text → p < length pattern → TakesByte (m (slice_index pattern p)) (slice_index text t) → MatchesAt (t + 1) (p + 1) → MatchesAt t p
   into_byte t p t_low p_low stands h =
       subst (λ s. Matches m s (drop p pattern)) (sym (text_at t_low))
       (subst (λ q. Matches m (slice_index text t ∷ drop (t + 1) text) q) (sym (pattern_at p_low)) (past_byte stands h))
 
-  out_of_byte : (t p : ℕ) → t < length text → p < length pattern → (m (slice_index pattern p) ≡ AnyBytes → ⊥) → MatchesAt t p → StandsFor (m (slice_index pattern p)) (slice_index text t) × MatchesAt (t + 1) (p + 1)
+  out_of_byte : (t p : ℕ) → t < length text → p < length pattern → (m (slice_index pattern p) ≡ AnyBytes → ⊥) → MatchesAt t p → TakesByte (m (slice_index pattern p)) (slice_index text t) × MatchesAt (t + 1) (p + 1)
   out_of_byte t p t_low p_low sure h =
       at_byte sure (subst (λ s. Matches m s (slice_index pattern p ∷ drop (p + 1) pattern)) (text_at t_low)
       (subst (λ q. Matches m (drop t text) q) (pattern_at p_low) h))
@@ -137,7 +137,7 @@ module _ (m : ℕ → Piece) (text pattern : List ℕ) where
     remembers = λ h. subst (λ k. Matches m (drop at.text text) (drop k pattern)) (sym p) (subst (λ k. Matches m (drop k text) pattern) (sym t) h);
   }
 
-  pub after_byte : (at next : Places) (retry : Option Places) → Searched at retry → at.text < length text → at.pattern < length pattern → StandsFor (m (slice_index pattern at.pattern)) (slice_index text at.text)
+  pub after_byte : (at next : Places) (retry : Option Places) → Searched at retry → at.text < length text → at.pattern < length pattern → TakesByte (m (slice_index pattern at.pattern)) (slice_index text at.text)
       → next.text ≡ at.text + 1 → next.pattern ≡ at.pattern + 1 → Searched next retry
   after_byte at next retry s t_low p_low stands t p = record {
     text_in = omega (arith, t, t_low);
@@ -262,6 +262,6 @@ module _ (m : ℕ → Piece) (text pattern : List ℕ) where
   pub stuck_at_byte : (at : Places) (byte : ℕ) → at.text < length text → at.pattern < length pattern → Byte byte ≡ m (slice_index pattern at.pattern) → (byte ≡ slice_index text at.text → ⊥) → MatchesAt at.text at.pattern → ⊥
   stuck_at_byte at byte t_low p_low is other h = by (out_of_byte at.text at.pattern t_low p_low (λ any. cc) h).0
     where
-      by : StandsFor (m (slice_index pattern at.pattern)) (slice_index text at.text) → ⊥
+      by : TakesByte (m (slice_index pattern at.pattern)) (slice_index text at.text) → ⊥
       by (inl one) = cc
       by (inr this) = other (cc)

@@ -4,12 +4,12 @@ use Rattle.std.specs.Prelude.{codes}
 use Rattle.std.proofs.lemmas.List.{append_assoc, append-nil}
 use Rattle.grid_model.specs.Names.{Text}
 use Rattle.grid_model.specs.Parsed.{Term, CallAt}
-use Rattle.rule_lex.specs.Tokens.{Token, named, symbol}
+use Rattle.rule_lex.specs.Tokens.{RuleToken, named, symbol}
 use Rattle.rule_lex.specs.declared.token.Symbol.TheVariants as sign
 use Rattle.rule_parse.specs.declared.calling.CallStage.{CallStage}
 use Rattle.rule_parse.specs.declared.calling.CallStage.TheVariants.{Start, Named, Opened, Argument, Closed}
-use Rattle.rule_parse.specs.Grammar.{Tokens, SpellsArgument, SpellsArguments, last, more, SpellsCall, alone, of_none, of, is_special, call_at}
-use Rattle.rule_parse.specs.Readers.{Reader, behind, disjoined, new_reader, Read, refused, goes, at_comma, at_close, as_next, next_term, read_term, Calling, calling, in_argument, read_call, read_call_at, whole_call, whole_at}
+use Rattle.rule_parse.specs.Grammar.{Tokens, SpellsArgument, SpellsArguments, last, more, SpellsCall, alone, of_none, of, is_special, placed_call}
+use Rattle.rule_parse.specs.Readers.{TermReader, behind_operand, disjoined, new_reader, TermRead, refused, goes, at_comma, at_close, as_next, next_term, read_term, Calling, calling, in_argument, read_call, read_call_at, whole_call, whole_at}
 use Rattle.rule_parse.proofs.Machines.{some_is, not_some, run, run_cons, run_then, run_within}
 use Rattle.rule_parse.proofs.SpelledTerms.{Holds, nothing_holds, term_keeps, term_closes, term_ends_at_comma, ends_on}
 use Rattle.rule_parse.proofs.Terms.{argument_reads}
@@ -19,13 +19,13 @@ reads_call c ts = run read_call c ts
 
 -- ---- what is spelled is read
 
-pub goes_on : (r : Read) (s : Reader) → as_next r ≡ Some s → r ≡ goes s
+pub goes_on : (r : TermRead) (s : TermReader) → as_next r ≡ Some s → r ≡ goes s
 goes_on refused s h = absurd (not_some h)
 goes_on (goes r) s h = ap goes (some_is h)
 goes_on (at_comma e) s h = absurd (not_some h)
 goes_on (at_close e) s h = absurd (not_some h)
 
-argument_within : (p : ℕ) (n : Text) (es : List Term) (ts : Tokens) (s : Reader) → run next_term new_reader ts ≡ Some s → reads_call (calling Argument p n es new_reader) ts ≡ Some (calling Argument p n es s)
+argument_within : (p : ℕ) (n : Text) (es : List Term) (ts : Tokens) (s : TermReader) → run next_term new_reader ts ≡ Some s → reads_call (calling Argument p n es new_reader) ts ≡ Some (calling Argument p n es s)
 argument_within p n es ts s h = run_within next_term read_call (calling Argument p n es) (λ r x t e. ap (in_argument p n es) (goes_on (read_term r x) t e)) new_reader ts s h
 
 arguments_read : {ts : Tokens} {fs : List Term} (p q : ℕ) (n : Text) (es : List Term) → SpellsArguments ts fs → reads_call (calling Argument p n es new_reader) (ts ++ (q, symbol sign.CloseParenthesis) ∷ []) ≡ Some (calling Closed p n (es ++ fs) new_reader)
@@ -43,7 +43,7 @@ arguments_read p q n es (more {all = all} {ts = ts} {us = us} {e = e} {es = fs} 
     ∙ ap (λ l. Some (calling Closed p n l new_reader)) (append_assoc es (e ∷ []) fs))
 
 -- the first argument begins right behind the parenthesis
-opened_step : (p : ℕ) (n : Text) (q : ℕ) (t : Token) (c : Calling) → read_call (calling Argument p n [] new_reader) (q, t) ≡ Some c → read_call (calling Opened p n [] new_reader) (q, t) ≡ Some c
+opened_step : (p : ℕ) (n : Text) (q : ℕ) (t : RuleToken) (c : Calling) → read_call (calling Argument p n [] new_reader) (q, t) ≡ Some c → read_call (calling Opened p n [] new_reader) (q, t) ≡ Some c
 opened_step p n q (symbol sign.CloseParenthesis) c h = absurd (not_some h)
 opened_step p n q _ c h = h
 
@@ -68,8 +68,8 @@ pub record CallRead (ts : Tokens) (c : CallAt) : Type 0 where
   pub runs : reads_call (calling Named place name [] new_reader) rest ≡ Some last
   pub whole : whole_call last ≡ Some c
 
-special_whole : (b : Bool) (p : ℕ) (n : Text) → b ≡ true → elim b as (λ x. Option CallAt) [ true ↦ Some (call_at p n []) | false ↦ None ] ≡ Some (call_at p n [])
-special_whole b p n h = ap (λ x. elim x as (λ y. Option CallAt) [ true ↦ Some (call_at p n []) | false ↦ None ]) h
+special_whole : (b : Bool) (p : ℕ) (n : Text) → b ≡ true → elim b as (λ x. Option CallAt) [ true ↦ Some (placed_call p n []) | false ↦ None ] ≡ Some (placed_call p n [])
+special_whole b p n h = ap (λ x. elim x as (λ y. Option CallAt) [ true ↦ Some (placed_call p n []) | false ↦ None ]) h
 
 pub call_reads : {ts : Tokens} {c : CallAt} → SpellsCall ts c → CallRead ts c
 call_reads (alone place n h) = record { place = place; name = n; rest = []; split = refl; last = calling Named place n [] new_reader; runs = refl; whole = special_whole (is_special n) place n h }
@@ -99,7 +99,7 @@ with_before {ts = us} {fs = fs} (one_before {all = all} {front = front} {ts = ts
     (subst (λ l. SpellsArguments l (es ++ e ∷ fs)) (sym (ap (λ l. l ++ us) split ∙ append_assoc front (ts ++ (p, symbol sign.Comma) ∷ []) us))
     (with_before h (more p a g (append_assoc ts ((p, symbol sign.Comma) ∷ []) us))))
 
-pub record InArgument (ts : Tokens) (p : ℕ) (n : Text) (es : List Term) (r : Reader) : Type 0 where
+pub record InArgument (ts : Tokens) (p : ℕ) (n : Text) (es : List Term) (r : TermReader) : Type 0 where
   pub start : ℕ
   pub front : Tokens
   pub now : Tokens
@@ -112,14 +112,14 @@ CallHoldsAt Start ts c = ts ≡ []
 CallHoldsAt Named ts c = (ts ≡ (c.place, named c.name) ∷ []) × (c.args ≡ []) × (c.reader ≡ new_reader)
 CallHoldsAt Opened ts c = (q : ℕ) × (ts ≡ (c.place, named c.name) ∷ (q, symbol sign.OpenParenthesis) ∷ []) × (c.args ≡ []) × (c.reader ≡ new_reader)
 CallHoldsAt Argument ts c = InArgument ts c.place c.name c.args c.reader
-CallHoldsAt Closed ts c = SpellsCall ts (call_at c.place c.name c.args)
+CallHoldsAt Closed ts c = SpellsCall ts (placed_call c.place c.name c.args)
 
 -- these tokens are read to there
 abbrev pub CallHolds : Tokens → Calling → Type 0
 CallHolds ts c = CallHoldsAt c.stage ts c
 
 -- the next token of an argument
-in_argument_keeps : (ts : Tokens) (p : ℕ) (n : Text) (es : List Term) (r : Reader) (q : ℕ) (t : Token) (k : Read) (d : Calling) → InArgument ts p n es r → read_term r (q, t) ≡ k → in_argument p n es k ≡ Some d → CallHolds (ts ++ (q, t) ∷ []) d
+in_argument_keeps : (ts : Tokens) (p : ℕ) (n : Text) (es : List Term) (r : TermReader) (q : ℕ) (t : RuleToken) (k : TermRead) (d : Calling) → InArgument ts p n es r → read_term r (q, t) ≡ k → in_argument p n es k ≡ Some d → CallHolds (ts ++ (q, t) ∷ []) d
 in_argument_keeps ts p n es r q t refused d h is e = absurd (not_some e)
 in_argument_keeps ts p n es r q t (goes s) d h is e = subst (CallHolds (ts ++ (q, t) ∷ [])) (some_is e) (record {
   start = h.start;
@@ -155,21 +155,21 @@ begins_argument ts c h = record {
   split = h.1;
 }
 
-call_keeps_at : (s : CallStage) (ts : Tokens) (c : Calling) (q : ℕ) (t : Token) (d : Calling) → CallHoldsAt s ts c → read_call_at s c q t ≡ Some d → CallHolds (ts ++ (q, t) ∷ []) d
+call_keeps_at : (s : CallStage) (ts : Tokens) (c : Calling) (q : ℕ) (t : RuleToken) (d : Calling) → CallHoldsAt s ts c → read_call_at s c q t ≡ Some d → CallHolds (ts ++ (q, t) ∷ []) d
 call_keeps_at Start ts c q (named n) d h e = subst (CallHolds (ts ++ (q, named n) ∷ [])) (some_is e) (ap (λ l. l ++ (q, named n) ∷ []) h, refl, refl)
 call_keeps_at Named ts c q (symbol sign.OpenParenthesis) d h e = subst (CallHolds (ts ++ (q, symbol sign.OpenParenthesis) ∷ [])) (some_is e) (q, ap (λ l. l ++ (q, symbol sign.OpenParenthesis) ∷ []) h.0, h.1, h.2)
 call_keeps_at Opened ts c q (symbol sign.CloseParenthesis) d h e =
     subst (CallHolds (ts ++ (q, symbol sign.CloseParenthesis) ∷ [])) (some_is e)
-    (subst (λ l. SpellsCall (ts ++ (q, symbol sign.CloseParenthesis) ∷ []) (call_at c.place c.name l)) (sym h.2) (subst (λ l. SpellsCall (l ++ (q, symbol sign.CloseParenthesis) ∷ []) (call_at c.place c.name [])) (sym h.1) (of_none c.place h.0 q c.name)))
+    (subst (λ l. SpellsCall (ts ++ (q, symbol sign.CloseParenthesis) ∷ []) (placed_call c.place c.name l)) (sym h.2) (subst (λ l. SpellsCall (l ++ (q, symbol sign.CloseParenthesis) ∷ []) (placed_call c.place c.name [])) (sym h.1) (of_none c.place h.0 q c.name)))
 call_keeps_at Opened ts c q t d h e = in_argument_keeps ts c.place c.name c.args c.reader q t _ d (begins_argument ts c h) refl e
 call_keeps_at Argument ts c q t d h e = in_argument_keeps ts c.place c.name c.args c.reader q t _ d h refl e
 call_keeps_at _ ts c q _ d h e = absurd (not_some e)
 
-pub call_keeps : (ts : Tokens) (c : Calling) (t : ℕ × Token) (d : Calling) → CallHolds ts c → read_call c t ≡ Some d → CallHolds (ts ++ t ∷ []) d
+pub call_keeps : (ts : Tokens) (c : Calling) (t : ℕ × RuleToken) (d : Calling) → CallHolds ts c → read_call c t ≡ Some d → CallHolds (ts ++ t ∷ []) d
 call_keeps ts c t d h e = call_keeps_at c.stage ts c t.0 t.1 d h e
 
-special_spelled : (b : Bool) (ts : Tokens) (p : ℕ) (n : Text) (es : List Term) (v : CallAt) → ts ≡ (p, named n) ∷ [] → es ≡ [] → is_special n ≡ b → elim b as (λ x. Option CallAt) [ true ↦ Some (call_at p n es) | false ↦ None ] ≡ Some v → SpellsCall ts v
-special_spelled true ts p n es v h none is e = subst (SpellsCall ts) (some_is e) (subst (λ l. SpellsCall ts (call_at p n l)) (sym none) (subst (λ l. SpellsCall l (call_at p n [])) (sym h) (alone p n is)))
+special_spelled : (b : Bool) (ts : Tokens) (p : ℕ) (n : Text) (es : List Term) (v : CallAt) → ts ≡ (p, named n) ∷ [] → es ≡ [] → is_special n ≡ b → elim b as (λ x. Option CallAt) [ true ↦ Some (placed_call p n es) | false ↦ None ] ≡ Some v → SpellsCall ts v
+special_spelled true ts p n es v h none is e = subst (SpellsCall ts) (some_is e) (subst (λ l. SpellsCall ts (placed_call p n l)) (sym none) (subst (λ l. SpellsCall l (placed_call p n [])) (sym h) (alone p n is)))
 special_spelled false ts p n es v h none is e = absurd (not_some e)
 
 spelled_at : (s : CallStage) (ts : Tokens) (c : Calling) (v : CallAt) → CallHoldsAt s ts c → whole_at s c ≡ Some v → SpellsCall ts v
@@ -189,23 +189,23 @@ pub record CallEnds (c : Calling) : Type 0 where
   pub runs : reads_call c more ≡ Some last
   pub whole : whole_call last ≡ Some value
 
-call_ends_at : (s : CallStage) (p : ℕ) (n : Text) (es : List Term) (r : Reader) → CallEnds (calling s p n es r)
+call_ends_at : (s : CallStage) (p : ℕ) (n : Text) (es : List Term) (r : TermReader) → CallEnds (calling s p n es r)
 call_ends_at Start p n es r =
-    record { more = (0, named (codes "a")) ∷ (0, symbol sign.OpenParenthesis) ∷ (0, symbol sign.CloseParenthesis) ∷ []; last = calling Closed 0 (codes "a") [] new_reader; value = call_at 0 (codes "a") []; runs = refl; whole = refl }
+    record { more = (0, named (codes "a")) ∷ (0, symbol sign.OpenParenthesis) ∷ (0, symbol sign.CloseParenthesis) ∷ []; last = calling Closed 0 (codes "a") [] new_reader; value = placed_call 0 (codes "a") []; runs = refl; whole = refl }
 call_ends_at Named p n es r =
-    record { more = (0, symbol sign.OpenParenthesis) ∷ (0, symbol sign.CloseParenthesis) ∷ []; last = calling Closed p n es r; value = call_at p n es; runs = refl; whole = refl }
-call_ends_at Opened p n es r = record { more = (0, symbol sign.CloseParenthesis) ∷ []; last = calling Closed p n es r; value = call_at p n es; runs = refl; whole = refl }
+    record { more = (0, symbol sign.OpenParenthesis) ∷ (0, symbol sign.CloseParenthesis) ∷ []; last = calling Closed p n es r; value = placed_call p n es; runs = refl; whole = refl }
+call_ends_at Opened p n es r = record { more = (0, symbol sign.CloseParenthesis) ∷ []; last = calling Closed p n es r; value = placed_call p n es; runs = refl; whole = refl }
 call_ends_at Argument p n es r =
     let w = ends_on r in
     record {
       more = w.more ++ (0, symbol sign.CloseParenthesis) ∷ [];
       last = calling Closed p n (es ++ disjoined w.inner w.operand ∷ []) new_reader;
-      value = call_at p n (es ++ disjoined w.inner w.operand ∷ []);
-      runs = run_then read_call (calling Argument p n es r) w.more ((0, symbol sign.CloseParenthesis) ∷ []) (calling Argument p n es (behind [] w.inner w.count w.operand)) _
+      value = placed_call p n (es ++ disjoined w.inner w.operand ∷ []);
+      runs = run_then read_call (calling Argument p n es r) w.more ((0, symbol sign.CloseParenthesis) ∷ []) (calling Argument p n es (behind_operand [] w.inner w.count w.operand)) _
           (run_within next_term read_call (calling Argument p n es) (λ r x t e. ap (in_argument p n es) (goes_on (read_term r x) t e)) r w.more _ w.runs) refl;
       whole = refl;
     }
-call_ends_at Closed p n es r = record { more = []; last = calling Closed p n es r; value = call_at p n es; runs = refl; whole = refl }
+call_ends_at Closed p n es r = record { more = []; last = calling Closed p n es r; value = placed_call p n es; runs = refl; whole = refl }
 
 pub call_ends : (c : Calling) → CallEnds c
 call_ends c = call_ends_at c.stage c.place c.name c.args c.reader

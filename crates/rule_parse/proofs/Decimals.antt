@@ -7,11 +7,11 @@ use Rattle.std.specs.List.{list_all}
 use Rattle.std.proofs.lemmas.Bool.{le-leb, cases_lt}
 use Rattle.std.proofs.lemmas.Fmt.{decimal_by_steps, first_decimal}
 use Rattle.std.proofs.lemmas.List.{length-append, nil_from_length}
-use Rattle.rule_lex.specs.Bytes.{Text, is_digit}
-use Rattle.rule_lex.specs.Tokens.{IsDecimal, number_from, minus, SpellsNumber, from_zero, below_zero}
+use Rattle.rule_lex.specs.Bytes.{SourceText, is_digit}
+use Rattle.rule_lex.specs.Tokens.{IsPlainDecimal, number_from, minus, SpellsNumber, from_zero, below_zero}
 use Rattle.rule_lex.proofs.NumberLemmas.{all_more, number_more}
 
-record Digits (n : ℕ) (ds : Text) : Type 0 where
+record Digits (n : ℕ) (ds : SourceText) : Type 0 where
   all : list_all is_digit ds ≡ true
   value : number_from 0 ds ≡ n
   some : 0 < length ds
@@ -26,7 +26,7 @@ digits_of n h = decimal_by_steps Digits one more n h
     one : (n : ℕ) → n < 10 → Digits n ((48 + n) ∷ [])
     one n h = record { all = ap (λ b. b && true) (digit n h); value = omega arith; some = omega arith; short = λ _. refl }
 
-    more : (n : ℕ) (ds : Text) → 10 ≤ n → Digits (n / 10) ds → Digits n (ds ++ ((48 + n % 10) ∷ []))
+    more : (n : ℕ) (ds : SourceText) → 10 ≤ n → Digits (n / 10) ds → Digits n (ds ++ ((48 + n % 10) ∷ []))
     more n ds h d = record {
       all = all_more is_digit ds (48 + n % 10) d.all (digit (n % 10) (omega arith));
       value = number_more 0 ds (48 + n % 10) ∙ omega (arith, d.value);
@@ -34,10 +34,10 @@ digits_of n h = decimal_by_steps Digits one more n h
       short = λ k. absurd (omega (arith, k, h));
     }
 
-decimal_is : (n : ℕ) → n < 2 ^ 64 → IsDecimal (decimal n)
+decimal_is : (n : ℕ) → n < 2 ^ 64 → IsPlainDecimal (decimal n)
 decimal_is n h = record { some = (digits_of n h).some; digits = (digits_of n h).all; no_zero_first = λ t e. by t e (cases_lt n 10) }
   where
-    by : (t : Text) → decimal n ≡ 0x30 ∷ t → (n < 10) ⊎ (10 ≤ n) → t ≡ []
+    by : (t : SourceText) → decimal n ≡ 0x30 ∷ t → (n < 10) ⊎ (10 ≤ n) → t ≡ []
     by t e (inl less) = nil_from_length t (omega (arith, (digits_of n h).short less, ap length e))
     by t e (inr more) = absurd (omega (arith, first_decimal n (omega (arith, more)) h, ap (λ l. get_or l 0 0) e))
 
@@ -56,6 +56,6 @@ spells_from v small =
     subst (λ n. SpellsNumber (decimal v) (pos n)) value (from_zero (decimal_is v fits) (subst (λ n. n < 2 ^ 63) (sym value) small))
 
 -- a number is spelled as it is written
-pub number_written : {s : Text} {z : ℤ} → SpellsNumber s z → SpellsNumber (signed_decimal z) z
+pub number_written : {s : SourceText} {z : ℤ} → SpellsNumber s z → SpellsNumber (signed_decimal z) z
 number_written (from_zero {s = s} h small) = spells_from (number_from 0 s) small
 number_written (below_zero digits e h some most) = spells_below (number_from 0 digits) some most

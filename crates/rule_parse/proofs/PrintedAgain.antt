@@ -5,16 +5,16 @@ use Rattle.std.proofs.lemmas.List.{append_assoc, append-nil, map-append}
 use Rattle.grid_model.specs.Names.{Text}
 use Rattle.grid_model.specs.RuleText as meaning
 use Rattle.grid_model.specs.Parsed.{Term, CallAt, StepAt, RuleAt, plain, plain_call, plain_step, plain_rule}
-use Rattle.rule_lex.specs.Tokens.{Token, named, param, symbol}
+use Rattle.rule_lex.specs.Tokens.{RuleToken, named, param, symbol}
 use Rattle.rule_lex.specs.declared.token.Symbol.TheVariants as sign
-use Rattle.rule_parse.specs.Grammar.{Tokens, SpellsArguments, last, more, SpellsCall, alone, of_none, of, call_at, SpellsStep, without_recovery, with_recovery, step_at, SpellsSteps, no_steps, steps, SpellsParams, no_params, last_param, params, SpellsBody, always, on_condition, SpellsRule, a_rule, rule_at}
+use Rattle.rule_parse.specs.Grammar.{Tokens, SpellsArguments, last, more, SpellsCall, alone, of_none, of, placed_call, SpellsStep, without_recovery, with_recovery, placed_step, SpellsSteps, no_steps, steps, SpellsParams, no_params, last_param, params, SpellsBody, always, on_condition, SpellsRule, a_rule, placed_rule}
 use Rattle.rule_parse.specs.Printed.{in_parentheses, in_braces, expr_tokens, with_commas, call_tokens, step_tokens, body_tokens, rule_tokens}
 use Rattle.rule_parse.proofs.TokenLexing.{IsWritable, AllWritable}
 use Rattle.rule_parse.proofs.PrintedTerms.{kinds, headed, parted, none_left, Printed, argument_printed, writable_append, writable_left, writable_right, writable_symbol, writable_enclosed, left_writable, right_writable}
 
 -- ---- arguments
 
-abbrev arg_tokens : List Term → List (List Token)
+abbrev arg_tokens : List Term → List (List RuleToken)
 arg_tokens es = map expr_tokens (map plain es)
 
 abbrev SameTerms : List Term → List Term → Type 0
@@ -24,7 +24,7 @@ some_arguments : {us : Tokens} {es : List Term} → SpellsArguments us es → ar
 some_arguments (last h) e = cc
 some_arguments (more p h g split) e = cc
 
-commas : (ts : List Token) (rest : List (List Token)) → (rest ≡ [] → ⊥) → with_commas (ts ∷ rest) ≡ ts ++ symbol sign.Comma ∷ with_commas rest
+commas : (ts : List RuleToken) (rest : List (List RuleToken)) → (rest ≡ [] → ⊥) → with_commas (ts ∷ rest) ≡ ts ++ symbol sign.Comma ∷ with_commas rest
 commas ts [] some = absurd (some refl)
 commas ts (us ∷ rest) some = refl
 
@@ -61,7 +61,7 @@ SameCall c d = plain_call c ≡ plain_call d
 abbrev text_of : Text → List meaning.Expr → meaning.CallText
 text_of n es = record { name = n; args = es }
 
-empty_call : (p : ℕ) (n : Text) → IsWritable (named n) → Printed SpellsCall SameCall (call_tokens (plain_call (call_at p n []))) (call_at p n [])
+empty_call : (p : ℕ) (n : Text) → IsWritable (named n) → Printed SpellsCall SameCall (call_tokens (plain_call (placed_call p n []))) (placed_call p n [])
 empty_call p n h = record {
   writable = (h, (writable_symbol sign.OpenParenthesis, (writable_symbol sign.CloseParenthesis, tt)));
   again = λ ts k.
@@ -70,7 +70,7 @@ empty_call p n h = record {
       let c = headed b.behind (symbol sign.CloseParenthesis) [] b.kinds_are in
       let split : ts ≡ (a.place, named n) ∷ (b.place, symbol sign.OpenParenthesis) ∷ (c.place, symbol sign.CloseParenthesis) ∷ []
       = a.split ∙ ap (λ l. (a.place, named n) ∷ l) (b.split ∙ ap (λ l. (b.place, symbol sign.OpenParenthesis) ∷ l) (c.split ∙ ap (λ l. (c.place, symbol sign.CloseParenthesis) ∷ l) (none_left c.behind c.kinds_are))) in
-      (call_at a.place n [], subst (λ l. SpellsCall l (call_at a.place n [])) (sym split) (of_none a.place b.place c.place n), refl);
+      (placed_call a.place n [], subst (λ l. SpellsCall l (placed_call a.place n [])) (sym split) (of_none a.place b.place c.place n), refl);
 }
 
 call_printed : {us : Tokens} {c : CallAt} → SpellsCall us c → AllWritable (kinds us) → Printed SpellsCall SameCall (call_tokens (plain_call c)) c
@@ -87,7 +87,7 @@ call_printed (of {all = all} {ts = us} {es = es} place start close n h split) w 
           let p = parted y.behind (with_commas (arg_tokens es)) (symbol sign.CloseParenthesis ∷ []) y.kinds_are in
           let z = headed p.right (symbol sign.CloseParenthesis) [] p.right_are in
           let b = a.again p.left p.left_are in (
-            call_at x.place n b.0,
+            placed_call x.place n b.0,
             of x.place y.place z.place n b.1 (x.split ∙ ap (λ l. (x.place, named n) ∷ l) (y.split ∙ ap (λ l. (y.place, symbol sign.OpenParenthesis) ∷ l) (p.split ∙ ap (λ l. p.left ++ l) (z.split ∙ ap (λ l. (z.place, symbol sign.CloseParenthesis) ∷ l) (none_left z.behind z.kinds_are))))),
             ap (text_of n) b.2,
           );
@@ -111,7 +111,7 @@ step_printed (without_recovery {all = all} {ts = us} {c = c} end h split) w =
           let p = parted ts (call_tokens (plain_call c)) (symbol sign.Semicolon ∷ []) (k ∙ flat) in
           let z = headed p.right (symbol sign.Semicolon) [] p.right_are in
           let b = a.again p.left p.left_are in
-          (step_at b.0 None, without_recovery z.place b.1 (p.split ∙ ap (λ l. p.left ++ l) (z.split ∙ ap (λ l. (z.place, symbol sign.Semicolon) ∷ l) (none_left z.behind z.kinds_are))), ap (λ d. step_of d None) b.2);
+          (placed_step b.0 None, without_recovery z.place b.1 (p.split ∙ ap (λ l. p.left ++ l) (z.split ∙ ap (λ l. (z.place, symbol sign.Semicolon) ∷ l) (none_left z.behind z.kinds_are))), ap (λ d. step_of d None) b.2);
     }
 step_printed (with_recovery {all = all} {ts = us} {us = vs} {c = c} {r = r} between end h g split) w =
     let u = left_writable all (us ++ (between, symbol sign.Recovery) ∷ vs) [] _ split w in
@@ -127,7 +127,7 @@ step_printed (with_recovery {all = all} {ts = us} {us = vs} {c = c} {r = r} betw
           let m = headed q.right (symbol sign.Recovery) (call_tokens (plain_call r)) q.right_are in
           let x = a.again q.left q.left_are in
           let y = b.again m.behind m.kinds_are in (
-            step_at x.0 (Some y.0),
+            placed_step x.0 (Some y.0),
             with_recovery m.place z.place x.1 y.1 (p.split ∙ ap (λ l. l ++ p.right) (q.split ∙ ap (λ l. q.left ++ l) m.split) ∙ ap (λ l. (q.left ++ (m.place, symbol sign.Recovery) ∷ m.behind) ++ l) (z.split ∙ ap (λ l. (z.place, symbol sign.Semicolon) ∷ l) (none_left z.behind z.kinds_are))),
             ap (λ d. step_of d (Some (plain_call y.0))) x.2 ∙ ap (λ d. step_of (plain_call c) (Some d)) y.2,
           );
@@ -136,15 +136,15 @@ step_printed (with_recovery {all = all} {ts = us} {us = vs} {c = c} {r = r} betw
 abbrev SameSteps : List StepAt → List StepAt → Type 0
 SameSteps ss ts = map plain_step ss ≡ map plain_step ts
 
-abbrev steps_tokens : List StepAt → List Token
+abbrev steps_tokens : List StepAt → List RuleToken
 steps_tokens ss = flat_map step_tokens (map plain_step ss)
 
 -- the parts of tokens that were joined are writable
 pub front_writable : (all ts us : Tokens) → all ≡ ts ++ us → AllWritable (kinds all) → AllWritable (kinds ts)
-front_writable all ts us split h = writable_left (kinds ts) (kinds us) (subst AllWritable (ap kinds split ∙ map-append (λ (t : ℕ × Token). t.1) ts us) h)
+front_writable all ts us split h = writable_left (kinds ts) (kinds us) (subst AllWritable (ap kinds split ∙ map-append (λ (t : ℕ × RuleToken). t.1) ts us) h)
 
 pub back_writable : (all ts us : Tokens) → all ≡ ts ++ us → AllWritable (kinds all) → AllWritable (kinds us)
-back_writable all ts us split h = writable_right (kinds ts) (kinds us) (subst AllWritable (ap kinds split ∙ map-append (λ (t : ℕ × Token). t.1) ts us) h)
+back_writable all ts us split h = writable_right (kinds ts) (kinds us) (subst AllWritable (ap kinds split ∙ map-append (λ (t : ℕ × RuleToken). t.1) ts us) h)
 
 steps_printed : {us : Tokens} {ss : List StepAt} → SpellsSteps us ss → AllWritable (kinds us) → Printed SpellsSteps SameSteps (steps_tokens ss) ss
 steps_printed no_steps w = record { writable = tt; again = λ ts k. ([], subst (λ l. SpellsSteps l []) (sym (none_left ts k)) no_steps, refl) }
@@ -165,7 +165,7 @@ steps_printed (steps {all = all} {ts = us} {us = vs} {s = s} {ss = ss} h g split
 abbrev SameNames : List Text → List Text → Type 0
 SameNames ns ms = ns ≡ ms
 
-abbrev param_tokens : List Text → List (List Token)
+abbrev param_tokens : List Text → List (List RuleToken)
 param_tokens ns = map (λ n. param n ∷ []) ns
 
 params_printed : {us : Tokens} {ns : List Text} → SpellsParams us ns → AllWritable (kinds us) → Printed SpellsParams SameNames (with_commas (param_tokens ns)) ns
@@ -188,7 +188,7 @@ params_printed (params {ts = us} {m = m} {ns = ns} place comma n h) w =
     }
 
 -- in parentheses, and then more
-record Parenthesised (ts : Tokens) (inside later : List Token) : Type 0 where
+record Parenthesised (ts : Tokens) (inside later : List RuleToken) : Type 0 where
   start : ℕ
   close : ℕ
   inner : Tokens
@@ -197,7 +197,7 @@ record Parenthesised (ts : Tokens) (inside later : List Token) : Type 0 where
   inner_are : kinds inner ≡ inside
   rest_are : kinds rest ≡ later
 
-parenthesised : (ts : Tokens) (inside later : List Token) → kinds ts ≡ in_parentheses inside ++ later → Parenthesised ts inside later
+parenthesised : (ts : Tokens) (inside later : List RuleToken) → kinds ts ≡ in_parentheses inside ++ later → Parenthesised ts inside later
 parenthesised ts inside later h =
     let x = headed ts (symbol sign.OpenParenthesis) (inside ++ symbol sign.CloseParenthesis ∷ later) (h ∙ ap (λ l. symbol sign.OpenParenthesis ∷ l) (append_assoc inside (symbol sign.CloseParenthesis ∷ []) later)) in
     let p = parted x.behind inside (symbol sign.CloseParenthesis ∷ later) x.kinds_are in
@@ -205,32 +205,32 @@ parenthesised ts inside later h =
     record { start = x.place; close = y.place; inner = p.left; rest = y.behind; split = x.split ∙ ap (λ l. (x.place, symbol sign.OpenParenthesis) ∷ l) (p.split ∙ ap (λ l. p.left ++ l) y.split); inner_are = p.left_are; rest_are = y.kinds_are }
 
 -- in braces
-record Braced (ts : Tokens) (inside : List Token) : Type 0 where
+record Braced (ts : Tokens) (inside : List RuleToken) : Type 0 where
   start : ℕ
   close : ℕ
   inner : Tokens
   split : ts ≡ (start, symbol sign.OpenBrace) ∷ (inner ++ (close, symbol sign.CloseBrace) ∷ [])
   inner_are : kinds inner ≡ inside
 
-braced : (ts : Tokens) (inside : List Token) → kinds ts ≡ in_braces inside → Braced ts inside
+braced : (ts : Tokens) (inside : List RuleToken) → kinds ts ≡ in_braces inside → Braced ts inside
 braced ts inside h =
     let x = headed ts (symbol sign.OpenBrace) (inside ++ symbol sign.CloseBrace ∷ []) h in
     let p = parted x.behind inside (symbol sign.CloseBrace ∷ []) x.kinds_are in
     let y = headed p.right (symbol sign.CloseBrace) [] p.right_are in
     record { start = x.place; close = y.place; inner = p.left; split = x.split ∙ ap (λ l. (x.place, symbol sign.OpenBrace) ∷ l) (p.split ∙ ap (λ l. p.left ++ l) (y.split ∙ ap (λ l. (y.place, symbol sign.CloseBrace) ∷ l) (none_left y.behind y.kinds_are))); inner_are = p.left_are }
 
-in_braces_writable : (ts : List Token) → AllWritable ts → AllWritable (in_braces ts)
+in_braces_writable : (ts : List RuleToken) → AllWritable ts → AllWritable (in_braces ts)
 in_braces_writable ts h = (writable_symbol sign.OpenBrace, writable_append ts (symbol sign.CloseBrace ∷ []) h (writable_symbol sign.CloseBrace, tt))
 
 -- a token, parentheses and braces, joined
-joined : (ts behind rest us vs : Tokens) (a b c d f : ℕ × Token) → ts ≡ a ∷ behind → behind ≡ (b ∷ us) ++ c ∷ rest → rest ≡ d ∷ (vs ++ f ∷ []) → ts ≡ ((a ∷ b ∷ us) ++ c ∷ d ∷ vs) ++ f ∷ []
+joined : (ts behind rest us vs : Tokens) (a b c d f : ℕ × RuleToken) → ts ≡ a ∷ behind → behind ≡ (b ∷ us) ++ c ∷ rest → rest ≡ d ∷ (vs ++ f ∷ []) → ts ≡ ((a ∷ b ∷ us) ++ c ∷ d ∷ vs) ++ f ∷ []
 joined ts behind rest us vs a b c d f first second third = first ∙ ap (λ l. a ∷ l) (second ∙ ap (λ l. (b ∷ us) ++ c ∷ l) third) ∙ regroup
   where
     regroup : a ∷ ((b ∷ us) ++ c ∷ d ∷ (vs ++ f ∷ [])) ≡ ((a ∷ b ∷ us) ++ c ∷ d ∷ vs) ++ f ∷ []
     regroup = simp append_assoc
 
 -- a body is printed as tokens that spell it again
-record BodyPrinted (tokens : List Token) (e : Option Term) (ss : List StepAt) : Type 0 where
+record BodyPrinted (tokens : List RuleToken) (e : Option Term) (ss : List StepAt) : Type 0 where
   writable : AllWritable tokens
   again : (ts : Tokens) → kinds ts ≡ tokens → (f : Option Term) × (rs : List StepAt) × SpellsBody ts f rs × (option_map plain f ≡ option_map plain e) × SameSteps rs ss
 
@@ -279,7 +279,7 @@ rule_printed (a_rule {all = all} {ts = us} {us = vs} {ps = ps} {e = e} {ss = ss}
           let z = braced y.rest inside y.rest_are in
           let c = a.again y.inner y.inner_are in
           let d = b.again z.inner z.inner_are in (
-            rule_at x.place n c.0 d.0 d.1,
+            placed_rule x.place n c.0 d.0 d.1,
             a_rule x.place y.start y.close z.start z.close n c.1 d.2 (joined ts x.behind y.rest y.inner z.inner (x.place, named n) (y.start, symbol sign.OpenParenthesis) (y.close, symbol sign.CloseParenthesis) (z.start, symbol sign.OpenBrace) (z.close, symbol sign.CloseBrace) x.split y.split z.split),
             same_rule n c.0 ps (option_map plain d.0) (option_map plain e) (map plain_step d.1) (map plain_step ss) c.2 d.3 d.4,
           );

@@ -6,42 +6,42 @@ use Rattle.grid_model.specs.Parsed as parsed
 use Rattle.grid_model.specs.Parsed.{Shape, Term, plain_shape, plain}
 use Rattle.grid_model.specs.declared.rules.Operator.{Operator}
 use Rattle.grid_model.specs.declared.rules.Operator.TheVariants as operator
-use Rattle.rule_lex.specs.Tokens.{Token, param, session as session_token, number as number_token, text, symbol, a_symbol}
+use Rattle.rule_lex.specs.Tokens.{RuleToken, param, session as session_token, number as number_token, text, symbol, a_symbol}
 use Rattle.rule_lex.specs.declared.token.Symbol.TheVariants as sign
-use Rattle.rule_parse.specs.Grammar.{Tokens, sign_of, Rank, disjunction, conjunction, comparison, atom, SpellsTerm, one_and, ors, one_not, ands, one_comparison, nots, one_join, compares, one_atom, joins, a_text, a_number, a_param, a_session, a_true, a_false, enclosing, term_at, both, not_at, operators, SpellsArgument}
+use Rattle.rule_parse.specs.Grammar.{Tokens, sign_of, Rank, disjunction, conjunction, comparison, atom, SpellsTerm, one_and, ors, one_not, ands, one_comparison, nots, one_join, compares, one_atom, joins, a_text, a_number, a_param, a_session, a_true, a_false, enclosing, placed_term, applied_term, not_at, operators, SpellsArgument}
 use Rattle.rule_parse.specs.Printed.{in_parentheses, is_operation, as_operand, expr_tokens}
 use Rattle.rule_parse.proofs.TokenLexing.{IsWritable, AllWritable}
 
 -- tokens without their places
-abbrev pub kinds : Tokens → List Token
-kinds ts = map (λ (t : ℕ × Token). t.1) ts
+abbrev pub kinds : Tokens → List RuleToken
+kinds ts = map (λ (t : ℕ × RuleToken). t.1) ts
 
 -- ---- tokens that were put together, taken apart
 
-pub record Headed (ts : Tokens) (t : Token) (rest : List Token) : Type 0 where
+pub record Headed (ts : Tokens) (t : RuleToken) (rest : List RuleToken) : Type 0 where
   pub place : ℕ
   pub behind : Tokens
   pub split : ts ≡ (place, t) ∷ behind
   pub kinds_are : kinds behind ≡ rest
 
-head_is : {t u : Token} {ts us : List Token} → t ∷ ts ≡ u ∷ us → t ≡ u
+head_is : {t u : RuleToken} {ts us : List RuleToken} → t ∷ ts ≡ u ∷ us → t ≡ u
 head_is h = cc
 
-tail_is : {t u : Token} {ts us : List Token} → t ∷ ts ≡ u ∷ us → ts ≡ us
+tail_is : {t u : RuleToken} {ts us : List RuleToken} → t ∷ ts ≡ u ∷ us → ts ≡ us
 tail_is h = cc
 
-pub headed : (ts : Tokens) (t : Token) (rest : List Token) → kinds ts ≡ t ∷ rest → Headed ts t rest
+pub headed : (ts : Tokens) (t : RuleToken) (rest : List RuleToken) → kinds ts ≡ t ∷ rest → Headed ts t rest
 headed [] t rest h = cc
 headed (u ∷ ts) t rest h = record { place = u.0; behind = ts; split = ap (λ k. (u.0, k) ∷ ts) (head_is h); kinds_are = tail_is h }
 
-pub record Parted (ts : Tokens) (us vs : List Token) : Type 0 where
+pub record Parted (ts : Tokens) (us vs : List RuleToken) : Type 0 where
   pub left : Tokens
   pub right : Tokens
   pub split : ts ≡ left ++ right
   pub left_are : kinds left ≡ us
   pub right_are : kinds right ≡ vs
 
-pub parted : (ts : Tokens) (us vs : List Token) → kinds ts ≡ us ++ vs → Parted ts us vs
+pub parted : (ts : Tokens) (us vs : List RuleToken) → kinds ts ≡ us ++ vs → Parted ts us vs
 parted ts [] vs h = record { left = []; right = ts; split = refl; left_are = refl; right_are = h }
 parted ts (u ∷ us) vs h =
     let w = headed ts u (us ++ vs) h in
@@ -63,7 +63,7 @@ to_disjunction h = one_and (to_conjunction h)
 of_comparison : {d : ℕ} {ts : Tokens} {e : Term} → SpellsTerm comparison d ts e → SpellsTerm disjunction d ts e
 of_comparison h = one_and (one_not (one_comparison h))
 
-applied_spelled : {d : ℕ} {all left right : Tokens} {x y : Term} (op : Operator) (p : ℕ) → SpellsTerm atom d left x → SpellsTerm atom d right y → all ≡ left ++ (p, symbol (sign_of op)) ∷ right → SpellsTerm disjunction d all (both op x y)
+applied_spelled : {d : ℕ} {all left right : Tokens} {x y : Term} (op : Operator) (p : ℕ) → SpellsTerm atom d left x → SpellsTerm atom d right y → all ≡ left ++ (p, symbol (sign_of op)) ∷ right → SpellsTerm disjunction d all (applied_term op x y)
 applied_spelled operator.Or p h g split = ors p (to_disjunction h) (to_conjunction g) split
 applied_spelled operator.And p h g split = one_and (ands p (to_conjunction h) (one_comparison (one_join (one_atom g))) split)
 applied_spelled operator.Join p h g split = of_comparison (one_join (joins p (one_atom h) g split))
@@ -85,7 +85,7 @@ pub record SpelledAgain (r : Rank) (d : ℕ) (ts : Tokens) (e : Shape) : Type 0 
 abbrev Again : Shape → Type 0
 Again e = (d : ℕ) (ts : Tokens) → operators e ≤ d → kinds ts ≡ expr_tokens (plain_shape e) → SpelledAgain disjunction d ts e
 
-an_atom : (d : ℕ) (ts : Tokens) (t : Token) (e : Shape) (again : ℕ → Term) → ((p : ℕ) → SpellsTerm atom d ((p, t) ∷ []) (again p)) → ((p : ℕ) → plain_shape (again p).shape ≡ plain_shape e) → kinds ts ≡ t ∷ [] → SpelledAgain atom d ts e
+an_atom : (d : ℕ) (ts : Tokens) (t : RuleToken) (e : Shape) (again : ℕ → Term) → ((p : ℕ) → SpellsTerm atom d ((p, t) ∷ []) (again p)) → ((p : ℕ) → plain_shape (again p).shape ≡ plain_shape e) → kinds ts ≡ t ∷ [] → SpelledAgain atom d ts e
 an_atom d ts t e again spells same h =
     let w = headed ts t [] h in
     record { again = again w.place; spells = subst (λ l. SpellsTerm atom d l (again w.place)) (sym (w.split ∙ ap (λ l. (w.place, t) ∷ l) (none_left w.behind w.kinds_are))) (spells w.place); same = same w.place }
@@ -102,31 +102,31 @@ enclosed e whole (suc d) ts less h =
     let l = headed p.right (symbol sign.CloseParenthesis) [] p.right_are in
     let inner = whole d p.left (omega (arith, less)) p.left_are in
     record {
-      again = term_at w.place inner.again.shape;
+      again = placed_term w.place inner.again.shape;
       spells = enclosing w.place l.place inner.spells (w.split ∙ ap (λ z. (w.place, symbol sign.OpenParenthesis) ∷ z) (p.split ∙ ap (λ z. p.left ++ z) (l.split ∙ ap (λ z. (l.place, symbol sign.CloseParenthesis) ∷ z) (none_left l.behind l.kinds_are))));
       same = inner.same;
     }
 
 truth_atom : (b : Bool) (d : ℕ) (ts : Tokens) → kinds ts ≡ expr_tokens (truth b) → SpelledAgain atom d ts (parsed.truth b)
-truth_atom true d ts h = an_atom d ts (symbol sign.True) (parsed.truth true) (λ p. term_at p (parsed.truth true)) (λ p. a_true p) (λ p. refl) h
-truth_atom false d ts h = an_atom d ts (symbol sign.False) (parsed.truth false) (λ p. term_at p (parsed.truth false)) (λ p. a_false p) (λ p. refl) h
+truth_atom true d ts h = an_atom d ts (symbol sign.True) (parsed.truth true) (λ p. placed_term p (parsed.truth true)) (λ p. a_true p) (λ p. refl) h
+truth_atom false d ts h = an_atom d ts (symbol sign.False) (parsed.truth false) (λ p. placed_term p (parsed.truth false)) (λ p. a_false p) (λ p. refl) h
 
 -- an operand, by what is known of it alone
 operand : (e : Shape) → Again e → (d : ℕ) (ts : Tokens) → operators e < d → kinds ts ≡ as_operand (plain_shape e) (expr_tokens (plain_shape e)) → SpelledAgain atom d ts e
-operand (parsed.literal t) whole d ts less h = an_atom d ts (text t) (parsed.literal t) (λ p. term_at p (parsed.literal t)) (λ p. a_text p t) (λ p. refl) h
-operand (parsed.number z) whole d ts less h = an_atom d ts (number_token z) (parsed.number z) (λ p. term_at p (parsed.number z)) (λ p. a_number p z) (λ p. refl) h
+operand (parsed.literal t) whole d ts less h = an_atom d ts (text t) (parsed.literal t) (λ p. placed_term p (parsed.literal t)) (λ p. a_text p t) (λ p. refl) h
+operand (parsed.number z) whole d ts less h = an_atom d ts (number_token z) (parsed.number z) (λ p. placed_term p (parsed.number z)) (λ p. a_number p z) (λ p. refl) h
 operand (parsed.truth b) whole d ts less h = truth_atom b d ts h
-operand (parsed.parameter own n) whole d ts less h = an_atom d ts (param n) (parsed.parameter own n) (λ p. term_at p (parsed.parameter p n)) (λ p. a_param p n) (λ p. refl) h
-operand (parsed.session own n) whole d ts less h = an_atom d ts (session_token n) (parsed.session own n) (λ p. term_at p (parsed.session p n)) (λ p. a_session p n) (λ p. refl) h
+operand (parsed.parameter own n) whole d ts less h = an_atom d ts (param n) (parsed.parameter own n) (λ p. placed_term p (parsed.parameter p n)) (λ p. a_param p n) (λ p. refl) h
+operand (parsed.session own n) whole d ts less h = an_atom d ts (session_token n) (parsed.session own n) (λ p. placed_term p (parsed.session p n)) (λ p. a_session p n) (λ p. refl) h
 operand (parsed.negated p e) whole d ts less h = enclosed (parsed.negated p e) whole d ts less h
 operand (parsed.applied op p x q y) whole d ts less h = enclosed (parsed.applied op p x q y) whole d ts less h
 
 pub term_again : (e : Shape) → Again e
-term_again (parsed.literal t) d ts few h = lifted (an_atom d ts (text t) (parsed.literal t) (λ p. term_at p (parsed.literal t)) (λ p. a_text p t) (λ p. refl) h)
-term_again (parsed.number z) d ts few h = lifted (an_atom d ts (number_token z) (parsed.number z) (λ p. term_at p (parsed.number z)) (λ p. a_number p z) (λ p. refl) h)
+term_again (parsed.literal t) d ts few h = lifted (an_atom d ts (text t) (parsed.literal t) (λ p. placed_term p (parsed.literal t)) (λ p. a_text p t) (λ p. refl) h)
+term_again (parsed.number z) d ts few h = lifted (an_atom d ts (number_token z) (parsed.number z) (λ p. placed_term p (parsed.number z)) (λ p. a_number p z) (λ p. refl) h)
 term_again (parsed.truth b) d ts few h = lifted (truth_atom b d ts h)
-term_again (parsed.parameter own n) d ts few h = lifted (an_atom d ts (param n) (parsed.parameter own n) (λ p. term_at p (parsed.parameter p n)) (λ p. a_param p n) (λ p. refl) h)
-term_again (parsed.session own n) d ts few h = lifted (an_atom d ts (session_token n) (parsed.session own n) (λ p. term_at p (parsed.session p n)) (λ p. a_session p n) (λ p. refl) h)
+term_again (parsed.parameter own n) d ts few h = lifted (an_atom d ts (param n) (parsed.parameter own n) (λ p. placed_term p (parsed.parameter p n)) (λ p. a_param p n) (λ p. refl) h)
+term_again (parsed.session own n) d ts few h = lifted (an_atom d ts (session_token n) (parsed.session own n) (λ p. placed_term p (parsed.session p n)) (λ p. a_session p n) (λ p. refl) h)
 term_again (parsed.negated p e) d ts few h =
     let w = headed ts (symbol sign.Not) (as_operand (plain_shape e) (expr_tokens (plain_shape e))) h in
     let x = operand e (term_again e) d w.behind (omega (arith, few)) w.kinds_are in
@@ -141,7 +141,7 @@ term_again (parsed.applied op p e q f) d ts few h =
     let x = operand e (term_again e) d w.left (omega (arith, few)) w.left_are in
     let y = operand f (term_again f) d s.behind (omega (arith, few)) s.kinds_are in
     record {
-      again = both op x.again y.again;
+      again = applied_term op x.again y.again;
       spells = applied_spelled op s.place x.spells y.spells (w.split ∙ ap (λ l. w.left ++ l) s.split);
       same = ap (λ z. applied op z (plain_shape y.again.shape)) x.same ∙ ap (applied op (plain_shape e)) y.same;
     }
@@ -164,39 +164,39 @@ operators_plain (parsed.applied op p x q y) = omega (arith, operators_plain x, o
 
 -- ---- what its tokens are
 
-pub writable_append : (ts us : List Token) → AllWritable ts → AllWritable us → AllWritable (ts ++ us)
+pub writable_append : (ts us : List RuleToken) → AllWritable ts → AllWritable us → AllWritable (ts ++ us)
 writable_append [] us h g = g
 writable_append (t ∷ ts) us h g = (h.0, writable_append ts us h.1 g)
 
-pub writable_left : (ts us : List Token) → AllWritable (ts ++ us) → AllWritable ts
+pub writable_left : (ts us : List RuleToken) → AllWritable (ts ++ us) → AllWritable ts
 writable_left [] us h = tt
 writable_left (t ∷ ts) us h = (h.0, writable_left ts us h.1)
 
-pub writable_right : (ts us : List Token) → AllWritable (ts ++ us) → AllWritable us
+pub writable_right : (ts us : List RuleToken) → AllWritable (ts ++ us) → AllWritable us
 writable_right [] us h = h
 writable_right (t ∷ ts) us h = writable_right ts us h.1
 
 pub writable_symbol : (x : _) → IsWritable (symbol x)
 writable_symbol x = a_symbol x refl
 
-pub writable_enclosed : (ts : List Token) → AllWritable ts → AllWritable (in_parentheses ts)
+pub writable_enclosed : (ts : List RuleToken) → AllWritable ts → AllWritable (in_parentheses ts)
 writable_enclosed ts h = (writable_symbol sign.OpenParenthesis, writable_append ts (symbol sign.CloseParenthesis ∷ []) h (writable_symbol sign.CloseParenthesis, tt))
 
-writable_operand : (e : Expr) (ts : List Token) → AllWritable ts → AllWritable (as_operand e ts)
+writable_operand : (e : Expr) (ts : List RuleToken) → AllWritable ts → AllWritable (as_operand e ts)
 writable_operand e ts h = by (is_operation e)
   where
-    by : (b : Bool) → AllWritable (elim b as (λ x. List Token) [ true ↦ in_parentheses ts | false ↦ ts ])
+    by : (b : Bool) → AllWritable (elim b as (λ x. List RuleToken) [ true ↦ in_parentheses ts | false ↦ ts ])
     by true = writable_enclosed ts h
     by false = h
 
 -- the parts of tokens that were put together are
-pub left_writable : (all left right : Tokens) (t : ℕ × Token) → all ≡ left ++ t ∷ right → AllWritable (kinds all) → AllWritable (kinds left)
-left_writable all left right t split h = writable_left (kinds left) (kinds (t ∷ right)) (subst AllWritable (ap kinds split ∙ map-append (λ (t : ℕ × Token). t.1) left (t ∷ right)) h)
+pub left_writable : (all left right : Tokens) (t : ℕ × RuleToken) → all ≡ left ++ t ∷ right → AllWritable (kinds all) → AllWritable (kinds left)
+left_writable all left right t split h = writable_left (kinds left) (kinds (t ∷ right)) (subst AllWritable (ap kinds split ∙ map-append (λ (t : ℕ × RuleToken). t.1) left (t ∷ right)) h)
 
-pub right_writable : (all left right : Tokens) (t : ℕ × Token) → all ≡ left ++ t ∷ right → AllWritable (kinds all) → AllWritable (kinds right)
-right_writable all left right t split h = (writable_right (kinds left) (kinds (t ∷ right)) (subst AllWritable (ap kinds split ∙ map-append (λ (t : ℕ × Token). t.1) left (t ∷ right)) h)).1
+pub right_writable : (all left right : Tokens) (t : ℕ × RuleToken) → all ≡ left ++ t ∷ right → AllWritable (kinds all) → AllWritable (kinds right)
+right_writable all left right t split h = (writable_right (kinds left) (kinds (t ∷ right)) (subst AllWritable (ap kinds split ∙ map-append (λ (t : ℕ × RuleToken). t.1) left (t ∷ right)) h)).1
 
-two_writable : (op : Operator) (x y : Term) → AllWritable (expr_tokens (plain x)) → AllWritable (expr_tokens (plain y)) → AllWritable (expr_tokens (plain (both op x y)))
+two_writable : (op : Operator) (x y : Term) → AllWritable (expr_tokens (plain x)) → AllWritable (expr_tokens (plain y)) → AllWritable (expr_tokens (plain (applied_term op x y)))
 two_writable op x y h g =
     writable_append (as_operand (plain x) (expr_tokens (plain x))) (symbol (sign_of op) ∷ as_operand (plain y) (expr_tokens (plain y))) (writable_operand (plain x) (expr_tokens (plain x)) h)
     (writable_symbol (sign_of op), writable_operand (plain y) (expr_tokens (plain y)) g)
@@ -223,7 +223,7 @@ term_writable (enclosing {all = all} {ts = ts} start close h split) w = term_wri
 -- ---- an argument or a condition
 
 -- it is printed as tokens that spell it again
-pub record Printed {A : Type 0} (Spells : Tokens → A → Type 0) (Same : A → A → Type 0) (tokens : List Token) (a : A) : Type 0 where
+pub record Printed {A : Type 0} (Spells : Tokens → A → Type 0) (Same : A → A → Type 0) (tokens : List RuleToken) (a : A) : Type 0 where
   pub writable : AllWritable tokens
   pub again : (ts : Tokens) → kinds ts ≡ tokens → (b : A) × Spells ts b × Same b a
 

@@ -5,7 +5,7 @@ use Rattle.grid_model.specs.Names.{Text}
 use Rattle.grid_model.specs.Printing.{spaced}
 use Rattle.grid_model.specs.RuleText.{Rule}
 use Rattle.grid_model.specs.Parsed.{RuleAt, plain_rule}
-use Rattle.rule_lex.specs.Tokens.{Token, named, param, symbol, Placed, SpellsTokens, at_end, space, comment, token}
+use Rattle.rule_lex.specs.Tokens.{RuleToken, named, param, symbol, PlacedToken, SpellsRuleTokens, at_end, space, comment, token}
 use Rattle.rule_lex.specs.declared.token.Symbol.TheVariants as sign
 use Rattle.rule_parse.specs.Grammar.{Tokens, SpellsRules, no_rules, rules}
 use Rattle.rule_parse.specs.Printed.{print_token, in_parentheses, in_braces, with_commas, body_tokens, rule_tokens, print_rule, print_rules}
@@ -18,27 +18,27 @@ use Rattle.rule_parse.proofs.PrintedAgain.{rule_printed, front_writable, back_wr
 -- ---- a line
 
 -- the tokens of a line that begins at this place, and where it ends
-abbrev places : ℕ → List Token → List Placed
+abbrev places : ℕ → List RuleToken → List PlacedToken
 places p [] = []
 places p (t ∷ ts) = record { at = p; spelled = print_token t; token = t } ∷ places (p + length (print_token t) + 1) ts
 
-abbrev end_of : ℕ → List Token → ℕ
+abbrev end_of : ℕ → List RuleToken → ℕ
 end_of p [] = p
 end_of p (t ∷ ts) = end_of (p + length (print_token t) + 1) ts
 
-abbrev kind_of : Placed → Token
+abbrev kind_of : PlacedToken → RuleToken
 kind_of t = t.token
 
-kinds_of_places : (p : ℕ) (ts : List Token) → kinds (map located (places p ts)) ≡ ts
+kinds_of_places : (p : ℕ) (ts : List RuleToken) → kinds (map located (places p ts)) ≡ ts
 kinds_of_places p [] = refl
 kinds_of_places p (t ∷ ts) = ap (λ l. t ∷ l) (kinds_of_places (p + length (print_token t) + 1) ts)
 
-line : (p : ℕ) (t : Token) (ts : List Token) (rest : Text) (later : ℕ → List Placed) → AllWritable (t ∷ ts) → ((q : ℕ) → SpellsTokens q rest (later q))
-    → SpellsTokens p ((spaced (map print_token (t ∷ ts)) ++ 0x0A ∷ []) ++ rest) (places p (t ∷ ts) ++ later (end_of p (t ∷ ts)))
+line : (p : ℕ) (t : RuleToken) (ts : List RuleToken) (rest : Text) (later : ℕ → List PlacedToken) → AllWritable (t ∷ ts) → ((q : ℕ) → SpellsRuleTokens q rest (later q))
+    → SpellsRuleTokens p ((spaced (map print_token (t ∷ ts)) ++ 0x0A ∷ []) ++ rest) (places p (t ∷ ts) ++ later (end_of p (t ∷ ts)))
 line p t [] rest later w h =
-    subst (λ s. SpellsTokens p s (places p (t ∷ []) ++ later (end_of p (t ∷ [])))) (sym (append_assoc (print_token t) (0x0A ∷ []) rest)) (one_more 0x0A t w.0 refl refl (h (p + length (print_token t) + 1)))
+    subst (λ s. SpellsRuleTokens p s (places p (t ∷ []) ++ later (end_of p (t ∷ [])))) (sym (append_assoc (print_token t) (0x0A ∷ []) rest)) (one_more 0x0A t w.0 refl refl (h (p + length (print_token t) + 1)))
 line p t (u ∷ ts) rest later w h =
-    subst (λ s. SpellsTokens p s (places p (t ∷ u ∷ ts) ++ later (end_of p (t ∷ u ∷ ts)))) (sym (regroup (print_token t) (spaced (map print_token (u ∷ ts))) rest))
+    subst (λ s. SpellsRuleTokens p s (places p (t ∷ u ∷ ts) ++ later (end_of p (t ∷ u ∷ ts)))) (sym (regroup (print_token t) (spaced (map print_token (u ∷ ts))) rest))
     (one_more 0x20 t w.0 refl refl (line (p + length (print_token t) + 1) u ts rest later w.1 h))
   where
     regroup : (a b c : Text) → ((a ++ 0x20 ∷ b) ++ 0x0A ∷ []) ++ c ≡ a ++ 0x20 ∷ ((b ++ 0x0A ∷ []) ++ c)
@@ -47,8 +47,8 @@ line p t (u ∷ ts) rest later w h =
 -- ---- all lines
 
 record Lines (rs : List RuleAt) : Type 0 where
-  tokens : ℕ → List Placed
-  made : (p : ℕ) → SpellsTokens p (print_rules (map plain_rule rs)) (tokens p)
+  tokens : ℕ → List PlacedToken
+  made : (p : ℕ) → SpellsRuleTokens p (print_rules (map plain_rule rs)) (tokens p)
   again : (p : ℕ) → (bs : List RuleAt) × SpellsRules (map located (tokens p)) bs × (map plain_rule bs ≡ map plain_rule rs)
 
 lines : {us : Tokens} {rs : List RuleAt} → SpellsRules us rs → AllWritable (kinds us) → Lines rs
@@ -66,7 +66,7 @@ lines (rules {all = all} {ts = us} {us = vs} {r = r} {rs = rs} h g split) w =
     }
 
 -- tokens of a text are printed as what spells them
-text_writable : {p : ℕ} {text : Text} {ts : List Placed} → SpellsTokens p text ts → AllWritable (kinds (map located ts))
+text_writable : {p : ℕ} {text : Text} {ts : List PlacedToken} → SpellsRuleTokens p text ts → AllWritable (kinds (map located ts))
 text_writable at_end = tt
 text_writable (space is h) = text_writable h
 text_writable (comment l is h) = text_writable h
@@ -80,7 +80,7 @@ printed_again rs h =
 
 -- ---- a line as it is written
 
-spread_last : (ts : List Token) (x : Token) → spread ts ++ print_token x ≡ spaced (map print_token (ts ++ x ∷ []))
+spread_last : (ts : List RuleToken) (x : RuleToken) → spread ts ++ print_token x ≡ spaced (map print_token (ts ++ x ∷ []))
 spread_last [] x = refl
 spread_last (t ∷ []) x = regroup (print_token t) (print_token x)
   where

@@ -3,19 +3,19 @@ use Rattle.std.proofs.Common.{◌≡◌, ℕ, List, [], ◌∷◌, ◌++◌, Opt
 use Rattle.std.proofs.lemmas.List.{append_assoc, append-nil}
 use Rattle.grid_model.specs.Names.{Text}
 use Rattle.grid_model.specs.Parsed.{Term, CallAt, StepAt, RuleAt}
-use Rattle.rule_lex.specs.Tokens.{Token, named, symbol}
+use Rattle.rule_lex.specs.Tokens.{RuleToken, named, symbol}
 use Rattle.rule_lex.specs.declared.token.Symbol.TheVariants as sign
 use Rattle.rule_parse.specs.declared.calling.CallStage.{CallStage}
 use Rattle.rule_parse.specs.declared.calling.CallStage.TheVariants as call
 use Rattle.rule_parse.specs.declared.drafts.RuleStage.{RuleStage}
 use Rattle.rule_parse.specs.declared.drafts.RuleStage.TheVariants.{FirstParam, Param, Head, Opened, Condition, BehindCondition, Steps, Call}
-use Rattle.rule_parse.specs.Grammar.{Tokens, SpellsArgument, SpellsStep, without_recovery, with_recovery, SpellsSteps, no_steps, steps, SpellsParams, no_params, last_param, params, SpellsBody, always, on_condition, SpellsRule, a_rule, SpellsRules, no_rules, rules, rule_at}
-use Rattle.rule_parse.specs.Readers.{Reader, new_reader, next_term, read_term, read_with, Calling, calling, new_call, read_call, read_call_at, whole_call, in_argument, Draft, new_draft, step_with, end_step, begin_recovery, in_call, in_condition, with_rule, Progress, progress, start, read}
+use Rattle.rule_parse.specs.Grammar.{Tokens, SpellsArgument, SpellsStep, without_recovery, with_recovery, SpellsSteps, no_steps, steps, SpellsParams, no_params, last_param, params, SpellsBody, always, on_condition, SpellsRule, a_rule, SpellsRules, no_rules, rules, placed_rule}
+use Rattle.rule_parse.specs.Readers.{TermReader, new_reader, next_term, read_term, read_with, Calling, calling, new_call, read_call, read_call_at, whole_call, in_argument, Draft, new_draft, step_with, end_step, begin_recovery, in_call, in_condition, with_rule, Progress, progress, new_progress, read}
 use Rattle.rule_parse.proofs.Machines.{not_some, run, run_cons, run_then, run_within}
 use Rattle.rule_parse.proofs.Terms.{argument_reads}
 use Rattle.rule_parse.proofs.Calls.{call_reads, reads_call, goes_on}
 
-abbrev pub draft : RuleStage → ℕ → Text → List Text → Option Term → List StepAt → Reader → Option CallAt → Calling → Draft
+abbrev pub draft : RuleStage → ℕ → Text → List Text → Option Term → List StepAt → TermReader → Option CallAt → Calling → Draft
 draft s p n ps e ss r f c = record { stage = s; place = p; name = n; params = ps; cond = e; steps = ss; reader = r; first = f; calling = c }
 
 abbrev pub body : RuleStage → ℕ → Text → List Text → Option Term → List StepAt → Draft
@@ -40,11 +40,11 @@ first_params_read done p n q (params place comma m h) = params_read done p n (m 
 
 -- ---- steps
 
-no_semicolon_with : (r : Reader) (o : Option Term) (q : ℕ) (p : ℕ) (n : Text) (es : List Term) → in_argument p n es (read_with r.outer r.inner r.count o q (symbol sign.Semicolon)) ≡ None
+no_semicolon_with : (r : TermReader) (o : Option Term) (q : ℕ) (p : ℕ) (n : Text) (es : List Term) → in_argument p n es (read_with r.outer r.inner r.count o q (symbol sign.Semicolon)) ≡ None
 no_semicolon_with r None q p n es = refl
 no_semicolon_with r (Some x) q p n es = refl
 
-no_recovery_with : (r : Reader) (o : Option Term) (q : ℕ) (p : ℕ) (n : Text) (es : List Term) → in_argument p n es (read_with r.outer r.inner r.count o q (symbol sign.Recovery)) ≡ None
+no_recovery_with : (r : TermReader) (o : Option Term) (q : ℕ) (p : ℕ) (n : Text) (es : List Term) → in_argument p n es (read_with r.outer r.inner r.count o q (symbol sign.Recovery)) ≡ None
 no_recovery_with r None q p n es = refl
 no_recovery_with r (Some x) q p n es = refl
 
@@ -66,7 +66,7 @@ no_recovery call.Closed c q = refl
 abbrev pub within : List RuleAt → Draft → Calling → Progress
 within done d c = progress done (record d { stage = Call; calling = c })
 
-token_of_call : (done : List RuleAt) (d : Draft) (c : Calling) (q : ℕ) (t : Token) (e : Calling) → read_call c (q, t) ≡ Some e → read (within done d c) (q, t) ≡ Some (within done d e)
+token_of_call : (done : List RuleAt) (d : Draft) (c : Calling) (q : ℕ) (t : RuleToken) (e : Calling) → read_call c (q, t) ≡ Some e → read (within done d c) (q, t) ≡ Some (within done d e)
 token_of_call done d c q (symbol sign.Semicolon) e h = absurd (not_some (sym (no_semicolon c.stage c q) ∙ h))
 token_of_call done d c q (symbol sign.Recovery) e h = absurd (not_some (sym (no_recovery c.stage c q) ∙ h))
 token_of_call done d c q _ e h = ap (λ o. with_rule done (in_call (record d { stage = Call; calling = c }) o)) h
@@ -118,15 +118,15 @@ module _ (done : List RuleAt) (p : ℕ) (n : Text) (ps : List Text) (e : Option 
 -- ---- a rule
 
 -- a rule without a condition begins with its steps
-opened_step : (done : List RuleAt) (p : ℕ) (n : Text) (ps : List Text) (q : ℕ) (t : Token) (s : Progress) → read (progress done (body Steps p n ps None [])) (q, t) ≡ Some s → read (progress done (body Opened p n ps None [])) (q, t) ≡ Some s
+opened_step : (done : List RuleAt) (p : ℕ) (n : Text) (ps : List Text) (q : ℕ) (t : RuleToken) (s : Progress) → read (progress done (body Steps p n ps None [])) (q, t) ≡ Some s → read (progress done (body Opened p n ps None [])) (q, t) ≡ Some s
 opened_step done p n ps q (named m) s h = h
 opened_step done p n ps q (symbol sign.CloseBrace) s h = h
 opened_step done p n ps q _ s h = absurd (not_some h)
 
-opened_read : (done : List RuleAt) (p : ℕ) (n : Text) (ps : List Text) (ts : Tokens) (last : ℕ × Token) (s : Progress) → reads_rules (progress done (body Steps p n ps None [])) (ts ++ last ∷ []) ≡ Some s → reads_rules (progress done (body Opened p n ps None [])) (ts ++ last ∷ []) ≡ Some s
+opened_read : (done : List RuleAt) (p : ℕ) (n : Text) (ps : List Text) (ts : Tokens) (last : ℕ × RuleToken) (s : Progress) → reads_rules (progress done (body Steps p n ps None [])) (ts ++ last ∷ []) ≡ Some s → reads_rules (progress done (body Opened p n ps None [])) (ts ++ last ∷ []) ≡ Some s
 opened_read done p n ps ts last s h = by ts h
   where
-    begun : (t : ℕ × Token) (us : Tokens) → reads_rules (progress done (body Steps p n ps None [])) (t ∷ us) ≡ Some s → reads_rules (progress done (body Opened p n ps None [])) (t ∷ us) ≡ Some s
+    begun : (t : ℕ × RuleToken) (us : Tokens) → reads_rules (progress done (body Steps p n ps None [])) (t ∷ us) ≡ Some s → reads_rules (progress done (body Opened p n ps None [])) (t ∷ us) ≡ Some s
     begun t us h = on (read (progress done (body Steps p n ps None [])) t) refl h
       where
         on : (o : Option Progress) → read (progress done (body Steps p n ps None [])) t ≡ o → reads_rules (progress done (body Steps p n ps None [])) (t ∷ us) ≡ Some s → reads_rules (progress done (body Opened p n ps None [])) (t ∷ us) ≡ Some s
@@ -137,7 +137,7 @@ opened_read done p n ps ts last s h = by ts h
     by [] h = begun last [] h
     by (t ∷ ts) h = begun t (ts ++ last ∷ []) h
 
-abbrev pub in_condition_of : List RuleAt → ℕ → Text → List Text → Reader → Progress
+abbrev pub in_condition_of : List RuleAt → ℕ → Text → List Text → TermReader → Progress
 in_condition_of done p n ps r = progress done (draft Condition p n ps None [] r None new_call)
 
 condition_read : {ts : Tokens} {e : Term} (done : List RuleAt) (p : ℕ) (n : Text) (ps : List Text) (close : ℕ) → SpellsArgument ts e → reads_rules (in_condition_of done p n ps new_reader) (ts ++ (close, symbol sign.CloseParenthesis) ∷ []) ≡ Some (progress done (body BehindCondition p n ps (Some e) []))
@@ -149,25 +149,25 @@ condition_read {ts = ts} {e = e} done p n ps close h =
 
 -- the body and the brace behind it
 body_read : {us : Tokens} {e : Option Term} {ss : List StepAt} (done : List RuleAt) (p : ℕ) (n : Text) (ps : List Text) (last : ℕ) → SpellsBody us e ss
-    → reads_rules (progress done (body Opened p n ps None [])) (us ++ (last, symbol sign.CloseBrace) ∷ []) ≡ Some (progress (done ++ rule_at p n ps e ss ∷ []) new_draft)
+    → reads_rules (progress done (body Opened p n ps None [])) (us ++ (last, symbol sign.CloseBrace) ∷ []) ≡ Some (progress (done ++ placed_rule p n ps e ss ∷ []) new_draft)
 body_read done p n ps last (always {ts = ts} {ss = ss} h) =
     opened_read done p n ps ts (last, symbol sign.CloseBrace) _
     (run_then read (progress done (body Steps p n ps None [])) ts ((last, symbol sign.CloseBrace) ∷ []) (progress done (body Steps p n ps None ss)) _ (steps_read done p n ps None [] h) refl)
-body_read done p n ps last (on_condition {all = all} {ts = ts} {us = us} {e = e} {ss = ss} on start close begin end h g split) =
-    ap (reads_rules (progress done (body Opened p n ps None []))) (ap (λ l. l ++ (last, symbol sign.CloseBrace) ∷ []) split ∙ regroup (on, symbol sign.On) (start, symbol sign.OpenParenthesis) (close, symbol sign.CloseParenthesis) (begin, symbol sign.OpenBrace) (end, symbol sign.CloseBrace) (last, symbol sign.CloseBrace) ts us)
+body_read done p n ps last (on_condition {all = all} {ts = ts} {us = us} {e = e} {ss = ss} on new_progress close begin end h g split) =
+    ap (reads_rules (progress done (body Opened p n ps None []))) (ap (λ l. l ++ (last, symbol sign.CloseBrace) ∷ []) split ∙ regroup (on, symbol sign.On) (new_progress, symbol sign.OpenParenthesis) (close, symbol sign.CloseParenthesis) (begin, symbol sign.OpenBrace) (end, symbol sign.CloseBrace) (last, symbol sign.CloseBrace) ts us)
     ∙ run_then read (in_condition_of done p n ps new_reader) (ts ++ (close, symbol sign.CloseParenthesis) ∷ []) ((begin, symbol sign.OpenBrace) ∷ us ++ (end, symbol sign.CloseBrace) ∷ (last, symbol sign.CloseBrace) ∷ []) (progress done (body BehindCondition p n ps (Some e) [])) _ (condition_read done p n ps close h)
     (run_then read (progress done (body Steps p n ps (Some e) [])) us ((end, symbol sign.CloseBrace) ∷ (last, symbol sign.CloseBrace) ∷ []) (progress done (body Steps p n ps (Some e) ss)) _ (steps_read done p n ps (Some e) [] g) refl)
   where
-    regroup : (a b c d f g : ℕ × Token) (ts us : Tokens) → (((a ∷ b ∷ ts) ++ (c ∷ d ∷ us)) ++ f ∷ []) ++ g ∷ [] ≡ a ∷ b ∷ ((ts ++ c ∷ []) ++ (d ∷ us ++ f ∷ g ∷ []))
+    regroup : (a b c d f g : ℕ × RuleToken) (ts us : Tokens) → (((a ∷ b ∷ ts) ++ (c ∷ d ∷ us)) ++ f ∷ []) ++ g ∷ [] ≡ a ∷ b ∷ ((ts ++ c ∷ []) ++ (d ∷ us ++ f ∷ g ∷ []))
     regroup a b c d f g ts us = simp append_assoc
 
 pub rule_read : {ts : Tokens} {r : RuleAt} (done : List RuleAt) → SpellsRule ts r → reads_rules (progress done new_draft) ts ≡ Some (progress (done ++ r ∷ []) new_draft)
-rule_read done (a_rule {all = all} {ts = ts} {us = us} {ps = ps} place start close begin end n h g split) =
-    ap (reads_rules (progress done new_draft)) (split ∙ regroup (place, named n) (start, symbol sign.OpenParenthesis) (close, symbol sign.CloseParenthesis) (begin, symbol sign.OpenBrace) (end, symbol sign.CloseBrace) ts us)
+rule_read done (a_rule {all = all} {ts = ts} {us = us} {ps = ps} place new_progress close begin end n h g split) =
+    ap (reads_rules (progress done new_draft)) (split ∙ regroup (place, named n) (new_progress, symbol sign.OpenParenthesis) (close, symbol sign.CloseParenthesis) (begin, symbol sign.OpenBrace) (end, symbol sign.CloseBrace) ts us)
     ∙ run_then read (progress done (body FirstParam place n [] None [])) (ts ++ (close, symbol sign.CloseParenthesis) ∷ []) ((begin, symbol sign.OpenBrace) ∷ us ++ (end, symbol sign.CloseBrace) ∷ []) (progress done (body Head place n ps None [])) _ (first_params_read done place n close h)
     (body_read done place n ps end g)
   where
-    regroup : (a b c d f : ℕ × Token) (ts us : Tokens) → ((a ∷ b ∷ ts) ++ (c ∷ d ∷ us)) ++ f ∷ [] ≡ a ∷ b ∷ ((ts ++ c ∷ []) ++ (d ∷ us ++ f ∷ []))
+    regroup : (a b c d f : ℕ × RuleToken) (ts us : Tokens) → ((a ∷ b ∷ ts) ++ (c ∷ d ∷ us)) ++ f ∷ [] ≡ a ∷ b ∷ ((ts ++ c ∷ []) ++ (d ∷ us ++ f ∷ []))
     regroup a b c d f ts us = simp append_assoc
 
 rules_read : {ts : Tokens} {rs : List RuleAt} (done : List RuleAt) → SpellsRules ts rs → reads_rules (progress done new_draft) ts ≡ Some (progress (done ++ rs) new_draft)
@@ -176,5 +176,5 @@ rules_read done (rules {ts = ts} {us = us} {r = r} {rs = rs} h g split) =
     ap (reads_rules (progress done new_draft)) split
     ∙ run_then read (progress done new_draft) ts us (progress (done ++ r ∷ []) new_draft) _ (rule_read done h) (rules_read (done ++ r ∷ []) g ∙ ap (λ l. Some (progress l new_draft)) (append_assoc done (r ∷ []) rs))
 
-pub all_read : {ts : Tokens} {rs : List RuleAt} → SpellsRules ts rs → reads_rules start ts ≡ Some (progress rs new_draft)
+pub all_read : {ts : Tokens} {rs : List RuleAt} → SpellsRules ts rs → reads_rules new_progress ts ≡ Some (progress rs new_draft)
 all_read h = rules_read [] h

@@ -3,13 +3,13 @@ use Rattle.std.proofs.Common.{◌≡◌, ℕ, List, [], ◌∷◌, ◌++◌, Opt
 use Rattle.std.proofs.lemmas.List.{append_assoc, append-nil}
 use Rattle.grid_model.specs.Names.{Text}
 use Rattle.grid_model.specs.Parsed.{Term, CallAt, StepAt, RuleAt}
-use Rattle.rule_lex.specs.Tokens.{Token, named, param, symbol}
+use Rattle.rule_lex.specs.Tokens.{RuleToken, named, param, symbol}
 use Rattle.rule_lex.specs.declared.token.Symbol.TheVariants as sign
 use Rattle.rule_parse.specs.declared.calling.CallStage.TheVariants as call
 use Rattle.rule_parse.specs.declared.drafts.RuleStage.{RuleStage}
 use Rattle.rule_parse.specs.declared.drafts.RuleStage.TheVariants.{Start, Named, FirstParam, Param, BehindParam, Head, Opened, On, Condition, BehindCondition, Steps, Call, BehindSteps}
-use Rattle.rule_parse.specs.Grammar.{Tokens, SpellsArgument, SpellsCall, SpellsStep, without_recovery, with_recovery, SpellsSteps, no_steps, steps, SpellsParams, no_params, last_param, params, SpellsBody, always, on_condition, SpellsRule, a_rule, SpellsRules, no_rules, rules, rule_at}
-use Rattle.rule_parse.specs.Readers.{new_reader, Read, at_comma, at_close, as_next, read_term, Calling, calling, new_call, read_call, whole_call, Draft, new_draft, RuleRead, ends, step_with, end_step, end_steps, begin_recovery, in_call, in_condition, with_rule, read_rule, read_rule_at, Progress, start as beginning, read, finish_at, finish}
+use Rattle.rule_parse.specs.Grammar.{Tokens, SpellsArgument, SpellsCall, SpellsStep, without_recovery, with_recovery, SpellsSteps, no_steps, steps, SpellsParams, no_params, last_param, params, SpellsBody, always, on_condition, SpellsRule, a_rule, SpellsRules, no_rules, rules, placed_rule}
+use Rattle.rule_parse.specs.Readers.{new_reader, TermRead, at_comma, at_close, as_next, read_term, Calling, calling, new_call, read_call, whole_call, Draft, new_draft, RuleRead, ends, step_with, end_step, end_steps, begin_recovery, in_call, in_condition, with_rule, read_rule, read_rule_at, Progress, new_progress as beginning, read, finish_at, finish}
 use Rattle.rule_parse.proofs.Machines.{some_is, not_some}
 use Rattle.rule_parse.proofs.SpelledTerms.{Holds, nothing_holds, term_keeps, term_closes}
 use Rattle.rule_parse.proofs.Calls.{CallHolds, call_keeps, call_spelled}
@@ -195,34 +195,34 @@ After ts (ends r) = SpellsRule ts r
 
 -- ---- its end
 
-rule_spelled : {us : Tokens} {e : Option Term} {ss : List StepAt} (ts front : Tokens) (d : Draft) (end : ℕ) → IsOpen front d.place d.name d.params → SpellsBody us e ss → ts ≡ front ++ us → SpellsRule (ts ++ (end, symbol sign.CloseBrace) ∷ []) (rule_at d.place d.name d.params e ss)
+rule_spelled : {us : Tokens} {e : Option Term} {ss : List StepAt} (ts front : Tokens) (d : Draft) (end : ℕ) → IsOpen front d.place d.name d.params → SpellsBody us e ss → ts ≡ front ++ us → SpellsRule (ts ++ (end, symbol sign.CloseBrace) ∷ []) (placed_rule d.place d.name d.params e ss)
 rule_spelled {us = us} ts front d end o b split =
     a_rule d.place o.head.start o.head.close o.begin end d.name o.head.spells b
     (ap (λ l. l ++ (end, symbol sign.CloseBrace) ∷ []) (split ∙ ap (λ l. l ++ us) (o.split ∙ ap (λ l. l ++ (o.begin, symbol sign.OpenBrace) ∷ []) o.head.split))
     ∙ regroup (d.place, named d.name) (o.head.start, symbol sign.OpenParenthesis) (o.head.close, symbol sign.CloseParenthesis) (o.begin, symbol sign.OpenBrace) (end, symbol sign.CloseBrace) o.head.us us)
   where
-    regroup : (a b c d f : ℕ × Token) (ts us : Tokens) → (((a ∷ b ∷ (ts ++ c ∷ [])) ++ d ∷ []) ++ us) ++ f ∷ [] ≡ ((a ∷ b ∷ ts) ++ (c ∷ d ∷ us)) ++ f ∷ []
+    regroup : (a b c d f : ℕ × RuleToken) (ts us : Tokens) → (((a ∷ b ∷ (ts ++ c ∷ [])) ++ d ∷ []) ++ us) ++ f ∷ [] ≡ ((a ∷ b ∷ ts) ++ (c ∷ d ∷ us)) ++ f ∷ []
     regroup a b c d f ts us = simp append_assoc
 
 some_none : {A : Type 0} {x : A} {o : Option A} → o ≡ None → o ≡ Some x → ⊥
 some_none h g = not_some (sym h ∙ g)
 
 -- steps without a condition
-always_spelled : (ts front us : Tokens) (d : Draft) (end : ℕ) → BeforeSteps front d.place d.name d.params d.cond → d.cond ≡ None → SpellsSteps us d.steps → ts ≡ front ++ us → SpellsRule (ts ++ (end, symbol sign.CloseBrace) ∷ []) (rule_at d.place d.name d.params d.cond d.steps)
+always_spelled : (ts front us : Tokens) (d : Draft) (end : ℕ) → BeforeSteps front d.place d.name d.params d.cond → d.cond ≡ None → SpellsSteps us d.steps → ts ≡ front ++ us → SpellsRule (ts ++ (end, symbol sign.CloseBrace) ∷ []) (placed_rule d.place d.name d.params d.cond d.steps)
 always_spelled ts front us d end (no_condition o is) none spells split =
-    subst (λ c. SpellsRule (ts ++ (end, symbol sign.CloseBrace) ∷ []) (rule_at d.place d.name d.params c d.steps)) (sym is) (rule_spelled ts front d end o (always spells) split)
+    subst (λ c. SpellsRule (ts ++ (end, symbol sign.CloseBrace) ∷ []) (placed_rule d.place d.name d.params c d.steps)) (sym is) (rule_spelled ts front d end o (always spells) split)
 always_spelled ts front us d end (condition f on start close begin vs e o a is s) none spells split = absurd (some_none none is)
 
 -- steps with a condition, and the brace behind them
 conditioned_spelled : (ts front us : Tokens) (d : Draft) (e : Term) (last end : ℕ) → BeforeSteps front d.place d.name d.params d.cond → d.cond ≡ Some e → SpellsSteps us d.steps → ts ≡ (front ++ us) ++ (last, symbol sign.CloseBrace) ∷ []
-    → SpellsRule (ts ++ (end, symbol sign.CloseBrace) ∷ []) (rule_at d.place d.name d.params d.cond d.steps)
+    → SpellsRule (ts ++ (end, symbol sign.CloseBrace) ∷ []) (placed_rule d.place d.name d.params d.cond d.steps)
 conditioned_spelled ts front us d e last end (no_condition o is) some spells split = absurd (some_none is some)
 conditioned_spelled ts front us d e last end (condition f on start close begin vs x o a is s) some spells split =
-    subst (λ c. SpellsRule (ts ++ (end, symbol sign.CloseBrace) ∷ []) (rule_at d.place d.name d.params c d.steps)) (sym is)
+    subst (λ c. SpellsRule (ts ++ (end, symbol sign.CloseBrace) ∷ []) (placed_rule d.place d.name d.params c d.steps)) (sym is)
     (rule_spelled ts f d end o (on_condition on start close begin last a spells refl)
     (split ∙ ap (λ l. (l ++ us) ++ (last, symbol sign.CloseBrace) ∷ []) s ∙ regroup (on, symbol sign.On) (start, symbol sign.OpenParenthesis) (close, symbol sign.CloseParenthesis) (begin, symbol sign.OpenBrace) (last, symbol sign.CloseBrace) f vs us))
   where
-    regroup : (a b c d g : ℕ × Token) (f vs us : Tokens) → ((f ++ (a ∷ b ∷ (vs ++ c ∷ d ∷ []))) ++ us) ++ g ∷ [] ≡ f ++ (((a ∷ b ∷ vs) ++ (c ∷ d ∷ us)) ++ g ∷ [])
+    regroup : (a b c d g : ℕ × RuleToken) (f vs us : Tokens) → ((f ++ (a ∷ b ∷ (vs ++ c ∷ d ∷ []))) ++ us) ++ g ∷ [] ≡ f ++ (((a ∷ b ∷ vs) ++ (c ∷ d ∷ us)) ++ g ∷ [])
     regroup a b c d g f vs us = simp append_assoc
 
 end_steps_keep : (o : Option Term) (ts : Tokens) (d : Draft) (q : ℕ) → d.cond ≡ o → InSteps ts d → After (ts ++ (q, symbol sign.CloseBrace) ∷ []) (end_steps o d)
@@ -231,10 +231,10 @@ end_steps_keep (Some e) ts d q is h = record { front = h.front; us = h.us; end =
 
 -- ---- each token
 
-snoc : (front ts us : Tokens) (t : ℕ × Token) → ts ≡ front ++ us → ts ++ t ∷ [] ≡ front ++ (us ++ t ∷ [])
+snoc : (front ts us : Tokens) (t : ℕ × RuleToken) → ts ≡ front ++ us → ts ++ t ∷ [] ≡ front ++ (us ++ t ∷ [])
 snoc front ts us t h = ap (λ l. l ++ t ∷ []) h ∙ append_assoc front us (t ∷ [])
 
-snoc_behind : (front ts us vs : Tokens) (t : ℕ × Token) → ts ≡ (front ++ us) ++ vs → ts ++ t ∷ [] ≡ (front ++ us) ++ (vs ++ t ∷ [])
+snoc_behind : (front ts us vs : Tokens) (t : ℕ × RuleToken) → ts ≡ (front ++ us) ++ vs → ts ++ t ∷ [] ≡ (front ++ us) ++ (vs ++ t ∷ [])
 snoc_behind front ts us vs t h = ap (λ l. l ++ t ∷ []) h ∙ append_assoc (front ++ us) vs (t ∷ [])
 
 no_steps_of : {us : Tokens} {ss : List StepAt} → ss ≡ [] → us ≡ [] → SpellsSteps us ss
@@ -244,7 +244,7 @@ no_call : {f : Option CallAt} {ts : Tokens} {c : Calling} → f ≡ None → Cal
 no_call {ts = ts} {c = c} h g = subst (InStep ts c) (sym h) (of_call g)
 
 -- a rule that ends without steps
-empty_spelled : (ts : Tokens) (d : Draft) (q : ℕ) → AtOpened ts d → SpellsRule (ts ++ (q, symbol sign.CloseBrace) ∷ []) (rule_at d.place d.name d.params d.cond d.steps)
+empty_spelled : (ts : Tokens) (d : Draft) (q : ℕ) → AtOpened ts d → SpellsRule (ts ++ (q, symbol sign.CloseBrace) ∷ []) (placed_rule d.place d.name d.params d.cond d.steps)
 empty_spelled ts d q h =
     always_spelled ts ts [] d q (no_condition h.opened h.bare.cond_none) h.bare.cond_none (no_steps_of h.bare.steps_none refl) (sym (append-nil ts))
 
@@ -270,10 +270,10 @@ next_call ts d q n h = record {
   split = ap (λ l. l ++ (q, named n) ∷ []) h.split;
 }
 
-condition_keeps : (ts : Tokens) (d : Draft) (q : ℕ) (t : Token) (k : Read) → InCondition ts d → read_term d.reader (q, t) ≡ k → d.stage ≡ Condition → After (ts ++ (q, t) ∷ []) (in_condition d k)
-condition_keeps ts d q t Read.refused h is at = tt
+condition_keeps : (ts : Tokens) (d : Draft) (q : ℕ) (t : RuleToken) (k : TermRead) → InCondition ts d → read_term d.reader (q, t) ≡ k → d.stage ≡ Condition → After (ts ++ (q, t) ∷ []) (in_condition d k)
+condition_keeps ts d q t TermRead.refused h is at = tt
 condition_keeps ts d q t (at_comma e) h is at = tt
-condition_keeps ts d q t (Read.goes r) h is at = subst (λ s. RuleHoldsAt s (ts ++ (q, t) ∷ []) (record d { reader = r })) (sym at) (record {
+condition_keeps ts d q t (TermRead.goes r) h is at = subst (λ s. RuleHoldsAt s (ts ++ (q, t) ∷ []) (record d { reader = r })) (sym at) (record {
   front = h.front;
   on = h.on;
   start = h.start;
@@ -332,12 +332,12 @@ recovery_keeps ts d q None (Some v) h none is at = subst (λ s. RuleHoldsAt s (t
 recovery_keeps ts d q None None h none is at = tt
 recovery_keeps ts d q (Some v) _ h none is at = tt
 
-step_grows : {vs : Tokens} {c e : Calling} {f : Option CallAt} (q : ℕ) (t : Token) → InStep vs c f → read_call c (q, t) ≡ Some e → InStep (vs ++ (q, t) ∷ []) e f
+step_grows : {vs : Tokens} {c e : Calling} {f : Option CallAt} (q : ℕ) (t : RuleToken) → InStep vs c f → read_call c (q, t) ≡ Some e → InStep (vs ++ (q, t) ∷ []) e f
 step_grows {vs = vs} {c = c} {e = e} q t (of_call h) is = of_call (call_keeps vs c (q, t) e h is)
 step_grows {vs = vs} {c = c} {e = e} q t (of_recovery fs us between g h split) is =
     of_recovery fs (us ++ (q, t) ∷ []) between g (call_keeps us c (q, t) e h is) (snoc fs vs ((between, symbol sign.Recovery) ∷ us) (q, t) split)
 
-token_keeps : (ts : Tokens) (d : Draft) (q : ℕ) (t : Token) (o : Option Calling) → InCall ts d → read_call d.calling (q, t) ≡ o → d.stage ≡ Call → After (ts ++ (q, t) ∷ []) (in_call d o)
+token_keeps : (ts : Tokens) (d : Draft) (q : ℕ) (t : RuleToken) (o : Option Calling) → InCall ts d → read_call d.calling (q, t) ≡ o → d.stage ≡ Call → After (ts ++ (q, t) ∷ []) (in_call d o)
 token_keeps ts d q t None h is at = tt
 token_keeps ts d q t (Some c) h is at = subst (λ s. RuleHoldsAt s (ts ++ (q, t) ∷ []) (record d { calling = c })) (sym at) (record {
   front = h.front;
@@ -349,7 +349,7 @@ token_keeps ts d q t (Some c) h is at = subst (λ s. RuleHoldsAt s (ts ++ (q, t)
   split = snoc_behind h.front ts h.us h.vs (q, t) h.split;
 })
 
-rule_keeps_at : (s : RuleStage) (ts : Tokens) (d : Draft) (q : ℕ) (t : Token) → d.stage ≡ s → RuleHoldsAt s ts d → After (ts ++ (q, t) ∷ []) (read_rule_at s d q t)
+rule_keeps_at : (s : RuleStage) (ts : Tokens) (d : Draft) (q : ℕ) (t : RuleToken) → d.stage ≡ s → RuleHoldsAt s ts d → After (ts ++ (q, t) ∷ []) (read_rule_at s d q t)
 rule_keeps_at Start ts d q (named n) at h = record { params_none = h.params_none; bare = h.bare; split = ap (λ l. l ++ (q, named n) ∷ []) h.split }
 rule_keeps_at Named ts d q (symbol sign.OpenParenthesis) at h = record { start = q; params_none = h.params_none; bare = h.bare; split = ap (λ l. l ++ (q, symbol sign.OpenParenthesis) ∷ []) h.split }
 rule_keeps_at FirstParam ts d q (param n) at h = record {
@@ -440,7 +440,7 @@ pub record Reached (ts : Tokens) (p : Progress) : Type 0 where
 fresh : RuleHolds [] new_draft
 fresh = record { params_none = refl; bare = record { cond_none = refl; steps_none = refl; first_none = refl }; split = refl }
 
-reached_after : (ts : Tokens) (p : Progress) (t : ℕ × Token) (k : RuleRead) (s : Progress) → (h : Reached ts p) → After (h.now ++ t ∷ []) k → with_rule p.rules k ≡ Some s → Reached (ts ++ t ∷ []) s
+reached_after : (ts : Tokens) (p : Progress) (t : ℕ × RuleToken) (k : RuleRead) (s : Progress) → (h : Reached ts p) → After (h.now ++ t ∷ []) k → with_rule p.rules k ≡ Some s → Reached (ts ++ t ∷ []) s
 reached_after ts p t RuleRead.refused s h a e = absurd (not_some e)
 reached_after ts p t (RuleRead.goes d) s h a e = subst (Reached (ts ++ t ∷ [])) (some_is e) (record { front = h.front; now = h.now ++ t ∷ []; spells = h.spells; holds = a; split = snoc h.front ts h.now t h.split })
 reached_after ts p t (ends r) s h a e = subst (Reached (ts ++ t ∷ [])) (some_is e) (record {
@@ -451,7 +451,7 @@ reached_after ts p t (ends r) s h a e = subst (Reached (ts ++ t ∷ [])) (some_i
   split = snoc h.front ts h.now t h.split ∙ sym (append-nil (h.front ++ (h.now ++ t ∷ [])));
 })
 
-pub reached_next : (ts : Tokens) (p : Progress) (t : ℕ × Token) (s : Progress) → Reached ts p → read p t ≡ Some s → Reached (ts ++ t ∷ []) s
+pub reached_next : (ts : Tokens) (p : Progress) (t : ℕ × RuleToken) (s : Progress) → Reached ts p → read p t ≡ Some s → Reached (ts ++ t ∷ []) s
 reached_next ts p t s h e = reached_after ts p t (read_rule p.draft t) s h (rule_keeps_at p.draft.stage h.now p.draft t.0 t.1 refl h.holds) e
 
 pub reached_none : Reached [] beginning

@@ -6,10 +6,10 @@ use Rattle.std.proofs.lemmas.List.{append_assoc, append-nil, length-append}
 use Rattle.grid_model.specs.Parsed.{Term, truth}
 use Rattle.grid_model.specs.declared.rules.Operator.{Operator}
 use Rattle.grid_model.specs.declared.rules.Operator.TheVariants as operator
-use Rattle.rule_lex.specs.Tokens.{Token, symbol, text, number, param, session}
+use Rattle.rule_lex.specs.Tokens.{RuleToken, symbol, text, number, param, session}
 use Rattle.rule_lex.specs.declared.token.Symbol.TheVariants as sign
-use Rattle.rule_parse.specs.Grammar.{Tokens, Rank, disjunction, conjunction, negation, comparison, joining, atom, SpellsArgument, SpellsTerm, one_and, ors, one_not, ands, one_comparison, nots, one_join, compares, one_atom, joins, a_text, a_number, a_param, a_session, a_true, a_false, enclosing as in_parentheses, term_at, operators, is_comparison, sign_of}
-use Rattle.rule_parse.specs.Readers.{Enclosing, enclosing, Level, level, empty, Reader, wanting, behind, with_left, with_compared, with_nots, joined, compared, negated, conjoined, disjoined, Read, at_comma, at_close, when, is_free, as_next, next_term, read_term, read_with, read_close, read_comma, new_reader}
+use Rattle.rule_parse.specs.Grammar.{Tokens, Rank, disjunction, conjunction, negation, comparison, joining, atom, SpellsArgument, SpellsTerm, one_and, ors, one_not, ands, one_comparison, nots, one_join, compares, one_atom, joins, a_text, a_number, a_param, a_session, a_true, a_false, enclosing as in_parentheses, placed_term, operators, is_comparing, sign_of}
+use Rattle.rule_parse.specs.Readers.{Enclosing, enclosing, Level, level_with, empty, TermReader, wanting, behind_operand, with_left, with_compared, with_nots, joined_term, compared, negated, conjoined, disjoined, TermRead, at_comma, at_close, when, is_free, as_next, next_term, read_term, read_with, read_close, read_comma, new_reader}
 use Rattle.rule_parse.proofs.Machines.{some_is, not_some, run}
 
 -- ---- what waits on the left of an operator
@@ -20,7 +20,7 @@ pub data Left (r : Rank) (d : ℕ) (op : Operator) : Option Term → Tokens → 
 
 pub data Compares (d : ℕ) : Option (Operator × Term) → Tokens → Type 0 where
   no_compared : Compares d None []
-  on_compared : {ts us : Tokens} {x : Term} (p : ℕ) (op : Operator) → IsTrue (is_comparison op) → SpellsTerm joining d us x → ts ≡ us ++ (p, symbol (sign_of op)) ∷ [] → Compares d (Some (op, x)) ts
+  on_compared : {ts us : Tokens} {x : Term} (p : ℕ) (op : Operator) → IsTrue (is_comparing op) → SpellsTerm joining d us x → ts ≡ us ++ (p, symbol (sign_of op)) ∷ [] → Compares d (Some (op, x)) ts
 
 abbrev pub not_tokens : List ℕ → Tokens
 not_tokens [] = []
@@ -40,7 +40,7 @@ pub record LevelSpelled (d : ℕ) (l : Level) (ts : Tokens) : Type 0 where
 
 -- ---- with what stands on the right
 
-seam : (ts us vs : Tokens) (t : ℕ × Token) → ts ≡ us ++ t ∷ [] → ts ++ vs ≡ us ++ t ∷ vs
+seam : (ts us vs : Tokens) (t : ℕ × RuleToken) → ts ≡ us ++ t ∷ [] → ts ++ vs ≡ us ++ t ∷ vs
 seam ts us vs t e = ap (λ l. l ++ vs) e ∙ append_assoc us (t ∷ []) vs
 
 joined_spelled : {d : ℕ} {j : Option Term} {ts us : Tokens} {x : Term} → Left joining d operator.Join j ts → SpellsTerm atom d us x → SpellsTerm joining d (ts ++ us) (with_left operator.Join j x)
@@ -64,7 +64,7 @@ or_spelled no_left g = one_and g
 or_spelled {us = us} (on_left {ts = ts} {us = vs} p h e) g = ors p h g (seam ts vs us (p, symbol sign.Or) e)
 
 module _ {d : ℕ} {l : Level} {ts us : Tokens} {x : Term} (s : LevelSpelled d l ts) (g : SpellsTerm atom d us x) where
-  of_joined : SpellsTerm joining d (s.jts ++ us) (joined l x)
+  of_joined : SpellsTerm joining d (s.jts ++ us) (joined_term l x)
   of_joined = joined_spelled s.of_join g
 
   of_comparison : SpellsTerm comparison d (s.cts ++ (s.jts ++ us)) (compared l x)
@@ -108,12 +108,12 @@ nots_operators : (ps : List ℕ) (x : Term) → operators (with_nots ps x).shape
 nots_operators [] x = omega arith
 nots_operators (p ∷ ps) x = omega (arith, nots_operators ps x)
 
-joined_operators : (l : Level) (x : Term) → operators (joined l x).shape ≡ weight l.join_left + operators x.shape
+joined_operators : (l : Level) (x : Term) → operators (joined_term l x).shape ≡ weight l.join_left + operators x.shape
 joined_operators l x = left_operators operator.Join l.join_left x
 
 conjoined_operators : (l : Level) (x : Term) → operators (conjoined l x).shape ≡ weight l.and_left + (length l.nots + (compared_weight l.compared + (weight l.join_left + operators x.shape)))
 conjoined_operators l x =
-    omega (arith, left_operators operator.And l.and_left (negated l x), nots_operators l.nots (compared l x), compared_operators l.compared (joined l x), joined_operators l x)
+    omega (arith, left_operators operator.And l.and_left (negated l x), nots_operators l.nots (compared l x), compared_operators l.compared (joined_term l x), joined_operators l x)
 
 disjoined_operators : (l : Level) (x : Term) → operators (disjoined l x).shape ≡ level_weight l + operators x.shape
 disjoined_operators l x = omega (arith, left_operators operator.Or l.or_left (conjoined l x), conjoined_operators l x)
@@ -155,12 +155,12 @@ HoldsWith ts os l n None = Expecting ts os l n
 HoldsWith ts os l n (Some x) = Holding ts os l n x
 
 -- these tokens are read to there
-abbrev pub Holds : Tokens → Reader → Type 0
+abbrev pub Holds : Tokens → TermReader → Type 0
 Holds ts r = HoldsWith ts r.outer r.inner r.count r.operand
 
 -- ---- each token
 
-room_of : (b : Bool) (r s : Reader) → as_next (when b r) ≡ Some s → (b ≡ true) × (r ≡ s)
+room_of : (b : Bool) (r s : TermReader) → as_next (when b r) ≡ Some s → (b ≡ true) × (r ≡ s)
 room_of true r s h = (refl, some_is h)
 room_of false r s h = absurd (not_some h)
 
@@ -188,26 +188,26 @@ not_tokens-more : (ps : List ℕ) (p : ℕ) → not_tokens (ps ++ p ∷ []) ≡ 
 not_tokens-more [] p = refl
 not_tokens-more (q ∷ ps) p = ap (λ l. (q, symbol sign.Not) ∷ l) (not_tokens-more ps p)
 
-move_join : (out o a n c j us : Tokens) (t : ℕ × Token) → (out ++ ((o ++ (a ++ (n ++ (c ++ j)))) ++ us)) ++ t ∷ [] ≡ out ++ (o ++ (a ++ (n ++ (c ++ ((j ++ us) ++ t ∷ [])))))
+move_join : (out o a n c j us : Tokens) (t : ℕ × RuleToken) → (out ++ ((o ++ (a ++ (n ++ (c ++ j)))) ++ us)) ++ t ∷ [] ≡ out ++ (o ++ (a ++ (n ++ (c ++ ((j ++ us) ++ t ∷ [])))))
 move_join out o a n c j us t = simp append_assoc
 
-move_compared : (out o a n j us : Tokens) (t : ℕ × Token) → (out ++ ((o ++ (a ++ (n ++ j))) ++ us)) ++ t ∷ [] ≡ out ++ (o ++ (a ++ (n ++ (((j ++ us) ++ t ∷ []) ++ []))))
+move_compared : (out o a n j us : Tokens) (t : ℕ × RuleToken) → (out ++ ((o ++ (a ++ (n ++ j))) ++ us)) ++ t ∷ [] ≡ out ++ (o ++ (a ++ (n ++ (((j ++ us) ++ t ∷ []) ++ []))))
 move_compared out o a n j us t = simp (append_assoc, append-nil)
 
-move_and : (out o a n c j us : Tokens) (t : ℕ × Token) → (out ++ ((o ++ (a ++ (n ++ (c ++ j)))) ++ us)) ++ t ∷ [] ≡ out ++ (o ++ (((a ++ (n ++ (c ++ (j ++ us)))) ++ t ∷ []) ++ []))
+move_and : (out o a n c j us : Tokens) (t : ℕ × RuleToken) → (out ++ ((o ++ (a ++ (n ++ (c ++ j)))) ++ us)) ++ t ∷ [] ≡ out ++ (o ++ (((a ++ (n ++ (c ++ (j ++ us)))) ++ t ∷ []) ++ []))
 move_and out o a n c j us t = simp (append_assoc, append-nil)
 
-move_or : (out o a n c j us : Tokens) (t : ℕ × Token) → (out ++ ((o ++ (a ++ (n ++ (c ++ j)))) ++ us)) ++ t ∷ [] ≡ out ++ (((o ++ (a ++ (n ++ (c ++ (j ++ us))))) ++ t ∷ []) ++ [])
+move_or : (out o a n c j us : Tokens) (t : ℕ × RuleToken) → (out ++ ((o ++ (a ++ (n ++ (c ++ j)))) ++ us)) ++ t ∷ [] ≡ out ++ (((o ++ (a ++ (n ++ (c ++ (j ++ us))))) ++ t ∷ []) ++ [])
 move_or out o a n c j us t = simp (append_assoc, append-nil)
 
-move_not : (out o a n : Tokens) (t : ℕ × Token) → (out ++ (o ++ (a ++ (n ++ [])))) ++ t ∷ [] ≡ out ++ (o ++ (a ++ ((n ++ t ∷ []) ++ [])))
+move_not : (out o a n : Tokens) (t : ℕ × RuleToken) → (out ++ (o ++ (a ++ (n ++ [])))) ++ t ∷ [] ≡ out ++ (o ++ (a ++ ((n ++ t ∷ []) ++ [])))
 move_not out o a n t = simp (append_assoc, append-nil)
 
-move_close : (out around o a n c j us : Tokens) (s t : ℕ × Token) → (((out ++ around) ++ s ∷ []) ++ ((o ++ (a ++ (n ++ (c ++ j)))) ++ us)) ++ t ∷ [] ≡ out ++ (around ++ (s ∷ (o ++ (a ++ (n ++ (c ++ (j ++ us))))) ++ t ∷ []))
+move_close : (out around o a n c j us : Tokens) (s t : ℕ × RuleToken) → (((out ++ around) ++ s ∷ []) ++ ((o ++ (a ++ (n ++ (c ++ j)))) ++ us)) ++ t ∷ [] ≡ out ++ (around ++ (s ∷ (o ++ (a ++ (n ++ (c ++ (j ++ us))))) ++ t ∷ []))
 move_close out around o a n c j us s t = simp append_assoc
 
 -- an atom
-atom_holds : {ts : Tokens} {os : List Enclosing} {l : Level} {n p : ℕ} (t : Token) (x : Term) → ((d : ℕ) → SpellsTerm atom d ((p, t) ∷ []) x) → operators x.shape ≡ 0 → Expecting ts os l n → Holding (ts ++ (p, t) ∷ []) os l n x
+atom_holds : {ts : Tokens} {os : List Enclosing} {l : Level} {n p : ℕ} (t : RuleToken) (x : Term) → ((d : ℕ) → SpellsTerm atom d ((p, t) ∷ []) x) → operators x.shape ≡ 0 → Expecting ts os l n → Holding (ts ++ (p, t) ∷ []) os l n x
 atom_holds {p = p} t x spells none h = record {
   d = h.d;
   outside = h.outside;
@@ -222,7 +222,7 @@ atom_holds {p = p} t x spells none h = record {
 }
 
 join_holds : {ts : Tokens} {os : List Enclosing} {l : Level} {n : ℕ} {x : Term} (p : ℕ) → n < 128 → Holding ts os l n x
-    → Expecting (ts ++ (p, symbol sign.Join) ∷ []) os (level l.or_left l.and_left l.nots l.compared (Some (joined l x))) (n + 1)
+    → Expecting (ts ++ (p, symbol sign.Join) ∷ []) os (level_with l.or_left l.and_left l.nots l.compared (Some (joined_term l x))) (n + 1)
 join_holds {l = l} {x = x} p few h = record {
   d = h.d;
   outside = h.outside;
@@ -234,8 +234,8 @@ join_holds {l = l} {x = x} p few h = record {
   few = omega (arith, few);
 }
 
-compared_holds : {ts : Tokens} {os : List Enclosing} {l : Level} {n : ℕ} {x : Term} (p : ℕ) (op : Operator) → IsTrue (is_comparison op) → is_free l.compared ≡ true → n < 128 → Holding ts os l n x
-    → Expecting (ts ++ (p, symbol (sign_of op)) ∷ []) os (level l.or_left l.and_left l.nots (Some (op, joined l x)) None) (n + 1)
+compared_holds : {ts : Tokens} {os : List Enclosing} {l : Level} {n : ℕ} {x : Term} (p : ℕ) (op : Operator) → IsTrue (is_comparing op) → is_free l.compared ≡ true → n < 128 → Holding ts os l n x
+    → Expecting (ts ++ (p, symbol (sign_of op)) ∷ []) os (level_with l.or_left l.and_left l.nots (Some (op, joined_term l x)) None) (n + 1)
 compared_holds {l = l} {x = x} p op is free few h = record {
   d = h.d;
   outside = h.outside;
@@ -249,7 +249,7 @@ compared_holds {l = l} {x = x} p op is free few h = record {
 }
 
 and_holds : {ts : Tokens} {os : List Enclosing} {l : Level} {n : ℕ} {x : Term} (p : ℕ) → n < 128 → Holding ts os l n x
-    → Expecting (ts ++ (p, symbol sign.And) ∷ []) os (level l.or_left (Some (conjoined l x)) [] None None) (n + 1)
+    → Expecting (ts ++ (p, symbol sign.And) ∷ []) os (level_with l.or_left (Some (conjoined l x)) [] None None) (n + 1)
 and_holds {l = l} {x = x} p few h = record {
   d = h.d;
   outside = h.outside;
@@ -262,7 +262,7 @@ and_holds {l = l} {x = x} p few h = record {
 }
 
 or_holds : {ts : Tokens} {os : List Enclosing} {l : Level} {n : ℕ} {x : Term} (p : ℕ) → n < 128 → Holding ts os l n x
-    → Expecting (ts ++ (p, symbol sign.Or) ∷ []) os (level (Some (disjoined l x)) None [] None None) (n + 1)
+    → Expecting (ts ++ (p, symbol sign.Or) ∷ []) os (level_with (Some (disjoined l x)) None [] None None) (n + 1)
 or_holds {l = l} {x = x} p few h = record {
   d = h.d;
   outside = h.outside;
@@ -275,7 +275,7 @@ or_holds {l = l} {x = x} p few h = record {
 }
 
 not_holds : {ts : Tokens} {os : List Enclosing} {l : Level} {n : ℕ} (p : ℕ) → is_free l.compared ≡ true → is_free l.join_left ≡ true → n < 128 → Expecting ts os l n
-    → Expecting (ts ++ (p, symbol sign.Not) ∷ []) os (level l.or_left l.and_left (l.nots ++ p ∷ []) l.compared l.join_left) (n + 1)
+    → Expecting (ts ++ (p, symbol sign.Not) ∷ []) os (level_with l.or_left l.and_left (l.nots ++ p ∷ []) l.compared l.join_left) (n + 1)
 not_holds {l = l} p free clear few h = record {
   d = h.d;
   outside = h.outside;
@@ -313,15 +313,15 @@ open_holds {ts = ts} {os = os} {l = l} p deep h = record {
 }
 
 close_holds : {ts : Tokens} {o : Enclosing} {os : List Enclosing} {l : Level} {n : ℕ} {x : Term} (p d : ℕ) (outside here us : Tokens) → Outer 256 d (o ∷ os) outside → (s : LevelSpelled d l here) → SpellsTerm atom d us x → ts ≡ outside ++ (here ++ us)
-    → n ≡ outer_weight (o ∷ os) + (level_weight l + operators x.shape) → n ≤ 128 → Holding (ts ++ (p, symbol sign.CloseParenthesis) ∷ []) os o.around n (term_at o.place (disjoined l x).shape)
-close_holds {o = o} {l = l} {x = x} p d outside here us (within {e = e} {ts = out} {us = around} next outer level is) s operand split count few = record {
+    → n ≡ outer_weight (o ∷ os) + (level_weight l + operators x.shape) → n ≤ 128 → Holding (ts ++ (p, symbol sign.CloseParenthesis) ∷ []) os o.around n (placed_term o.place (disjoined l x).shape)
+close_holds {o = o} {l = l} {x = x} p d outside here us (within {e = e} {ts = out} {us = around} next outer level_with is) s operand split count few = record {
   d = e;
   outside = out;
   here = around;
   us = (o.place, symbol sign.OpenParenthesis) ∷ (s.ots ++ (s.ats ++ (not_tokens l.nots ++ (s.cts ++ (s.jts ++ us))))) ++ (p, symbol sign.CloseParenthesis) ∷ [];
   outer = outer;
-  inner = level;
-  operand = subst (λ k. SpellsTerm atom k ((o.place, symbol sign.OpenParenthesis) ∷ (s.ots ++ (s.ats ++ (not_tokens l.nots ++ (s.cts ++ (s.jts ++ us))))) ++ (p, symbol sign.CloseParenthesis) ∷ []) (term_at o.place (disjoined l x).shape)) (sym next)
+  inner = level_with;
+  operand = subst (λ k. SpellsTerm atom k ((o.place, symbol sign.OpenParenthesis) ∷ (s.ots ++ (s.ats ++ (not_tokens l.nots ++ (s.cts ++ (s.jts ++ us))))) ++ (p, symbol sign.CloseParenthesis) ∷ []) (placed_term o.place (disjoined l x).shape)) (sym next)
       (in_parentheses o.place p (of_disjunction s operand) refl);
   split = ap (λ z. z ++ (p, symbol sign.CloseParenthesis) ∷ []) (split ∙ ap (λ z. z ++ (here ++ us)) is ∙ ap (λ z. ((out ++ around) ++ (o.place, symbol sign.OpenParenthesis) ∷ []) ++ (z ++ us)) s.split)
       ∙ move_close out around s.ots s.ats (not_tokens l.nots) s.cts s.jts us (o.place, symbol sign.OpenParenthesis) (p, symbol sign.CloseParenthesis);
@@ -331,7 +331,7 @@ close_holds {o = o} {l = l} {x = x} p d outside here us (within {e = e} {ts = ou
 
 -- ---- every token
 
-operand_keeps : (ts : Tokens) (os : List Enclosing) (l : Level) (n p : ℕ) (t : Token) (s : Reader) → Expecting ts os l n → as_next (read_with os l n None p t) ≡ Some s → Holds (ts ++ (p, t) ∷ []) s
+operand_keeps : (ts : Tokens) (os : List Enclosing) (l : Level) (n p : ℕ) (t : RuleToken) (s : TermReader) → Expecting ts os l n → as_next (read_with os l n None p t) ≡ Some s → Holds (ts ++ (p, t) ∷ []) s
 operand_keeps ts os l n p (text m) s h e = subst (Holds (ts ++ (p, text m) ∷ [])) (some_is e) (atom_holds (text m) _ (λ d. a_text p m) refl h)
 operand_keeps ts os l n p (number m) s h e = subst (Holds (ts ++ (p, number m) ∷ [])) (some_is e) (atom_holds (number m) _ (λ d. a_number p m) refl h)
 operand_keeps ts os l n p (param m) s h e = subst (Holds (ts ++ (p, param m) ∷ [])) (some_is e) (atom_holds (param m) _ (λ d. a_param p m) refl h)
@@ -348,22 +348,22 @@ operand_keeps ts os l n p (symbol sign.OpenParenthesis) s h e =
     subst (Holds (ts ++ (p, symbol sign.OpenParenthesis) ∷ [])) w.1 (open_holds p (ltb-true (length os) 256 w.0) h)
 operand_keeps ts os l n p _ s h e = absurd (not_some e)
 
-compared_keeps : (ts : Tokens) (os : List Enclosing) (l : Level) (n p : ℕ) (x : Term) (op : Operator) (s : Reader) → IsTrue (is_comparison op) → Holding ts os l n x
-    → as_next (when (is_free l.compared && nat_lt n 128) (wanting os (level l.or_left l.and_left l.nots (Some (op, joined l x)) None) (n + 1))) ≡ Some s → Holds (ts ++ (p, symbol (sign_of op)) ∷ []) s
+compared_keeps : (ts : Tokens) (os : List Enclosing) (l : Level) (n p : ℕ) (x : Term) (op : Operator) (s : TermReader) → IsTrue (is_comparing op) → Holding ts os l n x
+    → as_next (when (is_free l.compared && nat_lt n 128) (wanting os (level_with l.or_left l.and_left l.nots (Some (op, joined_term l x)) None) (n + 1))) ≡ Some s → Holds (ts ++ (p, symbol (sign_of op)) ∷ []) s
 compared_keeps ts os l n p x op s is h e =
     let w = room_of _ _ _ e in
     let all = both_of (is_free l.compared) (nat_lt n 128) w.0 in
     subst (Holds (ts ++ (p, symbol (sign_of op)) ∷ [])) w.1 (compared_holds p op is all.0 (ltb-true n 128 all.1) h)
 
-close_keeps : (ts : Tokens) (os : List Enclosing) (l : Level) (n p : ℕ) (x : Term) (s : Reader) → Holding ts os l n x → as_next (read_close os (disjoined l x) n) ≡ Some s → Holds (ts ++ (p, symbol sign.CloseParenthesis) ∷ []) s
+close_keeps : (ts : Tokens) (os : List Enclosing) (l : Level) (n p : ℕ) (x : Term) (s : TermReader) → Holding ts os l n x → as_next (read_close os (disjoined l x) n) ≡ Some s → Holds (ts ++ (p, symbol sign.CloseParenthesis) ∷ []) s
 close_keeps ts [] l n p x s h e = absurd (not_some e)
 close_keeps ts (o ∷ os) l n p x s h e = subst (Holds (ts ++ (p, symbol sign.CloseParenthesis) ∷ [])) (some_is e) (close_holds p h.d h.outside h.here h.us h.outer h.inner h.operand h.split h.count_is h.few)
 
-comma_keeps : (os : List Enclosing) (e : Term) (s : Reader) → as_next (read_comma os e) ≡ Some s → ⊥
+comma_keeps : (os : List Enclosing) (e : Term) (s : TermReader) → as_next (read_comma os e) ≡ Some s → ⊥
 comma_keeps [] x s e = not_some e
 comma_keeps (o ∷ os) x s e = not_some e
 
-operator_keeps : (ts : Tokens) (os : List Enclosing) (l : Level) (n p : ℕ) (x : Term) (t : Token) (s : Reader) → Holding ts os l n x → as_next (read_with os l n (Some x) p t) ≡ Some s → Holds (ts ++ (p, t) ∷ []) s
+operator_keeps : (ts : Tokens) (os : List Enclosing) (l : Level) (n p : ℕ) (x : Term) (t : RuleToken) (s : TermReader) → Holding ts os l n x → as_next (read_with os l n (Some x) p t) ≡ Some s → Holds (ts ++ (p, t) ∷ []) s
 operator_keeps ts os l n p x (symbol sign.Join) s h e =
     let w = room_of _ _ _ e in subst (Holds (ts ++ (p, symbol sign.Join) ∷ [])) w.1 (join_holds p (ltb-true n 128 w.0) h)
 operator_keeps ts os l n p x (symbol sign.And) s h e =
@@ -381,11 +381,11 @@ operator_keeps ts os l n p x (symbol sign.CloseParenthesis) s h e = close_keeps 
 operator_keeps ts os l n p x (symbol sign.Comma) s h e = absurd (comma_keeps os (disjoined l x) s e)
 operator_keeps ts os l n p x _ s h e = absurd (not_some e)
 
-keeps_with : (ts : Tokens) (os : List Enclosing) (l : Level) (n : ℕ) (o : Option Term) (p : ℕ) (t : Token) (s : Reader) → HoldsWith ts os l n o → as_next (read_with os l n o p t) ≡ Some s → Holds (ts ++ (p, t) ∷ []) s
+keeps_with : (ts : Tokens) (os : List Enclosing) (l : Level) (n : ℕ) (o : Option Term) (p : ℕ) (t : RuleToken) (s : TermReader) → HoldsWith ts os l n o → as_next (read_with os l n o p t) ≡ Some s → Holds (ts ++ (p, t) ∷ []) s
 keeps_with ts os l n None p t s h e = operand_keeps ts os l n p t s h e
 keeps_with ts os l n (Some x) p t s h e = operator_keeps ts os l n p x t s h e
 
-pub term_keeps : (ts : Tokens) (r : Reader) (t : ℕ × Token) (s : Reader) → Holds ts r → next_term r t ≡ Some s → Holds (ts ++ t ∷ []) s
+pub term_keeps : (ts : Tokens) (r : TermReader) (t : ℕ × RuleToken) (s : TermReader) → Holds ts r → next_term r t ≡ Some s → Holds (ts ++ t ∷ []) s
 term_keeps ts r t s h e = keeps_with ts r.outer r.inner r.count r.operand t.0 t.1 s h e
 
 pub nothing_holds : Holds [] new_reader
@@ -413,7 +413,7 @@ argument_of {l = l} {x = x} {ts = ts} {us = us} outermost s operand split count 
     regroup o a n c j us = simp append_assoc
 
 -- the argument is behind these tokens, and this is what closes it
-pub record Closes (ts : Tokens) (t : Token) (x : Term) (end : Token) : Type 0 where
+pub record Closes (ts : Tokens) (t : RuleToken) (x : Term) (end : RuleToken) : Type 0 where
   pub spells : SpellsArgument ts x
   pub closes : t ≡ end
 
@@ -424,16 +424,16 @@ at_comma_is : {e x : Term} → at_comma e ≡ at_comma x → e ≡ x
 at_comma_is h = cc
 
 -- what is neither of the two
-abbrev IsOther : Read → Type 0
+abbrev IsOther : TermRead → Type 0
 IsOther (at_comma e) = ⊥
 IsOther (at_close e) = ⊥
 IsOther _ = Unit {0}
 
-when_other : (b : Bool) (r : Reader) → IsOther (when b r)
+when_other : (b : Bool) (r : TermReader) → IsOther (when b r)
 when_other true r = tt
 when_other false r = tt
 
-operand_other : (os : List Enclosing) (l : Level) (n p : ℕ) (t : Token) → IsOther (read_with os l n None p t)
+operand_other : (os : List Enclosing) (l : Level) (n p : ℕ) (t : RuleToken) → IsOther (read_with os l n None p t)
 operand_other os l n p (symbol sign.Not) = when_other (is_free l.compared && is_free l.join_left && nat_lt n 128) _
 operand_other os l n p (symbol sign.OpenParenthesis) = when_other (nat_lt (length os) 256) _
 operand_other os l n p (text m) = tt
@@ -463,7 +463,7 @@ argument_behind {ts = ts} {l = l} {n = n} {x = x} y h e =
     subst (SpellsArgument ts) e.1 (argument_of (subst (λ os. Outer 256 h.d os h.outside) e.0 h.outer) h.inner h.operand h.split (subst (λ os. n ≡ outer_weight os + (level_weight l + operators x.shape)) e.0 h.count_is) h.few)
 
 -- what ends an expression is one of the two
-operator_ends : {ts : Tokens} {os : List Enclosing} {l : Level} {n : ℕ} {x : Term} (p : ℕ) (t : Token) (y : Term) → Holding ts os l n x → read_with os l n (Some x) p t ≡ at_close y → Closes ts t y (symbol sign.CloseParenthesis)
+operator_ends : {ts : Tokens} {os : List Enclosing} {l : Level} {n : ℕ} {x : Term} (p : ℕ) (t : RuleToken) (y : Term) → Holding ts os l n x → read_with os l n (Some x) p t ≡ at_close y → Closes ts t y (symbol sign.CloseParenthesis)
 operator_ends {os = os} {l = l} {n = n} {x = x} p (symbol sign.CloseParenthesis) y h e = record { spells = argument_behind y h (close_end os (disjoined l x) y n e); closes = refl }
 operator_ends {os = os} {l = l} {n = n} {x = x} p (symbol sign.Comma) y h e = absurd (comma_no_close os (disjoined l x) y e)
 operator_ends {n = n} p (symbol sign.Join) y h e = absurd (subst IsOther e (when_other (nat_lt n 128) _))
@@ -478,7 +478,7 @@ operator_ends {l = l} {n = n} p (symbol sign.AtLeast) y h e = absurd (subst IsOt
 operator_ends {l = l} {n = n} p (symbol sign.Like) y h e = absurd (subst IsOther e (when_other (is_free l.compared && nat_lt n 128) _))
 operator_ends p _ y h e = absurd (subst IsOther e tt)
 
-operator_ends_at_comma : {ts : Tokens} {os : List Enclosing} {l : Level} {n : ℕ} {x : Term} (p : ℕ) (t : Token) (y : Term) → Holding ts os l n x → read_with os l n (Some x) p t ≡ at_comma y → Closes ts t y (symbol sign.Comma)
+operator_ends_at_comma : {ts : Tokens} {os : List Enclosing} {l : Level} {n : ℕ} {x : Term} (p : ℕ) (t : RuleToken) (y : Term) → Holding ts os l n x → read_with os l n (Some x) p t ≡ at_comma y → Closes ts t y (symbol sign.Comma)
 operator_ends_at_comma {os = os} {l = l} {n = n} {x = x} p (symbol sign.CloseParenthesis) y h e = absurd (close_no_comma os (disjoined l x) y n e)
 operator_ends_at_comma {os = os} {l = l} {n = n} {x = x} p (symbol sign.Comma) y h e = record { spells = argument_behind y h (comma_end os (disjoined l x) y e); closes = refl }
 operator_ends_at_comma {n = n} p (symbol sign.Join) y h e = absurd (subst IsOther e (when_other (nat_lt n 128) _))
@@ -493,41 +493,41 @@ operator_ends_at_comma {l = l} {n = n} p (symbol sign.AtLeast) y h e = absurd (s
 operator_ends_at_comma {l = l} {n = n} p (symbol sign.Like) y h e = absurd (subst IsOther e (when_other (is_free l.compared && nat_lt n 128) _))
 operator_ends_at_comma p _ y h e = absurd (subst IsOther e tt)
 
-ends_with : {ts : Tokens} (os : List Enclosing) (l : Level) (n : ℕ) (o : Option Term) (p : ℕ) (t : Token) (y : Term) → HoldsWith ts os l n o → read_with os l n o p t ≡ at_close y → Closes ts t y (symbol sign.CloseParenthesis)
+ends_with : {ts : Tokens} (os : List Enclosing) (l : Level) (n : ℕ) (o : Option Term) (p : ℕ) (t : RuleToken) (y : Term) → HoldsWith ts os l n o → read_with os l n o p t ≡ at_close y → Closes ts t y (symbol sign.CloseParenthesis)
 ends_with os l n None p t y h e = absurd (subst IsOther e (operand_other os l n p t))
 ends_with os l n (Some x) p t y h e = operator_ends p t y h e
 
-ends_at_comma_with : {ts : Tokens} (os : List Enclosing) (l : Level) (n : ℕ) (o : Option Term) (p : ℕ) (t : Token) (y : Term) → HoldsWith ts os l n o → read_with os l n o p t ≡ at_comma y → Closes ts t y (symbol sign.Comma)
+ends_at_comma_with : {ts : Tokens} (os : List Enclosing) (l : Level) (n : ℕ) (o : Option Term) (p : ℕ) (t : RuleToken) (y : Term) → HoldsWith ts os l n o → read_with os l n o p t ≡ at_comma y → Closes ts t y (symbol sign.Comma)
 ends_at_comma_with os l n None p t y h e = absurd (subst IsOther e (operand_other os l n p t))
 ends_at_comma_with os l n (Some x) p t y h e = operator_ends_at_comma p t y h e
 
-pub term_closes : (ts : Tokens) (r : Reader) (p : ℕ) (t : Token) (y : Term) → Holds ts r → read_term r (p, t) ≡ at_close y → Closes ts t y (symbol sign.CloseParenthesis)
+pub term_closes : (ts : Tokens) (r : TermReader) (p : ℕ) (t : RuleToken) (y : Term) → Holds ts r → read_term r (p, t) ≡ at_close y → Closes ts t y (symbol sign.CloseParenthesis)
 term_closes ts r p t y h e = ends_with r.outer r.inner r.count r.operand p t y h e
 
-pub term_ends_at_comma : (ts : Tokens) (r : Reader) (p : ℕ) (t : Token) (y : Term) → Holds ts r → read_term r (p, t) ≡ at_comma y → Closes ts t y (symbol sign.Comma)
+pub term_ends_at_comma : (ts : Tokens) (r : TermReader) (p : ℕ) (t : RuleToken) (y : Term) → Holds ts r → read_term r (p, t) ≡ at_comma y → Closes ts t y (symbol sign.Comma)
 term_ends_at_comma ts r p t y h e = ends_at_comma_with r.outer r.inner r.count r.operand p t y h e
 
 -- ---- every reader leads on to an end of its expression
 
 -- tokens behind which the expression may end
-pub record EndsOn (r : Reader) : Type 0 where
+pub record EndsOn (r : TermReader) : Type 0 where
   pub more : Tokens
   pub inner : Level
   pub count : ℕ
   pub operand : Term
-  pub runs : run next_term r more ≡ Some (behind [] inner count operand)
+  pub runs : run next_term r more ≡ Some (behind_operand [] inner count operand)
 
-close_all : (os : List Enclosing) (l : Level) (n : ℕ) (x : Term) → EndsOn (behind os l n x)
+close_all : (os : List Enclosing) (l : Level) (n : ℕ) (x : Term) → EndsOn (behind_operand os l n x)
 close_all [] l n x = record { more = []; inner = l; count = n; operand = x; runs = refl }
 close_all (o ∷ os) l n x =
-    let w = close_all os o.around n (term_at o.place (disjoined l x).shape) in
+    let w = close_all os o.around n (placed_term o.place (disjoined l x).shape) in
     record { more = (0, symbol sign.CloseParenthesis) ∷ w.more; inner = w.inner; count = w.count; operand = w.operand; runs = w.runs }
 
 ends_on_with : (os : List Enclosing) (l : Level) (n : ℕ) (o : Option Term) → EndsOn (record { outer = os; inner = l; count = n; operand = o })
 ends_on_with os l n (Some x) = close_all os l n x
 ends_on_with os l n None =
-    let w = close_all os l n (term_at 0 (truth true)) in
+    let w = close_all os l n (placed_term 0 (truth true)) in
     record { more = (0, symbol sign.True) ∷ w.more; inner = w.inner; count = w.count; operand = w.operand; runs = w.runs }
 
-pub ends_on : (r : Reader) → EndsOn r
+pub ends_on : (r : TermReader) → EndsOn r
 ends_on r = ends_on_with r.outer r.inner r.count r.operand

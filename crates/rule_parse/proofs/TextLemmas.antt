@@ -7,12 +7,12 @@ use Rattle.grid_model.specs.declared.refusal.RuleCause.{RuleCause}
 use Rattle.grid_model.specs.declared.refusal.RuleCause.TheVariants as cause
 use Rattle.grid_model.proofs.Refusals.{IsRefusedAt-unique}
 use Rattle.rule_lex.specs.Places as lexed
-use Rattle.rule_lex.specs.Tokens.{Placed, SpellsTokens}
+use Rattle.rule_lex.specs.Tokens.{PlacedToken, SpellsRuleTokens}
 use Rattle.rule_lex.proofs.OneReading.{one_list}
 use Rattle.rule_parse.specs.declared.error.RuleError.{RuleError}
 use Rattle.rule_parse.specs.declared.error.RuleError.TheVariants.{BadRule, Memory}
 use Rattle.rule_parse.specs.Grammar.{Tokens}
-use Rattle.rule_parse.specs.RuleTexts.{located, place_of, IsTextOf, StopsAt, IsRefused, no_tokens, no_grammar}
+use Rattle.rule_parse.specs.RuleTexts.{located, place_of_token, IsTextOf, StopsAt, IsRefused, no_tokens, no_grammar}
 use Rattle.rule_parse.specs.Seen.{IsStop}
 
 one_bad_token : {text : Text} {place other : ℕ} → lexed.IsRefusedAt text place → lexed.IsRefusedAt text other → place ≡ other
@@ -34,8 +34,8 @@ module _ {A : Type 0} (Spells : Tokens → A → Type 0) (one : (ts : Tokens) (a
   never_both (no_tokens h) g = h.spells_nothing g.tokens g.made
   never_both {a = a} (no_grammar ts made stops) g = stops.refused.spells_nothing a (subst (λ us. Spells (map located us) a) (sym (one_list g.made made)) g.spells)
 
-  one_stop : {ts : List Placed} {end place other : ℕ} → StopsAt Spells ts end place → StopsAt Spells ts end other → place ≡ other
-  one_stop {ts = ts} {end = end} a b = a.place_is ∙ ap (place_of ts end) (IsRefusedAt-unique Spells (map located ts) a.count b.count a.refused b.refused) ∙ sym b.place_is
+  one_stop : {ts : List PlacedToken} {end place other : ℕ} → StopsAt Spells ts end place → StopsAt Spells ts end other → place ≡ other
+  one_stop {ts = ts} {end = end} a b = a.place_is ∙ ap (place_of_token ts end) (IsRefusedAt-unique Spells (map located ts) a.count b.count a.refused b.refused) ∙ sym b.place_is
 
   pub one_refusal : {text : Text} {place other : ℕ} {c d : RuleCause} → IsRefused Spells text place c → IsRefused Spells text other d → (place ≡ other) × (c ≡ d)
   one_refusal (no_tokens h) (no_tokens g) = (one_bad_token h g, refl)
@@ -50,12 +50,12 @@ module _ {A : Type 0} (Spells : Tokens → A → Type 0) (one : (ts : Tokens) (a
       pub read : IfOk r (λ x. IsTextOf Spells text (view x))
       pub bad : (place : ℕ) (c : RuleCause) → IsErrOf r (BadRule place c) → IsRefused Spells text place c
 
-    read_of : (r : Result X RuleError) (text : Text) (ts : List Placed) → SpellsTokens 0 text ts → IfOk r (λ x. Spells (map located ts) (view x)) → IfOk r (λ x. IsTextOf Spells text (view x))
+    read_of : (r : Result X RuleError) (text : Text) (ts : List PlacedToken) → SpellsRuleTokens 0 text ts → IfOk r (λ x. Spells (map located ts) (view x)) → IfOk r (λ x. IsTextOf Spells text (view x))
     read_of (Ok x) text ts made h = record { tokens = ts; made = made; spells = h }
     read_of (Err e) text ts made h = tt
 
     -- what was made of the tokens
-    pub right_of_tokens : (r : Result X RuleError) (text : Text) (ts : List Placed) → SpellsTokens 0 text ts → IfOk r (λ x. Spells (map located ts) (view x))
+    pub right_of_tokens : (r : Result X RuleError) (text : Text) (ts : List PlacedToken) → SpellsRuleTokens 0 text ts → IfOk r (λ x. Spells (map located ts) (view x))
         → ((place : ℕ) (c : RuleCause) → IsErrOf r (BadRule place c) → IsStop Spells ts (length text) place c) → IsRight r text
     right_of_tokens r text ts made h stops = record {
       read = read_of r text ts made h;

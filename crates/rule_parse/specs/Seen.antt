@@ -11,11 +11,12 @@ use Rattle.rule_lex.specs.declared.token.Symbol.{Symbol}
 use Rattle.rule_lex.specs.declared.token.Symbol.TheVariants as sign
 use Rattle.grid_model.specs.declared.refusal.RuleCause.{RuleCause}
 use Rattle.grid_model.specs.declared.refusal.RuleCause.TheVariants as cause
-use Rattle.rule_lex.specs.Tokens.{Placed, Token, named, param, symbol}
+use Rattle.rule_lex.specs.Tokens.{PlacedToken, RuleToken, named, param, symbol}
 use Rattle.rule_parse.specs.Printed.{print_token, expr_tokens, step_tokens, body_tokens, in_parentheses, with_commas}
 use Rattle.rule_parse.specs.Grammar.{Tokens}
 use Rattle.rule_parse.specs.RuleTexts.{StopsAt}
-use Rattle.rule_parse.specs.Readers.{Level, Enclosing, enclosing, Reader, level, Read, refused, goes, at_comma, at_close, Calling, calling, Draft, new_draft, RuleRead, ends, Progress, progress}
+use Rattle.rule_parse.specs.Readers.{Level, Enclosing, enclosing, TermReader, level_with, TermRead, refused, goes, at_comma, at_close}
+use Rattle.rule_parse.specs.Readers.{Calling, calling, Draft, new_draft, RuleRead, ends, Progress, progress}
 use Rattle.rule_parse.specs.declared.calling.Calling.{Calling as CallingSeen}
 use Rattle.rule_parse.specs.declared.drafts.Draft.{Draft as DraftSeen}
 use Rattle.rule_parse.specs.declared.drafts.RuleTaken.{RuleTaken}
@@ -42,7 +43,8 @@ abbrev pub with_term : Operator × Expr → Operator × Term
 with_term (op, e) = (op, term_of e)
 
 abbrev pub level_of : LevelSeen → Level
-level_of l = level (option_map term_of l.or_left) (option_map term_of l.and_left) l.nots.items (option_map with_term l.compared) (option_map term_of l.join_left)
+level_of l =
+    level_with (option_map term_of l.or_left) (option_map term_of l.and_left) l.nots.items (option_map with_term l.compared) (option_map term_of l.join_left)
 
 abbrev pub enclosing_of : EnclosingSeen → Enclosing
 enclosing_of e = enclosing e.at (level_of e.level)
@@ -51,23 +53,23 @@ enclosing_of e = enclosing e.at (level_of e.level)
 abbrev pub outer_of : List EnclosingSeen → List Enclosing
 outer_of os = reverse (map enclosing_of os)
 
-abbrev pub reader_of : ReaderSeen → Reader
+abbrev pub reader_of : ReaderSeen → TermReader
 reader_of r = record { outer = outer_of r.outer.items; inner = level_of r.level; count = r.count; operand = option_map term_of r.operand }
 
 -- what a token did to an expression, and how it left the reader
-abbrev pub Takes : Read → Taken → Reader → Type 0
-Takes read taken.Refused after = read ≡ refused
-Takes read taken.Goes after = read ≡ goes after
-Takes read (taken.Comma e) after = read ≡ at_comma (term_of e)
-Takes read (taken.Close e) after = read ≡ at_close (term_of e)
+abbrev pub TakesTerm : TermRead → Taken → TermReader → Type 0
+TakesTerm read taken.Refused after = read ≡ refused
+TakesTerm read taken.Goes after = read ≡ goes after
+TakesTerm read (taken.Comma e) after = read ≡ at_comma (term_of e)
+TakesTerm read (taken.Close e) after = read ≡ at_close (term_of e)
 
 abbrev pub calling_of : CallingSeen → Calling
 calling_of c = calling c.stage c.at c.name (map term_of c.args.items) (reader_of c.reader)
 
 -- whether a token was taken, and how it left the reader
-abbrev pub Follows : {S : Type 0} → Option S → Bool → S → Type 0
-Follows o true after = o ≡ Some after
-Follows o false after = o ≡ None
+abbrev pub TakesToken : {S : Type 0} → Option S → Bool → S → Type 0
+TakesToken o true after = o ≡ Some after
+TakesToken o false after = o ≡ None
 
 abbrev pub draft_of : DraftSeen → Draft
 draft_of d = record {
@@ -92,24 +94,24 @@ abbrev pub progress_of : ReadingSeen → Progress
 progress_of r = progress (map rule_of r.rules.items) (draft_of r.draft)
 
 -- the tokens stop here, by their grammar
-pub record IsStop {A : Type 0} (Spells : Tokens → A → Type 0) (ts : List Placed) (end place : ℕ) (c : RuleCause) : Type 0 where
+pub record IsStop {A : Type 0} (Spells : Tokens → A → Type 0) (ts : List PlacedToken) (end place : ℕ) (c : RuleCause) : Type 0 where
   pub cause_is : c ≡ cause.Grammar
   pub stops : StopsAt Spells ts end place
 
 -- the printed tokens with a space behind each
-abbrev pub spread : List Token → List ℕ
+abbrev pub spread : List RuleToken → List ℕ
 spread ts = flat_map (λ t. print_token t ++ 0x20 ∷ []) ts
 
 -- the tokens of each of the code's arguments, of its parameters and of its steps
-abbrev pub arg_tokens : List Expr → List (List Token)
+abbrev pub arg_tokens : List Expr → List (List RuleToken)
 arg_tokens es = map expr_tokens (map plain (map term_of es))
 
-abbrev pub param_tokens : List Text → List (List Token)
+abbrev pub param_tokens : List Text → List (List RuleToken)
 param_tokens ns = map (λ n. param n ∷ []) ns
 
-abbrev pub steps_tokens : List Step → List Token
+abbrev pub steps_tokens : List Step → List RuleToken
 steps_tokens ss = flat_map step_tokens (map plain_step (map step_of ss))
 
 -- those of a rule up to the brace that ends it
-abbrev pub open_tokens : Rule → List Token
+abbrev pub open_tokens : Rule → List RuleToken
 open_tokens r = named r.name ∷ in_parentheses (with_commas (param_tokens r.params)) ++ (symbol sign.OpenBrace ∷ body_tokens r.cond r.steps)

@@ -4,7 +4,7 @@ ghost use Rattle.rule_lex.specs.Seen.{meaning_of};
 ghost use Rattle.rule_parse.specs.declared.calling.CallStage.TheVariants as stage;
 ghost use Rattle.rule_parse.specs.Grammar.{is_special};
 ghost use Rattle.rule_parse.specs.Readers.{calling, new_call, new_reader, in_argument, read_call, read_call_at, read_term, whole_call};
-ghost use Rattle.rule_parse.specs.Seen.{calling_of, reader_of, Follows};
+ghost use Rattle.rule_parse.specs.Seen.{calling_of, reader_of, TakesToken};
 ghost use Rattle.std.specs.Prelude.{◌≡◌, [], ◌∷◌, ◌++◌, IfOk, MatchOption, map, option_map};
 
 use crate::expressions::{Reader, Taken};
@@ -103,7 +103,7 @@ impl Calling {
 
     /// Takes the next token of an argument.
     fn take_argument(&mut self, alloc: Global, at: u64, value: Value) -> Result<bool, AllocError>
-        ensures { IfOk result (λ taken. Follows
+        ensures { IfOk result (λ taken. TakesToken
             (in_argument self.old.at self.old.name (map term_of self.old.args.items) (read_term (reader_of self.old.reader) (at, meaning_of value.entry)))
             taken (calling_of self.new)) }
     {
@@ -126,7 +126,7 @@ impl Calling {
 
     /// Takes the next token. Fails for want of memory alone.
     pub fn take(&mut self, alloc: Global, at: u64, value: Value) -> Result<bool, AllocError>
-        ensures { IfOk result (λ taken. Follows (read_call (calling_of self.old) (at, meaning_of value.entry)) taken (calling_of self.new)) }
+        ensures { IfOk result (λ taken. TakesToken (read_call (calling_of self.old) (at, meaning_of value.entry)) taken (calling_of self.new)) }
     {
         match self.stage {
             CallStage::Start => match value {

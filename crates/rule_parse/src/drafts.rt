@@ -1,7 +1,8 @@
 ghost use Rattle.grid_model.specs.Parsed.{term_of, call_of, step_of, rule_of};
 ghost use Rattle.rule_lex.specs.Seen.{meaning_of};
 ghost use Rattle.rule_parse.specs.declared.drafts.RuleStage.TheVariants as stage;
-ghost use Rattle.rule_parse.specs.Readers.{RuleRead, begin_call, begin_recovery, end_step, in_call, in_condition, new_draft, read_call, read_rule, read_rule_at, read_term, step_with, to, whole_call, whole_rule};
+ghost use Rattle.rule_parse.specs.Readers.{RuleRead, begin_call, begin_recovery, end_step, in_call, in_condition, new_draft, read_call};
+ghost use Rattle.rule_parse.specs.Readers.{read_rule, read_rule_at, read_term, step_with, to, whole_call, whole_rule};
 ghost use Rattle.rule_parse.specs.Seen.{calling_of, draft_of, reader_of, TakesRule};
 ghost use Rattle.std.specs.Prelude.{◌≡◌, IfOk, Some, option_map};
 
@@ -250,7 +251,8 @@ impl Draft {
         at: u64,
         value: Value,
     ) -> Result<RuleTaken, AllocError>
-        ensures { IfOk result (λ taken. TakesRule (in_condition (draft_of self.old) (read_term (reader_of self.old.reader) (at, meaning_of value.entry))) taken (draft_of self.new)) }
+        ensures { IfOk result (λ taken. TakesRule (in_condition (draft_of self.old) (read_term (reader_of self.old.reader) (at, meaning_of value.entry))) taken
+            (draft_of self.new)) }
     {
         match self.reader.take(alloc, at, value)? {
             Taken::Refused => Ok(RuleTaken::Refused),
@@ -304,7 +306,8 @@ impl Draft {
 
     /// Takes `:::` behind a call.
     fn begin_recovery(&mut self, alloc: Global) -> RuleTaken
-        ensures { TakesRule (begin_recovery (draft_of self.old) (option_map call_of self.old.first) (whole_call (calling_of self.old.calling))) result (draft_of self.new) }
+        ensures { TakesRule (begin_recovery (draft_of self.old) (option_map call_of self.old.first) (whole_call (calling_of self.old.calling))) result
+            (draft_of self.new) }
     {
         if self.first.is_some() {
             return RuleTaken::Refused;
@@ -325,7 +328,8 @@ impl Draft {
         at: u64,
         value: Value,
     ) -> Result<RuleTaken, AllocError>
-        ensures { IfOk result (λ taken. TakesRule (in_call (draft_of self.old) (read_call (calling_of self.old.calling) (at, meaning_of value.entry))) taken (draft_of self.new)) }
+        ensures { IfOk result
+            (λ taken. TakesRule (in_call (draft_of self.old) (read_call (calling_of self.old.calling) (at, meaning_of value.entry))) taken (draft_of self.new)) }
     {
         if self.calling.take(alloc, at, value)? {
             return Ok(RuleTaken::Goes);

@@ -1,9 +1,9 @@
 ghost use Rattle.rule_lex.specs.Seen.{meaning_of};
-ghost use Rattle.rule_lex.specs.Tokens.{Token as Meaning};
+ghost use Rattle.rule_lex.specs.Tokens.{RuleToken as Meaning};
 ghost use Rattle.rule_lex.specs.declared.token.Symbol.TheVariants as sign;
-ghost use Rattle.rule_parse.specs.Grammar.{term_at};
-ghost use Rattle.rule_parse.specs.Readers.{behind, goes, new_reader, read_operand, read_operator, read_term, read_comparison};
-ghost use Rattle.rule_parse.specs.Seen.{comparison_of, level_of, outer_of, reader_of, Takes};
+ghost use Rattle.rule_parse.specs.Grammar.{placed_term};
+ghost use Rattle.rule_parse.specs.Readers.{behind_operand, goes, new_reader, read_operand, read_operator, read_term, read_comparison};
+ghost use Rattle.rule_parse.specs.Seen.{comparison_of, level_of, outer_of, reader_of, TakesTerm};
 ghost use Rattle.grid_model.specs.Parsed.{shape_of, term_of};
 ghost use Rattle.std.specs.Prelude.{◌≡◌, None, IfOk};
 
@@ -83,7 +83,8 @@ impl Reader {
     /// Takes an operand without operators.
     fn hold(&mut self, at: u64, form: Form) -> Taken
         requires { self.old.operand ≡ None }
-        ensures { Takes (goes (behind (outer_of self.old.outer.items) (level_of self.old.level) self.old.count (term_at at (shape_of form)))) result (reader_of self.new) }
+        ensures { TakesTerm (goes (behind_operand (outer_of self.old.outer.items) (level_of self.old.level) self.old.count (placed_term at (shape_of form)))) result
+            (reader_of self.new) }
     {
         self.operand = Some(Expr { at, form });
         Taken::Goes
@@ -92,7 +93,8 @@ impl Reader {
     /// Takes a `!` where an operand is wanted.
     fn negate(&mut self, at: u64) -> Result<Taken, AllocError>
         requires { self.old.operand ≡ None }
-        ensures { IfOk result (λ taken. Takes (read_operand (outer_of self.old.outer.items) (level_of self.old.level) self.old.count at (Meaning.symbol sign.Not)) taken (reader_of self.new)) }
+        ensures { IfOk result (λ taken. TakesTerm
+            (read_operand (outer_of self.old.outer.items) (level_of self.old.level) self.old.count at (Meaning.symbol sign.Not)) taken (reader_of self.new)) }
     {
         if self.level.compared.is_some() {
             return Ok(Taken::Refused);
@@ -111,7 +113,8 @@ impl Reader {
     /// Takes an opening parenthesis where an operand is wanted.
     fn open(&mut self, alloc: Global, at: u64) -> Result<Taken, AllocError>
         requires { self.old.operand ≡ None }
-        ensures { IfOk result (λ taken. Takes (read_operand (outer_of self.old.outer.items) (level_of self.old.level) self.old.count at (Meaning.symbol sign.OpenParenthesis)) taken (reader_of self.new)) }
+        ensures { IfOk result (λ taken. TakesTerm (read_operand (outer_of self.old.outer.items) (level_of self.old.level) self.old.count at
+            (Meaning.symbol sign.OpenParenthesis)) taken (reader_of self.new)) }
     {
         if self.outer.len() >= DEEPEST_PARENTHESES {
             return Ok(Taken::Refused);
@@ -124,7 +127,8 @@ impl Reader {
     /// Takes a token where an operand is wanted.
     fn take_operand(&mut self, alloc: Global, at: u64, value: Value) -> Result<Taken, AllocError>
         requires { self.old.operand ≡ None }
-        ensures { IfOk result (λ taken. Takes (read_operand (outer_of self.old.outer.items) (level_of self.old.level) self.old.count at (meaning_of value.entry)) taken (reader_of self.new)) }
+        ensures { IfOk result (λ taken. TakesTerm
+            (read_operand (outer_of self.old.outer.items) (level_of self.old.level) self.old.count at (meaning_of value.entry)) taken (reader_of self.new)) }
     {
         match value {
             Value::Text(bytes) => Ok(self.hold(at, Form::Text(Text::from_vec(bytes)))),
@@ -148,7 +152,8 @@ impl Reader {
     /// Takes `++` behind an operand.
     fn join(&mut self, alloc: Global, operand: Expr) -> Result<Taken, AllocError>
         requires { self.old.operand ≡ None }
-        ensures { IfOk result (λ taken. Takes (read_operator (outer_of self.old.outer.items) (level_of self.old.level) self.old.count (term_of operand) (Meaning.symbol sign.Join)) taken (reader_of self.new)) }
+        ensures { IfOk result (λ taken. TakesTerm (read_operator (outer_of self.old.outer.items) (level_of self.old.level) self.old.count (term_of operand)
+            (Meaning.symbol sign.Join)) taken (reader_of self.new)) }
     {
         if self.count >= MOST_OPERATORS {
             return Ok(Taken::Refused);
@@ -167,7 +172,8 @@ impl Reader {
         operator: Operator,
     ) -> Result<Taken, AllocError>
         requires { self.old.operand ≡ None }
-        ensures { IfOk result (λ taken. Takes (read_comparison (outer_of self.old.outer.items) (level_of self.old.level) self.old.count (term_of operand) operator) taken (reader_of self.new)) }
+        ensures { IfOk result (λ taken. TakesTerm
+            (read_comparison (outer_of self.old.outer.items) (level_of self.old.level) self.old.count (term_of operand) operator) taken (reader_of self.new)) }
     {
         if self.level.compared.is_some() {
             return Ok(Taken::Refused);
@@ -184,7 +190,8 @@ impl Reader {
     /// Takes `&&` behind an operand.
     fn and(&mut self, alloc: Global, operand: Expr) -> Result<Taken, AllocError>
         requires { self.old.operand ≡ None }
-        ensures { IfOk result (λ taken. Takes (read_operator (outer_of self.old.outer.items) (level_of self.old.level) self.old.count (term_of operand) (Meaning.symbol sign.And)) taken (reader_of self.new)) }
+        ensures { IfOk result (λ taken. TakesTerm (read_operator (outer_of self.old.outer.items) (level_of self.old.level) self.old.count (term_of operand)
+            (Meaning.symbol sign.And)) taken (reader_of self.new)) }
     {
         if self.count >= MOST_OPERATORS {
             return Ok(Taken::Refused);
@@ -198,7 +205,8 @@ impl Reader {
     /// Takes `||` behind an operand.
     fn or(&mut self, alloc: Global, operand: Expr) -> Result<Taken, AllocError>
         requires { self.old.operand ≡ None }
-        ensures { IfOk result (λ taken. Takes (read_operator (outer_of self.old.outer.items) (level_of self.old.level) self.old.count (term_of operand) (Meaning.symbol sign.Or)) taken (reader_of self.new)) }
+        ensures { IfOk result (λ taken. TakesTerm (read_operator (outer_of self.old.outer.items) (level_of self.old.level) self.old.count (term_of operand)
+            (Meaning.symbol sign.Or)) taken (reader_of self.new)) }
     {
         if self.count >= MOST_OPERATORS {
             return Ok(Taken::Refused);
@@ -212,7 +220,8 @@ impl Reader {
     /// Takes a closing parenthesis behind an operand.
     fn close(&mut self, alloc: Global, operand: Expr) -> Result<Taken, AllocError>
         requires { self.old.operand ≡ None }
-        ensures { IfOk result (λ taken. Takes (read_operator (outer_of self.old.outer.items) (level_of self.old.level) self.old.count (term_of operand) (Meaning.symbol sign.CloseParenthesis)) taken (reader_of self.new)) }
+        ensures { IfOk result (λ taken. TakesTerm (read_operator (outer_of self.old.outer.items) (level_of self.old.level) self.old.count (term_of operand)
+            (Meaning.symbol sign.CloseParenthesis)) taken (reader_of self.new)) }
     {
         let whole = self.level.disjoined(alloc, operand)?;
         match self.outer.pop() {
@@ -227,7 +236,8 @@ impl Reader {
     /// Takes a comma behind an operand.
     fn end(&mut self, alloc: Global, operand: Expr) -> Result<Taken, AllocError>
         requires { self.old.operand ≡ None }
-        ensures { IfOk result (λ taken. Takes (read_operator (outer_of self.old.outer.items) (level_of self.old.level) self.old.count (term_of operand) (Meaning.symbol sign.Comma)) taken (reader_of self.new)) }
+        ensures { IfOk result (λ taken. TakesTerm (read_operator (outer_of self.old.outer.items) (level_of self.old.level) self.old.count (term_of operand)
+            (Meaning.symbol sign.Comma)) taken (reader_of self.new)) }
     {
         if !self.outer.is_empty() {
             return Ok(Taken::Refused);
@@ -243,7 +253,8 @@ impl Reader {
         symbol: Symbol,
     ) -> Result<Taken, AllocError>
         requires { self.old.operand ≡ None }
-        ensures { IfOk result (λ taken. Takes (read_operator (outer_of self.old.outer.items) (level_of self.old.level) self.old.count (term_of operand) (Meaning.symbol symbol)) taken (reader_of self.new)) }
+        ensures { IfOk result (λ taken. TakesTerm (read_operator (outer_of self.old.outer.items) (level_of self.old.level) self.old.count (term_of operand)
+            (Meaning.symbol symbol)) taken (reader_of self.new)) }
     {
         match symbol {
             Symbol::Join => self.join(alloc, operand),
@@ -260,7 +271,7 @@ impl Reader {
 
     /// Takes the next token. Fails for want of memory alone.
     pub fn take(&mut self, alloc: Global, at: u64, value: Value) -> Result<Taken, AllocError>
-        ensures { IfOk result (λ taken. Takes (read_term (reader_of self.old) (at, meaning_of value.entry)) taken (reader_of self.new)) }
+        ensures { IfOk result (λ taken. TakesTerm (read_term (reader_of self.old) (at, meaning_of value.entry)) taken (reader_of self.new)) }
     {
         match self.operand.take() {
             None => self.take_operand(alloc, at, value),

@@ -14,7 +14,8 @@ pub fn one_reading()
 /// A text that is refused spells no rules, and has one place and one cause.
 pub fn one_refusal()
     ensures none { (text : List ℕ) (place : ℕ) (cause : RuleCause) (rules : List RuleAt) → IsRefused SpellsRules text place cause → ¬ IsTextOf SpellsRules text rules }
-    ensures place { (text : List ℕ) (place other : ℕ) (cause why : RuleCause) → IsRefused SpellsRules text place cause → IsRefused SpellsRules text other why → (place ≡ other) × (cause ≡ why) }
+    ensures place { (text : List ℕ) (place other : ℕ) (cause why : RuleCause) → IsRefused SpellsRules text place cause → IsRefused SpellsRules text other why
+        → (place ≡ other) × (cause ≡ why) }
 {}
 
 /// No two lists of rules print alike, but for their places, and what is printed is printed so again when it is read.

@@ -1,6 +1,6 @@
 ghost use Rattle.grid_model.specs.Parsed.{term_of};
-ghost use Rattle.rule_parse.specs.Grammar.{both};
-ghost use Rattle.rule_parse.specs.Readers.{level, empty, with_left, with_compared, with_nots, joined, compared, negated, conjoined, disjoined};
+ghost use Rattle.rule_parse.specs.Grammar.{applied_term};
+ghost use Rattle.rule_parse.specs.Readers.{level_with, empty, with_left, with_compared, with_nots, joined_term, compared, negated, conjoined, disjoined};
 ghost use Rattle.rule_parse.specs.Seen.{level_of, with_term};
 ghost use Rattle.std.specs.Prelude.{◌≡◌, [], ◌∷◌, None, IfOk, option_map};
 
@@ -22,7 +22,7 @@ pub struct Level {
 
 /// An operator with its two operands.
 fn applied(alloc: Global, operator: Operator, left: Expr, right: Expr) -> Result<Expr, AllocError>
-    ensures { IfOk result (λ e. term_of e ≡ both operator (term_of left) (term_of right)) }
+    ensures { IfOk result (λ e. term_of e ≡ applied_term operator (term_of left) (term_of right)) }
 {
     let at = left.at;
     let left = Box::new(alloc, left)?;
@@ -101,9 +101,9 @@ impl Level {
 
     /// The operand with what binds at least as much as `++`, which waits no longer.
     pub fn joined(&mut self, alloc: Global, operand: Expr) -> Result<Expr, AllocError>
-        ensures value { IfOk result (λ e. term_of e ≡ joined (level_of self.old) (term_of operand)) }
+        ensures value { IfOk result (λ e. term_of e ≡ joined_term (level_of self.old) (term_of operand)) }
         ensures left { IfOk result (λ e. level_of self.new
-            ≡ level (level_of self.old).or_left (level_of self.old).and_left (level_of self.old).nots (level_of self.old).compared None) }
+            ≡ level_with (level_of self.old).or_left (level_of self.old).and_left (level_of self.old).nots (level_of self.old).compared None) }
     {
         with_left(alloc, Operator::Join, self.join_left.take(), operand)
     }
@@ -112,7 +112,7 @@ impl Level {
     pub fn compared(&mut self, alloc: Global, operand: Expr) -> Result<Expr, AllocError>
         ensures value { IfOk result (λ e. term_of e ≡ compared (level_of self.old) (term_of operand)) }
         ensures left { IfOk result (λ e. level_of self.new
-            ≡ level (level_of self.old).or_left (level_of self.old).and_left (level_of self.old).nots None None) }
+            ≡ level_with (level_of self.old).or_left (level_of self.old).and_left (level_of self.old).nots None None) }
     {
         let right = self.joined(alloc, operand)?;
         with_compared(alloc, self.compared.take(), right)
@@ -122,7 +122,7 @@ impl Level {
     pub fn negated(&mut self, alloc: Global, operand: Expr) -> Result<Expr, AllocError>
         ensures value { IfOk result (λ e. term_of e ≡ negated (level_of self.old) (term_of operand)) }
         ensures left { IfOk result (λ e. level_of self.new
-            ≡ level (level_of self.old).or_left (level_of self.old).and_left [] None None) }
+            ≡ level_with (level_of self.old).or_left (level_of self.old).and_left [] None None) }
     {
         let right = self.compared(alloc, operand)?;
         with_nots(alloc, mem::replace(&mut self.nots, Vec::new(alloc)), right)
@@ -131,7 +131,7 @@ impl Level {
     /// The operand with what binds at least as much as `&&`, which waits no longer.
     pub fn conjoined(&mut self, alloc: Global, operand: Expr) -> Result<Expr, AllocError>
         ensures value { IfOk result (λ e. term_of e ≡ conjoined (level_of self.old) (term_of operand)) }
-        ensures left { IfOk result (λ e. level_of self.new ≡ level (level_of self.old).or_left None [] None None) }
+        ensures left { IfOk result (λ e. level_of self.new ≡ level_with (level_of self.old).or_left None [] None None) }
     {
         let right = self.negated(alloc, operand)?;
         with_left(alloc, Operator::And, self.and_left.take(), right)

@@ -1,6 +1,6 @@
 ghost use Rattle.grid_model.specs.Parsed.{call_of, rule_of};
 ghost use Rattle.grid_model.specs.declared.refusal.RuleCause.{RuleCause};
-ghost use Rattle.rule_lex.specs.Seen.{placed};
+ghost use Rattle.rule_lex.specs.Seen.{rule_token_of};
 ghost use Rattle.rule_parse.specs.Grammar.{SpellsCall, SpellsRules};
 ghost use Rattle.rule_parse.specs.RuleTexts.{located, StopsAt};
 ghost use Rattle.rule_parse.specs.Seen.{IsStop};
@@ -15,8 +15,8 @@ use std::alloc::Global;
 
 /// The rules that these tokens of a text of this length spell.
 pub fn rules_from(alloc: Global, tokens: Tokens<'_>, end: usize) -> Result<Rules, RuleError>
-    ensures rules { IfOk result (λ rules. SpellsRules (map located (map placed tokens.entry.items)) (map rule_of rules)) }
-    ensures stops { (at : ℕ) (cause : RuleCause) → IsErrOf result (RuleError.BadRule at cause) → IsStop SpellsRules (map placed tokens.entry.items) end at cause }
+    ensures rules { IfOk result (λ rules. SpellsRules (map located (map rule_token_of tokens.entry.items)) (map rule_of rules)) }
+    ensures stops { (at : ℕ) (cause : RuleCause) → IsErrOf result (RuleError.BadRule at cause) → IsStop SpellsRules (map rule_token_of tokens.entry.items) end at cause }
 {
     let mut reading = Reading::new(alloc);
     for token in tokens {
@@ -39,8 +39,8 @@ pub fn rules_from(alloc: Global, tokens: Tokens<'_>, end: usize) -> Result<Rules
 
 /// The call that these tokens of a text of this length spell.
 pub fn call_from(alloc: Global, tokens: Tokens<'_>, end: usize) -> Result<Call0, RuleError>
-    ensures call { IfOk result (λ call. SpellsCall (map located (map placed tokens.entry.items)) (call_of call)) }
-    ensures stops { (at : ℕ) (cause : RuleCause) → IsErrOf result (RuleError.BadRule at cause) → IsStop SpellsCall (map placed tokens.entry.items) end at cause }
+    ensures call { IfOk result (λ call. SpellsCall (map located (map rule_token_of tokens.entry.items)) (call_of call)) }
+    ensures stops { (at : ℕ) (cause : RuleCause) → IsErrOf result (RuleError.BadRule at cause) → IsStop SpellsCall (map rule_token_of tokens.entry.items) end at cause }
 {
     let mut calling = Calling::new(alloc);
     for token in tokens {

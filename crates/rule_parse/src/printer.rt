@@ -1,9 +1,10 @@
 ghost use Rattle.grid_model.specs.Parsed.{plain, plain_call, plain_rule, plain_step, term_of, call_of, step_of, rule_of};
-ghost use Rattle.rule_parse.specs.Printed.{as_operand, behind_comma, body_tokens, call_tokens, expr_tokens, in_braces, in_parentheses, is_operation, print_rule, print_rules, recovery_tokens, rule_tokens, step_tokens, with_commas};
+ghost use Rattle.rule_parse.specs.Printed.{as_operand, behind_comma, body_tokens, call_tokens, expr_tokens, in_braces, in_parentheses};
+ghost use Rattle.rule_parse.specs.Printed.{is_operation, print_rule, print_rules, recovery_tokens, rule_tokens, step_tokens, with_commas};
 ghost use Rattle.rule_parse.specs.Grammar.{SpellsRules};
 ghost use Rattle.rule_parse.specs.RuleTexts.{IsReadAgain, IsTextOf};
 ghost use Rattle.rule_parse.specs.Seen.{arg_tokens, open_tokens, param_tokens, spread, steps_tokens};
-ghost use Rattle.rule_lex.specs.Tokens.{Token as Meaning};
+ghost use Rattle.rule_lex.specs.Tokens.{RuleToken as Meaning};
 ghost use Rattle.std.specs.Prelude.{◌≡◌, [], ◌∷◌, ◌++◌, ℕ, List, flat_map, map, option_map, IfOk, OnOk};
 
 use crate::symbols::sign_of;
@@ -134,7 +135,8 @@ fn put_params(out: &mut Vec<u8>, params: &[Text]) -> Result<(), AllocError>
 
 /// Adds the tokens between the braces of a rule.
 fn put_body(out: &mut Vec<u8>, alloc: Global, rule: &Rule) -> Result<(), AllocError>
-    ensures { OnOk result (out.new.items ≡ out.old.items ++ spread (body_tokens (option_map plain (option_map term_of rule.now.cond)) (map plain_step (map step_of rule.now.steps)))) }
+    ensures { OnOk result (out.new.items ≡ out.old.items ++ spread
+        (body_tokens (option_map plain (option_map term_of rule.now.cond)) (map plain_step (map step_of rule.now.steps)))) }
 {
     match &rule.cond {
         None => put_steps(out, alloc, rule.steps.as_slice()),

@@ -1,7 +1,7 @@
 ghost use Rattle.grid_model.specs.Parsed.{rule_of};
 ghost use Rattle.rule_lex.specs.Seen.{meaning_of};
-ghost use Rattle.rule_parse.specs.Readers.{finish, read, start};
-ghost use Rattle.rule_parse.specs.Seen.{progress_of, Follows};
+ghost use Rattle.rule_parse.specs.Readers.{finish, read, new_progress};
+ghost use Rattle.rule_parse.specs.Seen.{progress_of, TakesToken};
 ghost use Rattle.std.specs.Prelude.{◌≡◌, IfOk, map, option_map};
 
 use crate::drafts::{Draft, RuleStage, RuleTaken};
@@ -20,7 +20,7 @@ pub struct Reading {
 impl Reading {
     /// Nothing is read. It takes no memory.
     pub fn new(alloc: Global) -> Reading
-        ensures { progress_of result ≡ start }
+        ensures { progress_of result ≡ new_progress }
     {
         Reading {
             rules: Vec::new(alloc),
@@ -30,7 +30,7 @@ impl Reading {
 
     /// Takes the next token, and says whether it may stand there. Fails for want of memory alone.
     pub fn take(&mut self, alloc: Global, at: u64, value: Value) -> Result<bool, AllocError>
-        ensures { IfOk result (λ taken. Follows (read (progress_of self.old) (at, meaning_of value.entry)) taken (progress_of self.new)) }
+        ensures { IfOk result (λ taken. TakesToken (read (progress_of self.old) (at, meaning_of value.entry)) taken (progress_of self.new)) }
     {
         match self.draft.take(alloc, at, value)? {
             RuleTaken::Refused => Ok(false),

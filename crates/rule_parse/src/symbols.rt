@@ -1,4 +1,4 @@
-ghost use Rattle.rule_lex.specs.Symbols.{spelling};
+ghost use Rattle.rule_lex.specs.Symbols.{symbol_text};
 ghost use Rattle.rule_parse.specs.Grammar.{sign_of};
 ghost use Rattle.std.specs.Prelude.{◌≡◌};
 
@@ -7,7 +7,7 @@ use rule_lex::Symbol;
 
 /// The bytes of a word or a sign.
 pub fn spelling(symbol: Symbol) -> &'static [u8]
-    ensures { result.now ≡ spelling symbol }
+    ensures { result.now ≡ symbol_text symbol }
 {
     match symbol {
         Symbol::On => b"on",

@@ -2,8 +2,8 @@ ghost use Rattle.grid_model.specs.Parsed.{CallAt, RuleAt, call_of, rule_of};
 ghost use Rattle.grid_model.specs.declared.refusal.RuleCause.{RuleCause};
 ghost use Rattle.grid_model.specs.declared.refusal.RuleCause.TheVariants as causes;
 ghost use Rattle.rule_lex.specs.Places as lexed;
-ghost use Rattle.rule_lex.specs.Seen.{placed};
-ghost use Rattle.rule_lex.specs.Tokens.{Placed, SpellsTokens};
+ghost use Rattle.rule_lex.specs.Seen.{rule_token_of};
+ghost use Rattle.rule_lex.specs.Tokens.{PlacedToken, SpellsRuleTokens};
 ghost use Rattle.rule_parse.specs.Grammar.{SpellsCall, SpellsRules};
 ghost use Rattle.rule_parse.specs.RuleTexts.{IsTextOf, IsRefused};
 ghost use Rattle.std.specs.Prelude.{◌≡◌, ◌⊎◌, ℕ, List, map, IfOk, MatchResult, IsErrOf};
@@ -16,9 +16,9 @@ use std::alloc::Global;
 
 /// The tokens of a text, with its refusal as that of rules.
 fn tokens_of(alloc: Global, text: &[u8]) -> Result<Tokens<'_>, RuleError>
-    ensures tokens { IfOk result (λ tokens. SpellsTokens 0 text.now (map placed tokens.items)) }
-    ensures only { (all : List Placed) → SpellsTokens 0 text.now all
-        → MatchResult result (λ tokens. map placed tokens.items ≡ all) (λ e. e ≡ RuleError.Memory) }
+    ensures tokens { IfOk result (λ tokens. SpellsRuleTokens 0 text.now (map rule_token_of tokens.items)) }
+    ensures only { (all : List PlacedToken) → SpellsRuleTokens 0 text.now all
+        → MatchResult result (λ tokens. map rule_token_of tokens.items ≡ all) (λ e. e ≡ RuleError.Memory) }
     ensures bad_token { (at : ℕ) (cause : RuleCause) → IsErrOf result (RuleError.BadRule at cause)
         → (cause ≡ causes.Token) × lexed.IsRefusedAt text.now at }
 {

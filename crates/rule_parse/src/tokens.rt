@@ -1,5 +1,5 @@
-ghost use Rattle.rule_lex.specs.Bytes.{is_escaped};
-ghost use Rattle.rule_lex.specs.Tokens.{Token as Meaning};
+ghost use Rattle.rule_lex.specs.Bytes.{needs_backslash};
+ghost use Rattle.rule_lex.specs.Tokens.{RuleToken as Meaning};
 ghost use Rattle.rule_parse.specs.Printed.{print_byte};
 ghost use Rattle.rule_parse.specs.Seen.{spread};
 ghost use Rattle.std.specs.Prelude.{◌≡◌, [], ◌∷◌, ◌++◌, flat_map, OnOk};
@@ -57,7 +57,7 @@ pub fn put_number(out: &mut Vec<u8>, alloc: Global, number: i64) -> Result<(), A
 
 /// What stands in a text with a `\` before it.
 fn is_escaped(byte: u8) -> bool
-    ensures { result ≡ is_escaped byte }
+    ensures { result ≡ needs_backslash byte }
 {
     matches!(byte, b'\\' | b'"' | b'\'')
 }

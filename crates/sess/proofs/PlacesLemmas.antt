@@ -10,7 +10,7 @@ use Rattle.grid_model.specs.Names.{Text}
 use Rattle.grid_model.specs.Sessions as model
 use Rattle.grid_model.proofs.Comparing.{eq_by_cmp-Decides}
 use Rattle.grid_model.proofs.MapLemmas.{get-put, get-remove, same_map}
-use Rattle.sess.specs.Places.{Places, at, user_of, session_of, found, sessions_from, sessions_of}
+use Rattle.sess.specs.Places.{Places, at, user_of, session_by_name, found, sessions_from, sessions_of}
 use Rattle.sess.specs.declared.sessions.Session.{Session}
 
 -- ---- two numbers
@@ -54,15 +54,15 @@ module _ (names : ℕ → Text) where
   before [] base q less = refl
   before (None ∷ places) base q less = before places (base + 1) q (omega (arith, less))
   before (Some s ∷ places) base q less =
-      put_other (sessions_from names (base + 1) places) base (session_of names s) q (λ e. omega (arith, e, less)) ∙ before places (base + 1) q (omega (arith, less))
+      put_other (sessions_from names (base + 1) places) base (session_by_name names s) q (λ e. omega (arith, e, less)) ∙ before places (base + 1) q (omega (arith, less))
 
   here : (x : Option Session) (places : Places) (base q : ℕ) → q ≡ base → get (sessions_from names base (x ∷ places)) q ≡ found names x
   here None places base q e = before places (base + 1) q (omega (arith, e))
-  here (Some s) places base q e = put_same (sessions_from names (base + 1) places) base (session_of names s) q e
+  here (Some s) places base q e = put_same (sessions_from names (base + 1) places) base (session_by_name names s) q e
 
   behind : (x : Option Session) (places : Places) (base q : ℕ) → q ≢ base → get (sessions_from names base (x ∷ places)) q ≡ get (sessions_from names (base + 1) places) q
   behind None places base q apart = refl
-  behind (Some s) places base q apart = put_other (sessions_from names (base + 1) places) base (session_of names s) q apart
+  behind (Some s) places base q apart = put_other (sessions_from names (base + 1) places) base (session_by_name names s) q apart
 
   from_base : (places : Places) (base n : ℕ) → get (sessions_from names base places) (base + n) ≡ found names (at places n)
   from_base [] base n = refl
@@ -77,7 +77,7 @@ module _ (names : ℕ → Text) where
 
   found_user : (x : Option Session) (u : ℕ) → user_of x ≡ Some u → found names x ≡ Some (record { user = names u; upload = None })
   found_user None u e = absurd (cc e)
-  found_user (Some s) u e = let same : s.user ≡ u = cc e in ap (λ (k : ℕ). Some (session_of names (record { user = k }))) same
+  found_user (Some s) u e = let same : s.user ≡ u = cc e in ap (λ (k : ℕ). Some (session_by_name names (record { user = k }))) same
 
   found_nobody : (x : Option Session) → user_of x ≡ None → found names x ≡ None
   found_nobody None e = refl

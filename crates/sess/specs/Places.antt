@@ -21,18 +21,18 @@ user_of None = None
 user_of (Some s) = Some s.user
 
 -- the session of a user of this name
-abbrev pub session_of : (ℕ → Text) → Session → model.Session
-session_of names s = record { user = names s.user; upload = None }
+abbrev pub session_by_name : (ℕ → Text) → Session → model.Session
+session_by_name names s = record { user = names s.user; upload = None }
 
 -- the same, where it is logged in
 abbrev pub found : (ℕ → Text) → Option Session → Option model.Session
 found names None = None
-found names (Some s) = Some (session_of names s)
+found names (Some s) = Some (session_by_name names s)
 
 -- sessions with one more of this number, where it is logged in
 abbrev pub with_place : (ℕ → Text) → ℕ → Option Session → model.Sessions → model.Sessions
 with_place names n None sessions = sessions
-with_place names n (Some s) sessions = put sessions n (session_of names s)
+with_place names n (Some s) sessions = put sessions n (session_by_name names s)
 
 -- the sessions of places that begin with this number
 abbrev pub sessions_from : (ℕ → Text) → ℕ → Places → model.Sessions

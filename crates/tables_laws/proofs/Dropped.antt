@@ -5,10 +5,10 @@ use Rattle.std.proofs.lemmas.Bool.{and_parts, not-true}
 use Rattle.std.specs.List.{list_any}
 use Rattle.grid_model.specs.Maps.{from_list, remove}
 use Rattle.grid_model.specs.Names.{Path}
-use Rattle.grid_model.specs.Grid.{triple_cmp, access_cmp, object_at, collection_at}
+use Rattle.grid_model.specs.Grid.{thing_triple_cmp, access_cmp, object_at, collection_at}
 use Rattle.grid_model.specs.Rows.{Cat, object, has_object, has_collection, item_there, collection_cmp, object_cmp, empty_cat}
 use Rattle.grid_model.specs.RowPaths.{names_within, names_up, collection_path}
-use Rattle.grid_model.specs.RowGrids.{Places, grid_at, grid_of, collection_place, object_place, item_place, thing_of, triple_of, object_of, user_name}
+use Rattle.grid_model.specs.RowGrids.{CollectionPaths, grid_at, grid_of, collection_place, object_place, item_place, thing_of, triple_of, object_of, user_name}
 use Rattle.grid_model.specs.Applying.{apply, apply_all, gives_access, is_given, is_told_of, is_empty_collection, may_drop_object, may_drop_collection}
 use Rattle.grid_model.specs.declared.deltas.Delta.{Delta}
 use Rattle.grid_model.specs.declared.deltas.Delta.TheVariants as delta
@@ -32,9 +32,9 @@ use Rattle.tables_laws.proofs.Sound.{IsSound, sound-without_collection, sound-ma
 use Rattle.tables_laws.proofs.Grids.{grid-same}
 
 -- where an item of which nothing is said is dropped, metadata and access stay
-module _ (c d : Cat) (s : IsSound c) (next : Places) (gone : ItemKind) (id : ℕ) (untold : is_told_of c gone id ≡ false)
+module _ (c d : Cat) (s : IsSound c) (next : CollectionPaths) (gone : ItemKind) (id : ℕ) (untold : is_told_of c gone id ≡ false)
     (kept : (k : ItemKind) (j : ℕ) → (k ≡ gone → j ≡ id → ⊥) → item_there c k j ≡ true → thing_of d next k j ≡ thing_of c (collection_path c) k j) where
-  triples_left : from_list {R = triple_cmp} (map (λ t. (triple_of d next t, tt)) c.triples) ≡ (grid_of c).triples
+  triples_left : from_list {R = thing_triple_cmp} (map (λ t. (triple_of d next t, tt)) c.triples) ≡ (grid_of c).triples
   triples_left = triples_same c d next (λ t here. kept t.kind t.id (triple_apart c gone id untold t here) (in_from_all (TripleStands c) c.triples s.tied.triples t here))
 
   access_left : ((j : ℕ) → user_name d j ≡ user_name c j)

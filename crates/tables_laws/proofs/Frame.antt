@@ -6,8 +6,8 @@ use Rattle.grid_model.specs.Maps.{from_list}
 use Rattle.grid_model.specs.Rows.{Cat, has_user, item_there}
 use Rattle.grid_model.specs.RowPaths.{collection_path}
 use Rattle.grid_model.specs.Applying.{gives_access, is_given}
-use Rattle.grid_model.specs.Grid.{Grid, Thing, object_at, collection_at, resource_named, user_named, thing_names, member_cmp, triple_cmp, access_cmp}
-use Rattle.grid_model.specs.RowGrids.{Places, grid_of, item_place, thing_of, triple_of, user_name}
+use Rattle.grid_model.specs.Grid.{Grid, Thing, object_at, collection_at, resource_named, user_named, thing_names, group_member_cmp, thing_triple_cmp, access_cmp}
+use Rattle.grid_model.specs.RowGrids.{CollectionPaths, grid_of, item_place, thing_of, triple_of, user_name}
 use Rattle.grid_model.specs.declared.grid.ItemKind.{ItemKind}
 use Rattle.grid_model.specs.declared.grid.ItemKind.TheVariants as kind
 use Rattle.grid_model.specs.declared.deltas.MemberRow.{MemberRow}
@@ -30,10 +30,10 @@ own_name (collection_at p) = []
 own_name (resource_named n) = n
 own_name (user_named n) = n
 
-module _ (c d : Cat) (next : Places) where
+module _ (c d : Cat) (next : CollectionPaths) where
   -- where each row speaks of the same
   pub triples_same : ((t : TripleRow) → IsIn c.triples t → thing_of d next t.kind t.id ≡ thing_of c (collection_path c) t.kind t.id)
-      → from_list {R = triple_cmp} (map (λ t. (triple_of d next t, tt)) c.triples) ≡ (grid_of c).triples
+      → from_list {R = thing_triple_cmp} (map (λ t. (triple_of d next t, tt)) c.triples) ≡ (grid_of c).triples
   triples_same same =
       from_list-same (triple_of d next) (triple_of c (collection_path c)) (λ t. tt) (λ t. tt) c.triples
       (λ t here. ap (λ (x : Thing). record { of = x; attribute = t.attribute; value = t.value; unit = t.unit }) (same t here)) (λ t here. refl)
@@ -45,7 +45,7 @@ module _ (c d : Cat) (next : Places) where
       (λ (e : EntryRow). e.level) c.entries (λ e here i. (places e here i, names e here i)) (λ e here. refl)
 
 -- the place of an item is that of the thing
-pub place_from_thing : (c d : Cat) (next : Places) (k : ItemKind) (id : ℕ) → gives_access k ≡ true → thing_of d next k id ≡ thing_of c (collection_path c) k id
+pub place_from_thing : (c d : Cat) (next : CollectionPaths) (k : ItemKind) (id : ℕ) → gives_access k ≡ true → thing_of d next k id ≡ thing_of c (collection_path c) k id
     → item_place d next k id ≡ item_place c (collection_path c) k id
 place_from_thing c d next kind.Object id gives same = ap thing_names same
 place_from_thing c d next kind.Collection id gives same = ap thing_names same
@@ -53,19 +53,19 @@ place_from_thing c d next kind.Resource id gives same = absurd cc
 place_from_thing c d next kind.User id gives same = absurd cc
 
 -- where each item that is there stays the thing that it was
-module _ (c d : Cat) (s : Stands c) (next : Places) (kept : (k : ItemKind) (id : ℕ) → item_there c k id ≡ true → thing_of d next k id ≡ thing_of c (collection_path c) k id) where
+module _ (c d : Cat) (s : Stands c) (next : CollectionPaths) (kept : (k : ItemKind) (id : ℕ) → item_there c k id ≡ true → thing_of d next k id ≡ thing_of c (collection_path c) k id) where
   name_kept : (id : ℕ) → has_user c id ≡ true → user_name d id ≡ user_name c id
   name_kept id has = ap own_name (kept kind.User id has)
 
   pub place_kept : (k : ItemKind) (id : ℕ) → gives_access k ≡ true → item_there c k id ≡ true → item_place d next k id ≡ item_place c (collection_path c) k id
   place_kept k id gives has = place_from_thing c d next k id gives (kept k id has)
 
-  pub members_kept : from_list {R = member_cmp} (map (λ m. ((user_name d m.group, user_name d m.user), tt)) c.members) ≡ (grid_of c).members
+  pub members_kept : from_list {R = group_member_cmp} (map (λ m. ((user_name d m.group, user_name d m.user), tt)) c.members) ≡ (grid_of c).members
   members_kept =
       from_list-same (λ (m : MemberRow). (user_name d m.group, user_name d m.user)) (λ (m : MemberRow). (user_name c m.group, user_name c m.user)) (λ m. tt) (λ m. tt) c.members
       (λ m here. let both = members_there c m (in_from_all (MemberStands c) c.members s.members m here) in λ i. (name_kept m.group both.0 i, name_kept m.user both.1 i)) (λ m here. refl)
 
-  pub triples_kept : from_list {R = triple_cmp} (map (λ t. (triple_of d next t, tt)) c.triples) ≡ (grid_of c).triples
+  pub triples_kept : from_list {R = thing_triple_cmp} (map (λ t. (triple_of d next t, tt)) c.triples) ≡ (grid_of c).triples
   triples_kept = triples_same c d next (λ t here. kept t.kind t.id (in_from_all (TripleStands c) c.triples s.triples t here))
 
   pub access_kept : from_list {R = access_cmp} (map (λ e. ((item_place d next e.kind e.id, user_name d e.user), e.level)) c.entries) ≡ (grid_of c).access

@@ -9,7 +9,7 @@ use Rattle.grid_model.specs.Names.{Text, Path, text_cmp, path_cmp}
 use Rattle.grid_model.specs.Rows.{item_number}
 use Rattle.grid_model.specs.declared.grid.ItemKind.{ItemKind}
 use Rattle.grid_model.specs.declared.grid.ItemKind.TheVariants as kind
-use Rattle.grid_model.specs.Grid.{Thing, Triple, object_at, collection_at, resource_named, user_named, thing_number, thing_names, thing_cmp, triple_cmp, member_cmp, access_cmp}
+use Rattle.grid_model.specs.Grid.{Thing, Triple, object_at, collection_at, resource_named, user_named, thing_number, thing_names, thing_cmp, thing_triple_cmp, group_member_cmp, access_cmp}
 use Rattle.grid_model.proofs.Comparing.{text_cmp_total, text_cmp-IsAntisymmetric, path_cmp_total, path_cmp-IsAntisymmetric}
 
 pub then_equal : (a b : Ordering) → ordering_then a b ≡ Equal → (a ≡ Equal) × (b ≡ Equal)
@@ -17,10 +17,10 @@ then_equal Less b e = absurd cc
 then_equal Equal b e = (refl, e)
 then_equal Greater b e = absurd cc
 
-pub member_cmp_total : IsTotalOrder member_cmp
+pub member_cmp_total : IsTotalOrder group_member_cmp
 member_cmp_total = then_total (on_total (λ (m : Text × Text). m.0) text_cmp_total) (on_total (λ (m : Text × Text). m.1) text_cmp_total)
 
-pub member_cmp-IsAntisymmetric : IsAntisymmetric member_cmp
+pub member_cmp-IsAntisymmetric : IsAntisymmetric group_member_cmp
 member_cmp-IsAntisymmetric a b e =
     let parts = then_equal (text_cmp a.0 b.0) (text_cmp a.1 b.1) e in
     λ i. (text_cmp-IsAntisymmetric a.0 b.0 parts.0 i, text_cmp-IsAntisymmetric a.1 b.1 parts.1 i)
@@ -65,13 +65,13 @@ thing_cmp-IsAntisymmetric a b e =
 abbrev words_of : Triple → Path
 words_of t = t.attribute ∷ t.value ∷ t.unit ∷ []
 
-pub triple_cmp_total : IsTotalOrder triple_cmp
+pub triple_cmp_total : IsTotalOrder thing_triple_cmp
 triple_cmp_total = then_total (on_total (λ (t : Triple). t.of) thing_cmp_total) (on_total words_of path_cmp_total)
 
 three_words : (a b c x y z : Text) → a ∷ b ∷ c ∷ [] ≡ x ∷ y ∷ z ∷ [] → (a ≡ x) × (b ≡ y) × (c ≡ z)
 three_words a b c x y z e = (cc, cc, cc)
 
-pub triple_cmp-IsAntisymmetric : IsAntisymmetric triple_cmp
+pub triple_cmp-IsAntisymmetric : IsAntisymmetric thing_triple_cmp
 triple_cmp-IsAntisymmetric a b e =
     let parts = then_equal (thing_cmp a.of b.of) (path_cmp (words_of a) (words_of b)) e in
     let words = three_words a.attribute a.value a.unit b.attribute b.value b.unit (path_cmp-IsAntisymmetric (words_of a) (words_of b) parts.1) in

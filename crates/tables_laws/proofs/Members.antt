@@ -6,7 +6,7 @@ use Rattle.std.specs.Cmp.{Equal-is}
 use Rattle.std.proofs.lemmas.Bool.{and_parts, and_from}
 use Rattle.grid_model.specs.Maps.{Set, add, remove}
 use Rattle.grid_model.specs.Names.{Text}
-use Rattle.grid_model.specs.Grid.{member_cmp}
+use Rattle.grid_model.specs.Grid.{group_member_cmp}
 use Rattle.grid_model.specs.Rows.{Cat, is_member, with_row, empty_cat}
 use Rattle.grid_model.specs.Rows as rows
 use Rattle.grid_model.specs.RowGrids.{grid_of, user_name}
@@ -42,7 +42,7 @@ module _ (c : Cat) (s : IsSound c) (m : MemberRow) (joins : can_join c m ≡ tru
   pub grid-with_member : grid_of (record c { members = with_row rows.member_cmp c.members m }) ≡ record (grid_of c) { members = add (grid_of c).members (key m) }
   grid-with_member =
       grid-same c (record c { members = with_row rows.member_cmp c.members m }) refl (record (grid_of c) { members = add (grid_of c).members (key m) }) (
-      ap (λ (ms : Set member_cmp). record (grid_of c) { members = ms }) (
+      ap (λ (ms : Set group_member_cmp). record (grid_of c) { members = ms }) (
       from_list-with_row member_cmp_total rows.member_cmp key (λ x. tt) member_cmp-IsAntisymmetric c.members m (λ x here.
       tied_so member_cmp_total member_cmp-IsAntisymmetric (key x) (key m) (is_eq (rows.member_cmp m x))
       (λ same. let ids = ids_same x here same in (Equal-is (rows.member_cmp m x)).1 (rw (equal_number m.group x.group (sym ids.0), equal_number m.user x.user (sym ids.1)) refl))
@@ -52,7 +52,7 @@ module _ (c : Cat) (s : IsSound c) (m : MemberRow) (joins : can_join c m ≡ tru
   pub grid-without_member : grid_of (record c { members = filter (λ o. not ((o.group == m.group) && (o.user == m.user))) c.members }) ≡ record (grid_of c) { members = remove (grid_of c).members (key m) }
   grid-without_member =
       grid-same c (record c { members = filter (λ o. not ((o.group == m.group) && (o.user == m.user))) c.members }) refl (record (grid_of c) { members = remove (grid_of c).members (key m) }) (
-      ap (λ (ms : Set member_cmp). record (grid_of c) { members = ms }) (
+      ap (λ (ms : Set group_member_cmp). record (grid_of c) { members = ms }) (
       from_list-without member_cmp_total rows.member_cmp key (λ x. tt) member_cmp-IsAntisymmetric c.members (λ o. not ((o.group == m.group) && (o.user == m.user))) (key m) (λ x here.
       tied_so member_cmp_total member_cmp-IsAntisymmetric (key x) (key m) ((x.group == m.group) && (x.user == m.user))
       (λ same. let ids = ids_same x here same in and_from (x.group == m.group) (x.user == m.user) (eq-eqb x.group m.group ids.0) (eq-eqb x.user m.user ids.1))

@@ -10,7 +10,7 @@ use Rattle.grid_model.specs.Names.{Path, path_cmp}
 use Rattle.grid_model.specs.Grid.{Grid, Object, object_at, collection_at}
 use Rattle.grid_model.specs.Rows.{Cat, object, has_object, has_collection, item_there, object_cmp, replicas_of, empty_cat}
 use Rattle.grid_model.specs.RowPaths.{collection_path}
-use Rattle.grid_model.specs.RowGrids.{Places, grid_of, collection_place, object_place, item_place, thing_of, object_of, replica_of}
+use Rattle.grid_model.specs.RowGrids.{CollectionPaths, grid_of, collection_place, object_place, item_place, thing_of, object_of, replica_of}
 use Rattle.grid_model.specs.Applying.{apply, apply_all, object_fits}
 use Rattle.grid_model.specs.declared.deltas.Delta.{Delta}
 use Rattle.grid_model.specs.declared.deltas.Delta.TheVariants as delta
@@ -60,7 +60,7 @@ module _ (c : Cat) (s : IsSound c) (r old : ObjectRow) (found : object c r.id �
   place_after id = item_place after (collection_path after) kind.Object id
 
   same_places : (o : ObjectRow) → object_place (collection_path after) o ≡ place o
-  same_places o = ap (λ (paths : Places). object_place paths o) (paths_same c after refl)
+  same_places o = ap (λ (paths : CollectionPaths). object_place paths o) (paths_same c after refl)
 
   new_place : place_after r.id ≡ to
   new_place = ap (λ (f : Option ObjectRow). unwrap_or (option_map (object_place (collection_path after)) f) []) (put_found (λ (x : ObjectRow). x.id) c.objects r) ∙ same_places r

@@ -5,7 +5,7 @@ use Rattle.std.proofs.lemmas.Bool.{and_parts}
 use Rattle.grid_model.specs.Maps.{from_list, rekey}
 use Rattle.grid_model.specs.Moves.{moved_thing}
 use Rattle.grid_model.specs.Names.{Path}
-use Rattle.grid_model.specs.Grid.{Thing, triple_cmp, access_cmp, thing_names}
+use Rattle.grid_model.specs.Grid.{Thing, thing_triple_cmp, access_cmp, thing_names}
 use Rattle.grid_model.specs.Rows.{Cat, collection, has_collection, item_there, item_number, entry_cmp}
 use Rattle.grid_model.specs.RowPaths.{names_within, collection_path}
 use Rattle.grid_model.specs.RowGrids.{grid_of, collection_place, item_place, thing_of, triple_of, user_name}
@@ -57,7 +57,7 @@ module _ (c d : Cat) (s : IsSound c) (t : IsSound d) (at : Path → Path) where
   -- metadata and access go with what they are of
   module _ (triples_stand : AllByRecursion (TripleStands d) c.triples) (entries_stand : AllByRecursion (EntryStands d) c.entries) (names : (id : ℕ) → user_name d id ≡ user_name c id)
       (things : (k : ItemKind) (id : ℕ) → item_there c k id ≡ true → thing_of d (collection_path d) k id ≡ moved_thing at (thing_of c (collection_path c) k id)) where
-    pub triples_moved : from_list {R = triple_cmp} (map (λ x. (triple_of d (collection_path d) x, tt)) c.triples) ≡ rekey (λ x. record x { of = moved_thing at x.of }) (grid_of c).triples
+    pub triples_moved : from_list {R = thing_triple_cmp} (map (λ x. (triple_of d (collection_path d) x, tt)) c.triples) ≡ rekey (λ x. record x { of = moved_thing at x.of }) (grid_of c).triples
     triples_moved =
         from_list-rekey triple_cmp_total triple_cmp-IsAntisymmetric (triple_of c (collection_path c)) (triple_of d (collection_path d)) (λ (x : TripleRow). tt) (λ x. record x { of = moved_thing at x.of }) c.triples
         (λ x here. ap (λ (of : Thing). record { of = of; attribute = x.attribute; value = x.value; unit = x.unit }) (things x.kind x.id (in_from_all (TripleStands c) c.triples s.tied.triples x here)))

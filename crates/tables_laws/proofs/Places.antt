@@ -11,7 +11,7 @@ use Rattle.grid_model.specs.RowPaths.{names_up, collection_path, object_path, it
 use Rattle.grid_model.specs.RowTrees.{IsTree}
 use Rattle.grid_model.specs.Applying.{gives_access}
 use Rattle.grid_model.specs.Grid.{Thing, object_at, collection_at, resource_named, user_named, thing_names}
-use Rattle.grid_model.specs.RowGrids.{Places, collection_place, object_place, item_place, thing_of, user_name, resource_name}
+use Rattle.grid_model.specs.RowGrids.{CollectionPaths, collection_place, object_place, item_place, thing_of, user_name, resource_name}
 use Rattle.grid_model.specs.declared.deltas.Item.{Item}
 use Rattle.grid_model.specs.declared.deltas.Item.TheVariants as item
 use Rattle.grid_model.specs.declared.grid.ItemKind.{ItemKind}
@@ -129,7 +129,7 @@ thing_name (collection_at p) = []
 thing_name (resource_named n) = n
 thing_name (user_named n) = n
 
-kind-thing_of : (c : Cat) (paths : Places) (k : ItemKind) (id : ℕ) → thing_kind (thing_of c paths k id) ≡ k
+kind-thing_of : (c : Cat) (paths : CollectionPaths) (k : ItemKind) (id : ℕ) → thing_kind (thing_of c paths k id) ≡ k
 unfolding thing_kind
 kind-thing_of c paths kind.Object id = refl
 kind-thing_of c paths kind.Collection id = refl

@@ -8,10 +8,10 @@ use Rattle.std.proofs.lemmas.Bool.Decides.{eqb_tells}
 use Rattle.grid_model.specs.Maps.{Map, from_list, rekey}
 use Rattle.grid_model.specs.Names.{Text}
 use Rattle.grid_model.specs.Renames.{renamed, renamed_thing, renamed_leaves}
-use Rattle.grid_model.specs.Grid.{Replica, Thing, resource_named, triple_cmp}
+use Rattle.grid_model.specs.Grid.{Replica, Thing, resource_named, thing_triple_cmp}
 use Rattle.grid_model.specs.Rows.{Cat, resource, has_resource, item_there, resource_cmp, replica_cmp, replicas_of, with_row}
 use Rattle.grid_model.specs.RowPaths.{collection_path}
-use Rattle.grid_model.specs.RowGrids.{Places, grid_of, object_of, replica_of, resource_name, thing_of, triple_of}
+use Rattle.grid_model.specs.RowGrids.{CollectionPaths, grid_of, object_of, replica_of, resource_name, thing_of, triple_of}
 use Rattle.grid_model.specs.Applying.{resource_fits}
 use Rattle.grid_model.specs.declared.deltas.ObjectRow.{ObjectRow}
 use Rattle.grid_model.specs.declared.deltas.ReplicaRow.{ReplicaRow}
@@ -108,9 +108,9 @@ module _ (c : Cat) (s : IsSound c) (r old : ResourceRow) (found : resource c r.i
   thing_after kind.Resource id has = ap resource_named (names_after id has)
   thing_after kind.User id has = refl
 
-  pub triples_renamed : from_list {R = triple_cmp} (map (λ x. (triple_of after (collection_path c) x, tt)) c.triples) ≡ rekey (λ x. record x { of = renamed_thing called x.of }) (grid_of c).triples
+  pub triples_renamed : from_list {R = thing_triple_cmp} (map (λ x. (triple_of after (collection_path c) x, tt)) c.triples) ≡ rekey (λ x. record x { of = renamed_thing called x.of }) (grid_of c).triples
   triples_renamed =
       from_list-rekey triple_cmp_total triple_cmp-IsAntisymmetric (triple_of c (collection_path c)) (triple_of after (collection_path c)) (λ (x : TripleRow). tt) (λ x. record x { of = renamed_thing called x.of }) c.triples
       (λ x here. ap (λ (of : Thing). record { of = of; attribute = x.attribute; value = x.value; unit = x.unit }) (thing_after x.kind x.id (in_from_all (TripleStands c) c.triples s.tied.triples x here)))
       (λ x y here there same. triples_apart after sound y (in_from_all (TripleStands after) c.triples sound.tied.triples y there) x (in_from_all (TripleStands after) c.triples sound.tied.triples x here)
-      (subst (λ (paths : Places). triple_of after paths x ≡ triple_of after paths y) (sym (paths_same c after refl)) same))
+      (subst (λ (paths : CollectionPaths). triple_of after paths x ≡ triple_of after paths y) (sym (paths_same c after refl)) same))

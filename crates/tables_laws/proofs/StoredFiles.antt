@@ -7,7 +7,7 @@ use Rattle.grid_model.specs.Rows.{Cat, object, has_object, with_row, replica_cmp
 use Rattle.grid_model.specs.RowPaths.{collection_path}
 use Rattle.grid_model.specs.Applying.{apply, apply_all, has_orphan, object_fits, replica_fits}
 use Rattle.grid_model.specs.Grid.{Grid, Object}
-use Rattle.grid_model.specs.RowGrids.{Places, grid_of, collection_place, object_place, object_of, replica_of}
+use Rattle.grid_model.specs.RowGrids.{CollectionPaths, grid_of, collection_place, object_place, object_of, replica_of}
 use Rattle.grid_model.specs.declared.deltas.Delta.TheVariants as delta
 use Rattle.grid_model.specs.declared.deltas.ObjectRow.{ObjectRow}
 use Rattle.grid_model.specs.declared.deltas.ReplicaRow.{ReplicaRow}
@@ -36,7 +36,7 @@ grid-object_replica c s o r new fits its =
     let found : object (with_object c o) r.object ≡ Some o = ap (λ i. object (with_object c o) i) its ∙ put_found (λ (x : ObjectRow). x.id) c.objects o in
     grid-with_replica (with_object c o) (sound-with_object c s o fits) r o found
     ∙ ap (λ (g : Grid). record g { objects = put g.objects (object_place (collection_path (with_object c o)) o) (filled c r (object_of c o)) }) (grid-with_object c s o new fits)
-    ∙ ap (λ (paths : Places). record (grid_of c) { objects = put (put (grid_of c).objects (object_place (collection_path c) o) (bare o)) (object_place paths o) (filled c r (object_of c o)) })
+    ∙ ap (λ (paths : CollectionPaths). record (grid_of c) { objects = put (put (grid_of c).objects (object_place (collection_path c) o) (bare o)) (object_place paths o) (filled c r (object_of c o)) })
     (paths_same c (with_object c o) refl)
     ∙ ap (λ (m : Map path_cmp Object). record (grid_of c) { objects = m }) (put-again path_cmp_total path_cmp-IsAntisymmetric (grid_of c).objects (object_place (collection_path c) o) (bare o) (filled c r (object_of c o)))
     ∙ ap (λ (x : Object). record (grid_of c) { objects = put (grid_of c).objects (object_place (collection_path c) o) (filled c r x) }) (made_is c s o new fits)
@@ -63,5 +63,5 @@ grid-stored_file c d vault o r n s new its e =
     ∙ ap (λ (g : Grid). record g { objects = put g.objects (object_place (collection_path one.0) o) (filled one.0 r (bare o)) }) (grid-unseen c one.0 (delta.NoOrphan vault) refl one.1)
     ∙ subst (λ (x : Cat). record (grid_of c) { objects = put (grid_of c).objects (object_place (collection_path x) o) (filled x r (bare o)) }
     ≡ record (grid_of c) { objects = put (grid_of c).objects (object_place (collection_path c) o) (filled c r (bare o)) }) freed.1
-    (ap (λ (paths : Places). record (grid_of c) { objects = put (grid_of c).objects (object_place paths o) (filled c r (bare o)) })
+    (ap (λ (paths : CollectionPaths). record (grid_of c) { objects = put (grid_of c).objects (object_place paths o) (filled c r (bare o)) })
     (paths_same c (record c { orphans = filter (λ x. not (x.vault == vault)) c.orphans }) refl))

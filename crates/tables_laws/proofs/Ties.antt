@@ -4,7 +4,7 @@ use Rattle.std.specs.Prelude.{not, ◌&&◌, ◌||◌, nat_lt}
 use Rattle.std.specs.List.{list_any, AllByRecursion}
 use Rattle.std.proofs.lemmas.Bool.{and_parts, and_from, not-true}
 use Rattle.grid_model.specs.Rows.{Cat, has_user, has_collection, has_object, has_resource, item_there, item_number, same_item, with_row, user_cmp, resource_cmp}
-use Rattle.grid_model.specs.Applying.{is_group_kind, is_group, is_user, can_join, user_fits, is_storage, is_node, same_kind, resource_fits, slot_fits, parent_fits, is_told_of, may_drop_collection, may_drop_object, is_empty_collection}
+use Rattle.grid_model.specs.Applying.{is_group_kind, has_group, is_user, can_join, user_fits, is_storage, is_node, same_kind, resource_fits, slot_fits, parent_fits, is_told_of, may_drop_collection, may_drop_object, is_empty_collection}
 use Rattle.tables_laws.proofs.Standing.{Stands, MemberStands, ReplicaStands, TripleStands, EntryStands, ResourceStands}
 use Rattle.grid_model.specs.Names.{is_name, same_text}
 use Rattle.grid_model.specs.declared.grid.ItemKind.{ItemKind}
@@ -63,8 +63,8 @@ module _ (c : Cat) (r : UserRow) (fits : user_fits c r ≡ true) where
     where
       joins : (m : MemberRow) → can_join c m ≡ true → can_join with_user m ≡ true
       joins m e =
-          let parts = and_parts (is_group c m.group) (is_user c m.user) e in
-          and_from (is_group with_user m.group) (is_user with_user m.user)
+          let parts = and_parts (has_group c m.group) (is_user c m.user) e in
+          and_from (has_group with_user m.group) (is_user with_user m.user)
           (user_stays (λ u. (u.id == m.group) && is_group_kind u.kind) parts.0) (user_stays (λ u. (u.id == m.user) && not (is_group_kind u.kind)) parts.1)
 
       items : (k : ItemKind) (j : ℕ) → item_there c k j ≡ true → item_there with_user k j ≡ true
@@ -266,7 +266,7 @@ any_weaker p q rows so e = let found = in_from_any p rows e in any_from_in q row
 
 pub members_there : (c : Cat) (m : MemberRow) → can_join c m ≡ true → (has_user c m.group ≡ true) × (has_user c m.user ≡ true)
 members_there c m e =
-    let parts = and_parts (is_group c m.group) (is_user c m.user) e in (
+    let parts = and_parts (has_group c m.group) (is_user c m.user) e in (
       any_weaker (λ u. (u.id == m.group) && is_group_kind u.kind) (λ u. u.id == m.group) c.users (λ u passes. (and_parts (u.id == m.group) (is_group_kind u.kind) passes).0) parts.0,
       any_weaker (λ u. (u.id == m.user) && not (is_group_kind u.kind)) (λ u. u.id == m.user) c.users (λ u passes. (and_parts (u.id == m.user) (not (is_group_kind u.kind)) passes).0) parts.1,
     )

@@ -7,7 +7,7 @@ use Rattle.std.specs.Cmp.{Equal-is, tied_itself}
 use Rattle.std.proofs.lemmas.Bool.{and_parts}
 use Rattle.grid_model.specs.Maps.{Set, add, remove}
 use Rattle.grid_model.specs.Names.{text_cmp}
-use Rattle.grid_model.specs.Grid.{Triple, triple_cmp}
+use Rattle.grid_model.specs.Grid.{Triple, thing_triple_cmp}
 use Rattle.grid_model.specs.Rows.{Cat, item_there, item_number, with_row, empty_cat}
 use Rattle.grid_model.specs.Rows as rows
 use Rattle.grid_model.specs.RowPaths.{collection_path}
@@ -58,7 +58,7 @@ module _ (c : Cat) (s : IsSound c) (t : TripleRow) (there : item_there c t.kind 
   pub grid-with_triple : grid_of (record c { triples = with_row rows.triple_cmp c.triples t }) ≡ record (grid_of c) { triples = add (grid_of c).triples (key t) }
   grid-with_triple =
       grid-same c (record c { triples = with_row rows.triple_cmp c.triples t }) refl (record (grid_of c) { triples = add (grid_of c).triples (key t) }) (
-      ap (λ (ts : Set triple_cmp). record (grid_of c) { triples = ts }) (
+      ap (λ (ts : Set thing_triple_cmp). record (grid_of c) { triples = ts }) (
       from_list-with_row triple_cmp_total rows.triple_cmp key (λ x. tt) triple_cmp-IsAntisymmetric c.triples t (λ x here.
       tied_so triple_cmp_total triple_cmp-IsAntisymmetric (key x) (key t) (is_eq (rows.triple_cmp t x))
       (λ same. ap (λ (y : TripleRow). is_eq (rows.triple_cmp t y)) (row_is x here same) ∙ ap is_eq (tied_itself orders.triple_cmp_total t))
@@ -67,7 +67,7 @@ module _ (c : Cat) (s : IsSound c) (t : TripleRow) (there : item_there c t.kind 
   pub grid-without_triple : grid_of (record c { triples = filter (λ o. not (eq_by_cmp rows.triple_cmp o t)) c.triples }) ≡ record (grid_of c) { triples = remove (grid_of c).triples (key t) }
   grid-without_triple =
       grid-same c (record c { triples = filter (λ o. not (eq_by_cmp rows.triple_cmp o t)) c.triples }) refl (record (grid_of c) { triples = remove (grid_of c).triples (key t) }) (
-      ap (λ (ts : Set triple_cmp). record (grid_of c) { triples = ts }) (
+      ap (λ (ts : Set thing_triple_cmp). record (grid_of c) { triples = ts }) (
       from_list-without triple_cmp_total rows.triple_cmp key (λ x. tt) triple_cmp-IsAntisymmetric c.triples (λ o. not (eq_by_cmp rows.triple_cmp o t)) (key t) (λ x here.
       tied_so triple_cmp_total triple_cmp-IsAntisymmetric (key x) (key t) (eq_by_cmp rows.triple_cmp x t)
       (λ same. ap (λ (y : TripleRow). is_eq (rows.triple_cmp y t)) (row_is x here same) ∙ ap is_eq (tied_itself orders.triple_cmp_total t))

@@ -1,6 +1,7 @@
 ghost use Rattle.std.specs.Prelude.{◌≡◌, ℕ, List, [], ◌∷◌, ◌++◌, Ok, Some, true, false};
 ghost use Rattle.grid_model.specs.Applying.{apply, apply_all};
-ghost use Rattle.grid_model.specs.RowGrids.{collection_place, grid_of, is_seen, item_place, object_of, object_place, replica_of, resource_of, triple_of, user_name};
+ghost use Rattle.grid_model.specs.RowGrids.{collection_place, grid_of, is_seen, item_place, object_of, object_place, replica_of};
+ghost use Rattle.grid_model.specs.RowGrids.{resource_of, triple_of, user_name};
 ghost use Rattle.grid_model.specs.Moves.{moved_grid};
 ghost use Rattle.grid_model.specs.Siblings.{with_resource, without_resource};
 ghost use Rattle.grid_model.specs.Renames.{renamed_grid};
@@ -39,7 +40,9 @@ pub fn deltas_keep_ties()
 
 /// A zone gives the grid its name and its stores, and changes nothing else of it.
 pub fn a_zone_names_the_grid()
-    ensures { (c d : Cat) (name : Text) (stores : ℕ) → apply c (Delta.Zone name stores) ≡ Ok d → grid_of d ≡ record (grid_of c) { zone = name; stores = stores } }
+    ensures {
+        (c d : Cat) (name : Text) (stores : ℕ) → apply c (Delta.Zone name stores) ≡ Ok d → grid_of d ≡ record (grid_of c) { zone = name; stores = stores }
+    }
 {}
 
 /// Orphans, numbers and the command that is not done are not seen of the grid.
@@ -52,7 +55,8 @@ pub fn unseen_deltas_leave_the_grid()
 pub fn a_new_collection_is_put()
     ensures { (deltas : List Delta) (c d : Cat) (row : CollectionRow) → apply_all empty_cat deltas ≡ Ok c → (row.id ≡ 0 → ⊥) →
         has_collection c row.id ≡ false → apply c (Delta.Collection row) ≡ Ok d →
-        grid_of d ≡ record (grid_of c) { collections = put (grid_of c).collections (collection_place (collection_path c) row.parent ++ row.name ∷ []) row.inherit } }
+        grid_of d
+            ≡ record (grid_of c) { collections = put (grid_of c).collections (collection_place (collection_path c) row.parent ++ row.name ∷ []) row.inherit } }
 {}
 
 /// An object with a new id is put into the grid in its collection, without replicas, and nothing else of the grid
@@ -61,7 +65,8 @@ pub fn a_new_object_is_put()
     ensures { (deltas : List Delta) (c d : Cat) (row : ObjectRow) → apply_all empty_cat deltas ≡ Ok c → has_object c row.id ≡ false →
         apply c (Delta.Object row) ≡ Ok d →
         grid_of d ≡ record (grid_of c) {
-          objects = put (grid_of c).objects (collection_place (collection_path c) row.collection ++ row.name ∷ []) (record { size = row.size; digest = row.digest; time = row.time; replicas = empty });
+          objects = put (grid_of c).objects (collection_place (collection_path c) row.collection ++ row.name ∷ [])
+              (record { size = row.size; digest = row.digest; time = row.time; replicas = empty });
         } }
 {}
 
@@ -71,7 +76,8 @@ pub fn a_replica_is_put()
     ensures { (deltas : List Delta) (c d : Cat) (row : ReplicaRow) (o : ObjectRow) → apply_all empty_cat deltas ≡ Ok c → object c row.object ≡ Some o →
         apply c (Delta.Replica row) ≡ Ok d →
         grid_of d ≡ record (grid_of c) {
-          objects = put (grid_of c).objects (object_place (collection_path c) o) (record (object_of c o) { replicas = put (object_of c o).replicas row.number (replica_of c row) });
+          objects = put (grid_of c).objects (object_place (collection_path c) o)
+              (record (object_of c o) { replicas = put (object_of c o).replicas row.number (replica_of c row) });
         } }
 {}
 
@@ -171,7 +177,8 @@ pub fn an_object_is_changed()
     ensures { (deltas : List Delta) (c d : Cat) (row old : ObjectRow) → apply_all empty_cat deltas ≡ Ok c → object c row.id ≡ Some old →
         row.collection ≡ old.collection → row.name ≡ old.name → apply c (Delta.Object row) ≡ Ok d →
         grid_of d ≡ record (grid_of c) {
-          objects = put (grid_of c).objects (object_place (collection_path c) old) (record (object_of c old) { size = row.size; digest = row.digest; time = row.time });
+          objects = put (grid_of c).objects (object_place (collection_path c) old)
+              (record (object_of c old) { size = row.size; digest = row.digest; time = row.time });
         } }
 {}
 

@@ -16,7 +16,7 @@ fn shows_a_new_grid(rt: &impl Abort, alloc: Global, store: &Store) -> Result<(),
     let admin = Text::copy_of(alloc, b"rods")?;
     assert_eq!(rt; store.tables().user_named(&admin), Some(1));
     let leaf = Text::copy_of(alloc, b"d0")?;
-    assert_eq!(rt; store.tables().resource_named(&leaf), Some(1));
+    assert_eq!(rt; store.tables().resource_named(&leaf), None);
     Ok(())
 }
 

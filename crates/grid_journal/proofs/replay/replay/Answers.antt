@@ -5,7 +5,7 @@ use Rattle.std.proofs.lemmas.Result.{err_from_is_err_and}
 use Rattle.frame_log.specs.Records.{placed_body}
 use Rattle.grid_model.specs.Rows.{Cat, empty_cat}
 use Rattle.grid_journal.specs.Stands.{Replays}
-use Rattle.grid_journal.specs.Replaying.{StopsAt, IsAtFault}
+use Rattle.grid_journal.specs.Replaying.{ReplayStopsAt, IsAtFault}
 use Rattle.grid_journal.specs.declared.replay.ReplayError.{ReplayError}
 use Rattle.grid_journal.proofs.LoopLemmas.{at_placed, fits_at, comes_on, comes_to_fault, comes_to_end, stops_later}
 use Rattle.grid_journal.proofs.replay.replay.Goals as goal
@@ -21,7 +21,7 @@ returns-in_err-replay_record c =
     let rs = map placed_body c.args.records.now in
     let r = placed_body c.logged-item.result in
     let at = at_placed c.args.records.now c.loop-logged.logged-index c.logged-item.result c.loop-logged-test.true c.logged-item.is in
-    let Q : ReplayError → Type 0 = StopsAt (λ k. Replays empty_cat rs (Err k)) in
+    let Q : ReplayError → Type 0 = ReplayStopsAt (λ k. Replays empty_cat rs (Err k)) in
     let stops : Q c.in_err-replay_record.field-0.0 = stops_later (IsAtFault r c.loop-logged.tables) (λ k. Replays empty_cat rs (Err k)) c.in_err-replay_record.field-0.0
     (λ k h. comes_to_fault rs c.loop-logged.logged-index k r c.loop-logged.tables at.0 at.1 c.loop-logged.invariant h) c.in_err-replay_record.ensures in
     let p = err_from_is_err_and c.from_residual.result c.from_residual.ensures.1 in

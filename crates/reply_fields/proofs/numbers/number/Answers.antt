@@ -3,7 +3,7 @@ use Rattle.std.specs.Char.{is_ascii_digit}
 use Rattle.std.proofs.lemmas.List.{take_rest}
 use Rattle.std.proofs.lemmas.Bool.{false≢true}
 use Rattle.reply_fields.specs.Fronts.{IsNoFront}
-use Rattle.reply_fields.specs.Spelled.{IsNumber, is_among}
+use Rattle.reply_fields.specs.Spelled.{IsNumber, is_among_bytes}
 use Rattle.reply_fields.proofs.Codes.{IsUnread-at}
 use Rattle.reply_fields.proofs.NumberReading.{Bounds, IsLeast, Taken-more, IsNoFront-digit, IsNoFront-ended}
 use Rattle.reply_fields.proofs.numbers.number.Goals as goal
@@ -44,7 +44,7 @@ returns-then-len-eq0-2 c =
       | then-loop-len-test+else-is_ascii_digit w ↦ λ h. sym w.is_ascii_digit.ensures.value ∙ w.if-is_ascii_digit.false
       | else-loop-len-test w ↦ λ h. absurd (omega (arith, h, w.loop-len-test.false))
     ] in
-    let no_end : 0 < len → len < length rest → ¬ (is_among c.args.ends.now (get_or rest len 0) ≡ true) = elim c.then-len-eq0-2.branch [
+    let no_end : 0 < len → len < length rest → ¬ (is_among_bytes c.args.ends.now (get_or rest len 0) ≡ true) = elim c.then-len-eq0-2.branch [
       | then-len-eq0-2-via-then-len-eq0-2 w ↦ λ some h. absurd (omega (arith, some, w.if-len-eq0-2.true))
       | then-len-eq0-2-via-else-len-eq0-2+then-len-rest w ↦ λ some h. absurd (omega (arith, h, w.if-len-rest.true))
       | then-len-eq0-2-via-else-len-eq0-2+else-len-rest+then-not-contains w ↦ λ some h e. false≢true (sym w.if-not-contains.true ∙ w.contains.ensures.value ∙ e)

@@ -2,7 +2,7 @@ use Rattle.std.proofs.Common.{◌≡◌, ◌<◌, ◌-◌, ◌+◌, true, get_or
 use Rattle.std.proofs.lemmas.Bool.{false≢true}
 use Rattle.grid_model.specs.Words.{is_bare}
 use Rattle.reply_fields.specs.Fronts.{IsRead}
-use Rattle.reply_fields.specs.Spelled.{IsEndedWord, is_among}
+use Rattle.reply_fields.specs.Spelled.{IsEndedWord, is_among_bytes}
 use Rattle.reply_fields.proofs.Codes.{IsUnread-rest, IsRead-rest}
 use Rattle.reply_fields.proofs.WordReading.{Blanks}
 use Rattle.reply_fields.proofs.WordFronts.{IsNoFront-inner, IsNoFront-open, IsNoFront-quote, IsNoFront-closed, IsFront-quoted}
@@ -51,7 +51,7 @@ returns-then-end-rest c =
       | else-loop-len-test w ↦ absurd (omega (arith, within, w.loop-len-test.false))
     ] in
     let quotes = ap is_bare (sym c.as_slice.ensures.value) ∙ sym c.is_bare.ensures ∙ c.if-is_bare.false in
-    let none : len + 1 < length rest → ¬ (is_among c.args.ends.now (get_or rest (len + 1) 0) ≡ true) = elim c.then-end-rest.branch [
+    let none : len + 1 < length rest → ¬ (is_among_bytes c.args.ends.now (get_or rest (len + 1) 0) ≡ true) = elim c.then-end-rest.branch [
       | then-end-rest-via-then-end-rest w ↦ λ h. absurd (omega (arith, h, w.if-end-rest.true))
       | then-end-rest-via-else-end-rest+then-not-contains w ↦ λ h e. false≢true (sym w.if-not-contains.true ∙ w.contains.ensures.value ∙ e)
     ] in
@@ -71,7 +71,7 @@ returns c =
     ] in
     let quotes = ap is_bare (sym c.as_slice.ensures.value) ∙ sym c.is_bare.ensures ∙ c.if-is_bare.false in
     let room : len + 1 < length rest = omega (arith, within, c.if-end-rest.false) in
-    let end : is_among c.args.ends.now (get_or rest (len + 1) 0) ≡ true = sym c.contains.ensures.value ∙ c.if-not-contains.false in
+    let end : is_among_bytes c.args.ends.now (get_or rest (len + 1) 0) ≡ true = sym c.contains.ensures.value ∙ c.if-not-contains.false in
     subst (λ w. IsRead (IsEndedWord c.args.ends.now) text c.args.at (w, get_or rest (len + 1) 0) (c.args.at + (len + 1) + 1)) (sym c.from_vec.ensures)
     (IsRead-rest (IsEndedWord c.args.ends.now) text c.args.at (len + 1 + 1) (c.args.at + (len + 1) + 1) (c.loop-len.word.items, get_or rest (len + 1) 0) (omega (arith, c.requires.place)) (omega (arith, room)) (omega arith)
     (IsFront-quoted c.args.ends.now blanks rest c.loop-len.word.items len c.loop-len.invariant room quote quotes end))

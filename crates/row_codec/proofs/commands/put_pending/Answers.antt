@@ -1,6 +1,6 @@
 use Rattle.std.proofs.Common.{List, [], ◌∷◌}
 use Rattle.std.proofs.lemmas.Result.{on_ok_weaker}
-use Rattle.grid_model.specs.Deltas.{Part, u32, u64, text, each, mark, passed, running, call}
+use Rattle.grid_model.specs.Deltas.{Part, u32, u64, text, each, mark, passed, running_call, call}
 use Rattle.row_codec.proofs.Adding.{adds, adds_last}
 use Rattle.row_codec.proofs.commands.put_pending.Goals as goal
 
@@ -9,7 +9,7 @@ returns c =
     let r = c.args.row.now in
     let last = each call r.undo in
     let parts_7 : List Part = last ∷ [] in
-    let parts_6 : List Part = running r.running ∷ parts_7 in
+    let parts_6 : List Part = running_call r.running ∷ parts_7 in
     let parts_5 : List Part = each passed r.passed ∷ parts_6 in
     let parts_4 : List Part = each mark r.marks ∷ parts_5 in
     let parts_3 : List Part = text r.line ∷ parts_4 in
@@ -32,6 +32,6 @@ returns c =
     (adds (text r.line) parts_4 o3 o4 end c.in_ok-put_text.ensures
     (adds (each mark r.marks) parts_5 o4 o5 end c.in_ok-put_list.ensures
     (adds (each passed r.passed) parts_6 o5 o6 end c.in_ok-put_list-2.ensures
-    (adds (running r.running) parts_7 o6 o7 end c.in_ok-put_running.ensures
+    (adds (running_call r.running) parts_7 o6 o7 end c.in_ok-put_running.ensures
     (adds_last last o7 end e))))))))
     c.put_list-3.ensures

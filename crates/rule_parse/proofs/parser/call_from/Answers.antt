@@ -1,6 +1,6 @@
 use Rattle.std.proofs.Common.{sym, ap, subst, ◌∙◌}
 use Rattle.grid_model.specs.Parsed.{call_of}
-use Rattle.rule_lex.specs.Seen.{placed}
+use Rattle.rule_lex.specs.Seen.{rule_token_of}
 use Rattle.rule_parse.specs.Grammar.{SpellsCall}
 use Rattle.rule_parse.specs.Readers.{read_call, whole_call, new_call}
 use Rattle.rule_parse.specs.RuleTexts.{located, StopsAt}
@@ -24,7 +24,7 @@ loop-token-preserved c =
     let front = c.loop-token.yielded in
     record {
       runs = ap (run read_call new_call) (tokens_more front x)
-          ∙ run_more read_call new_call (tokens_of front) (located (placed x)) (calling_of c.loop-token.calling) (calling_of c.take.new.self) c.loop-token.invariant.runs (follows_some (calling_of c.take.new.self) c.in_ok-take.field-0 c.if-not-branch.false c.in_ok-take.ensures);
+          ∙ run_more read_call new_call (tokens_of front) (located (rule_token_of x)) (calling_of c.loop-token.calling) (calling_of c.take.new.self) c.loop-token.invariant.runs (follows_some (calling_of c.take.new.self) c.in_ok-take.field-0 c.if-not-branch.false c.in_ok-take.ensures);
       split = split_more x c.loop-token.invariant.split next.0 next.1;
     }
 

@@ -1,13 +1,13 @@
 use Rattle.std.proofs.Common.{Err, map, ap}
 use Rattle.grid_model.specs.Parsed.{rule_of}
-use Rattle.rule_lex.specs.Seen.{placed}
+use Rattle.rule_lex.specs.Seen.{rule_token_of}
 use Rattle.rule_parse.specs.Grammar.{SpellsRules}
 use Rattle.rule_parse.proofs.Readings.{one_list_of_rules}
 use Rattle.rule_parse.proofs.TextLemmas.{IsRight, right_of_tokens, right_of_error, only_value, only_refused}
 use Rattle.rule_parse.proofs.texts.read_rules.Goals as goal
 
 read : (c : goal.After-rules_from) → IsRight SpellsRules one_list_of_rules (map rule_of) c.rules_from.result c.args.text.now
-read c = right_of_tokens SpellsRules one_list_of_rules (map rule_of) c.rules_from.result c.args.text.now (map placed c.in-Ok.tokens.items) c.in-Ok.ensures.tokens c.rules_from.ensures.rules c.rules_from.ensures.stops
+read c = right_of_tokens SpellsRules one_list_of_rules (map rule_of) c.rules_from.result c.args.text.now (map rule_token_of c.in-Ok.tokens.items) c.in-Ok.ensures.tokens c.rules_from.ensures.rules c.rules_from.ensures.stops
 
 unread : (c : goal.In-Err) → IsRight SpellsRules one_list_of_rules (map rule_of) (Err c.in-Err.error) c.args.text.now
 unread c = right_of_error SpellsRules one_list_of_rules (map rule_of) c.in-Err.error c.args.text.now (λ place cause is. c.in-Err.ensures.bad_token place cause (ap Err is))
