@@ -1,10 +1,10 @@
 -- What the carrying out of a plan leaves of the stores, whatever catalogue a stop leaves of main.
 use Rattle.std.proofs.Common.{◌≡◌, ℕ, ◌≤◌, List, [], Result, Ok, arith}
 use Rattle.std.specs.Prelude.{⊤, All}
-use Rattle.grid_outside.specs.Device.{EachMember}
+use Rattle.grid_outside.specs.Device.{EachMember, Span}
 use Rattle.grid_outside.specs.Disk.{DiskState}
 use Rattle.grid_outside.specs.Files.{StoreState}
-use Rattle.grid_vault.specs.Vault.{IsAmong, WritesOnly, IsStableAt}
+use Rattle.grid_vault.specs.Vault.{IsAmong, WritesAmong, IsStableAt}
 use Rattle.grid_model.specs.Names.{Text}
 use Rattle.grid_model.specs.Rows.{Cat}
 use Rattle.grid_model.specs.Whole.{IsNamed}
@@ -16,20 +16,21 @@ use Rattle.grid_deed.specs.Held.{IsCommitted}
 use Rattle.file_laws.specs.Plans.{Turns}
 use Rattle.grid_deed.specs.Safe.{KeepWhole}
 use Rattle.grid_deed.proofs.Frames.{goes_nowhere, stores_as, stores_went}
-use Rattle.grid_deed.proofs.Wholes.{whole_turned, whole_turned_none, keep_commit, keep_write, keep_more}
+use Rattle.grid_deed.proofs.Wholes.{whole_turned, whole_turned_none, keep_commit, keep_more}
+use Rattle.grid_deed.proofs.Touched.{keep_touched}
 
 module _ {B : Type 0} (state : B → StoreState) (kept mid : Cat) (begins : Turns [] [] kept mid) (from : ℕ) (old middle : Journal) (main_old main_mid : DiskState) (stores_old stores_mid : List B) (same : stores_mid ≡ stores_old) where
   -- the first changes were kept, or how far that came
   pub keep_first : (result : Result ⊤ JournalError) → IsCommitted kept mid from old main_old main_mid result middle → KeepWhole state from kept main_old main_mid stores_old stores_mid
   keep_first result c = keep_commit state from kept mid old middle main_old main_mid result stores_old stores_mid same c (λ t late w. whole_turned_none state t kept mid stores_old begins w)
 
-  module _ (c : IsCommitted kept mid from old main_old main_mid (Ok tt) middle) (tells : main_mid.tells ≡ main_old.tells) (at to : ℕ) (later : from ≤ at) (mid_last : main_mid.last ≤ at) (files : List NewFile) (stores_new : List B)
-      (writes : WritesOnly state at to files stores_mid stores_new) (named : (slot name : ℕ) → IsAmong files slot name → IsNamed mid slot name) where
-    -- the files were made, or how far that came
+  module _ (c : IsCommitted kept mid from old main_old main_mid (Ok tt) middle) (tells : main_mid.tells ≡ main_old.tells) (at to : ℕ) (later : from ≤ at) (mid_last : main_mid.last ≤ at) (files : List NewFile) (touched : ℕ → Type 0) (stores_new : List B)
+      (writes : Span state at to (WritesAmong files) touched stores_mid stores_new) (named : (slot name : ℕ) → IsAmong files slot name → IsNamed mid slot name) where
+    -- the files were made, or how far that came, whichever stores were called
     pub keep_files : KeepWhole state from kept main_old main_mid stores_old stores_new
     keep_files =
-        keep_more state from at kept mid middle main_old main_mid main_mid stores_old stores_mid stores_new later tells (λ told settled. c.ends.settled told) c.ends.held mid_last (goes_nowhere at main_mid) (stores_went state at to files stores_mid stores_new writes)
-        (keep_first (Ok tt) c) (keep_write state at to mid files middle main_mid stores_mid stores_new c.ends.held mid_last writes named)
+        keep_more state from at kept mid middle main_old main_mid main_mid stores_old stores_mid stores_new later tells (λ told settled. c.ends.settled told) c.ends.held mid_last (goes_nowhere at main_mid) (stores_went state at to (WritesAmong files) touched stores_mid stores_new writes)
+        (keep_first (Ok tt) c) (keep_touched state (WritesAmong files) touched files (λ k a b h. h) at to mid middle main_mid stores_mid stores_new c.ends.held mid_last writes named)
 
     -- the last changes were kept, or how far that came
     pub keep_last : (end : Cat) (body : Text) → Turns files body mid end → at ≤ to → EachMember (λ k store. (state store).last ≤ to) stores_new → All (IsStableAt state stores_new body) files

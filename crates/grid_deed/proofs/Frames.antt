@@ -48,10 +48,10 @@ module _ {B : Type 0} (state : B → StoreState) where
   pub stores_as : (from : ℕ) (old new : List B) → new ≡ old → StoresGo state from old new
   stores_as from old new same = let P : List B → Type 0 = λ l. StoresGo state from old l in subst P (sym same) (stores_same from old)
 
-  pub stores_went : (from to : ℕ) (files : List NewFile) (old new : List B) → WritesOnly state from to files old new → StoresGo state from old new
-  stores_went from to files old new span = record {
+  pub stores_went : (from to : ℕ) (change : ℕ → Files → Files → Type 0) (touched : ℕ → Type 0) (old new : List B) → Span state from to change touched old new → StoresGo state from old new
+  stores_went from to change touched old new span = record {
     count = span.count;
-    later = λ k was_at is_at was is. goes_between from to (WritesAmong files k) (state was_at) (state is_at) (span.each k was_at is_at was is);
+    later = λ k was_at is_at was is. goes_between from to (change k) (state was_at) (state is_at) (span.each k was_at is_at was is);
   }
 
   module _ (from to : ℕ) (le : from ≤ to) (old mid new : List B) (first : StoresGo state from old mid) (then : StoresGo state to mid new) where
@@ -181,10 +181,7 @@ module _ {D A P : Type 0} (disk : D → DiskState) (plugin : P → StoreState) w
         main_last = λ was. subst last (sym main) (omega (arith, was, drawn));
         stores_last = λ was. last_moments plugin o.moments n.moments change touched o.stores.items n.stores.items span;
         main = subst goes (sym main) (goes_nowhere o.moments (disk o.main));
-        stores = record {
-          count = span.count;
-          later = λ k was_at is_at was is. goes_between o.moments n.moments (change k) (plugin was_at) (plugin is_at) (span.each k was_at is_at was is);
-        };
+        stores = stores_went plugin o.moments n.moments change touched o.stores.items n.stores.items span;
         spare = spare;
         ambient = ambient;
         cause = λ f. absurd (not f);

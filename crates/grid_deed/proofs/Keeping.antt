@@ -15,14 +15,14 @@ use Rattle.grid_model.specs.Rows.{Cat, empty_cat}
 use Rattle.grid_model.specs.Applying.{IsMade, apply_all}
 use Rattle.grid_model.specs.declared.deltas.Delta.{Delta}
 use Rattle.grid_model.specs.declared.grid.Side.{Side}
-use Rattle.grid_journal.specs.Journal.{Journal, Keeps}
+use Rattle.grid_journal.specs.Journal.{Journal, Keeps, ClosesAt}
 use Rattle.grid_journal.specs.Store.{Commits}
 use Rattle.grid_journal.specs.Stands.{StandsEither, StandsFor}
 use Rattle.grid_journal.proofs.KeepingLemmas.{keeps_stands as journal_stands}
 use Rattle.grid_journal.proofs.DeltaLemmas.{apply_all_after}
 use Rattle.grid_journal.specs.declared.error.JournalError.{JournalError}
 use Rattle.grid_journal.specs.declared.error.JournalError.TheVariants as journal
-use Rattle.grid_deed.specs.Held.{IsHeld, ClosesAt, IsKept, CommitLeaves, IsCommitted}
+use Rattle.grid_deed.specs.Held.{IsHeld, IsKept, CommitLeaves, IsCommitted}
 
 -- ---- what main stands for
 

@@ -4,6 +4,7 @@ pub mod Wholes
 pub mod Sweeping
 pub mod DeedLemmas
 pub mod DeedWholes
+pub mod CopyDeeds
 pub mod Touched
 pub mod Discards
 pub mod ManyDiscards

@@ -102,13 +102,13 @@ removed_all files c slot before image no_replica step w = record {
     by other file is (inl kept) = w.accounted other file (sym kept ∙ is)
     by other file is (inr gone) = let absent : file_at image other ≡ None = gone in absurd cc
 
-module _ {B : Type 0} (plugin : B → StoreState) (c : Cat) (files : List NewFile) (from to : ℕ) (main_old : DiskState) (s : Journal) (held : IsHeld c main_old s) (last : main_old.last ≤ from) (stores_old stores_mid : List B) (are : AreOrphans c files) (own : HaveOwnNames files)
+module _ {D B : Type 0} (disk : D → DiskState) (plugin : B → StoreState) (c : Cat) (files : List NewFile) (from to : ℕ) (main_old : D) (s : Journal) (held : IsHeld c (disk main_old) s) (last : (disk main_old).last ≤ from) (stores_old stores_mid : List B) (are : AreOrphans c files) (own : HaveOwnNames files)
     (later : from ≤ to) (removes : RemovesOnly plugin from to files stores_old stores_mid) where
   sound : IsSound c
   sound = sound-made held.made.0 c held.made.1
 
-  still : (after : Cat) → IsTrue main_old.tells → IsSettled main_old → Leaves from (StandsEither c after) main_old
-  still after told settled t image late left = let P : Text → Type 0 = λ m. StandsFor m c in inl (subst P (sym (settled t image (omega (arith, late, last)) left)) (held_stands c main_old s held told))
+  still : (after : Cat) → IsTrue (disk main_old).tells → IsSettled (disk main_old) → Leaves from (StandsEither c after) (disk main_old)
+  still after told settled t image late left = let P : Text → Type 0 = λ m. StandsFor m c in inl (subst P (sym (settled t image (omega (arith, late, last)) left)) (held_stands c (disk main_old) s held told))
 
   no_replica : (slot : ℕ) (r : ReplicaRow) → IsIn c.replicas r → ¬ IsAmong files slot r.vault
   no_replica slot r here a =
@@ -121,11 +121,11 @@ module _ {B : Type 0} (plugin : B → StoreState) (c : Cat) (files : List NewFil
       at_member P (g ∷ fs) all (suc k) f is = at_member P fs all.1 k f is
 
   -- the files were removed, or some of them
-  pub keep_removes : KeepWhole plugin from c main_old main_old stores_old stores_mid
+  pub keep_removes : KeepWhole plugin from c (disk main_old) (disk main_old) stores_old stores_mid
   keep_removes told settled whole t image d late left stands =
       let P : Text → Type 0 = λ m. StandsFor m d in
-      let standing : StandsFor main_old.holds d = subst P (settled t image (omega (arith, late, last)) left) stands in
-      whole_of plugin t c d stores_mid (one_cat main_old.holds c d (held_stands c main_old s held told) standing) (record {
+      let standing : StandsFor (disk main_old).holds d = subst P (settled t image (omega (arith, late, last)) left) stands in
+      whole_of plugin t c d stores_mid (one_cat (disk main_old).holds c d (held_stands c (disk main_old) s held told) standing) (record {
         rows = (whole t late).rows;
         files = λ slot store image is told left.
             let was = at_place stores_old slot (omega (arith, slice_get_within stores_mid slot store is, removes.count)) in
@@ -136,19 +136,19 @@ module _ {B : Type 0} (plugin : B → StoreState) (c : Cat) (files : List NewFil
       })
 
   -- memory ran out before any row was taken away
-  pub swept_memory : IsSwept plugin c files from main_old main_old stores_old stores_mid s (Err journal.Memory) s
-  swept_memory = record { gone = []; left = files; after = c; split = all_left files; applied = refl; ends = held_stands c main_old s held; leaves = still c }
+  pub swept_memory : IsSwept disk plugin c files from main_old main_old stores_old stores_mid s (Err journal.Memory) s
+  swept_memory = record { gone = []; left = files; after = c; split = all_left files; applied = refl; ends = held_stands c (disk main_old) s held; leaves = still c }
 
   module _ (gone left : List NewFile) (split : SplitInto files gone left) (fewer : FewerThanFaults plugin left stores_old stores_mid) where
     -- none is gone
-    pub swept_none : gone ≡ [] → IsSwept plugin c files from main_old main_old stores_old stores_mid s (Ok left) s
+    pub swept_none : gone ≡ [] → IsSwept disk plugin c files from main_old main_old stores_old stores_mid s (Ok left) s
     swept_none no_gone = record {
       gone = gone;
       left = left;
       after = c;
       split = split;
       applied = ap (λ (g : List NewFile). apply_all c (no_orphans g)) no_gone;
-      ends = (refl, fewer, inl (no_gone, refl, held));
+      ends = (refl, fewer, inl (no_gone, refl, held, refl));
       leaves = still c;
     }
 
@@ -163,17 +163,17 @@ module _ {B : Type 0} (plugin : B → StoreState) (c : Cat) (files : List NewFil
     answer_of (Ok done) = Ok left
     answer_of (Err e) = Err e
 
-    module _ (main_new : DiskState) (new : Journal) (goes : Goes to main_old main_new) (stores_end : List B) (same : stores_end ≡ stores_mid) where
-      pub swept_then : (result : Result ⊤ JournalError) → IsCommitted c taken.0 to s main_old main_new result new → IsSwept plugin c files from main_old main_new stores_old stores_end s (answer_of result) new
+    module _ (main_new : D) (new : Journal) (goes : Goes to (disk main_old) (disk main_new)) (stores_end : List B) (same : stores_end ≡ stores_mid) where
+      pub swept_then : (result : Result ⊤ JournalError) → IsCommitted c taken.0 to s (disk main_old) (disk main_new) result new → IsSwept disk plugin c files from main_old main_new stores_old stores_end s (answer_of result) new
       swept_then result again = by result again
         where
-          leaves : (r : Result ⊤ JournalError) → IsCommitted c taken.0 to s main_old main_new r new → IsTrue main_old.tells → IsSettled main_old → Leaves from (StandsEither c taken.0) main_new
+          leaves : (r : Result ⊤ JournalError) → IsCommitted c taken.0 to s (disk main_old) (disk main_new) r new → IsTrue (disk main_old).tells → IsSettled (disk main_old) → Leaves from (StandsEither c taken.0) (disk main_new)
           leaves r a told settled t image late left_then = elim (cases_lt to t) [
             | inl now ↦ either_of c taken.0 r image (a.leaves told settled t image now left_then)
             | inr le ↦ still taken.0 told settled t image late (goes.earlier t image le left_then)
           ]
 
-          by : (r : Result ⊤ JournalError) → IsCommitted c taken.0 to s main_old main_new r new → IsSwept plugin c files from main_old main_new stores_old stores_end s (answer_of r) new
+          by : (r : Result ⊤ JournalError) → IsCommitted c taken.0 to s (disk main_old) (disk main_new) r new → IsSwept disk plugin c files from main_old main_new stores_old stores_end s (answer_of r) new
           by (Ok done) a = record {
             gone = gone;
             left = left;
@@ -185,8 +185,8 @@ module _ {B : Type 0} (plugin : B → StoreState) (c : Cat) (files : List NewFil
           }
           by (Err e) a = record { gone = gone; left = left; after = taken.0; split = split; applied = taken.1; ends = a.ends; leaves = leaves (Err e) a }
 
-      pub keep_taken_all : EachMember (λ k store. (plugin store).last ≤ to) stores_mid → All (IsGoneAt plugin stores_mid) gone → (result : Result ⊤ JournalError) → IsCommitted c taken.0 to s main_old main_new result new → KeepWhole plugin from c main_old main_new stores_old stores_end
+      pub keep_taken_all : EachMember (λ k store. (plugin store).last ≤ to) stores_mid → All (IsGoneAt plugin stores_mid) gone → (result : Result ⊤ JournalError) → IsCommitted c taken.0 to s (disk main_old) (disk main_new) result new → KeepWhole plugin from c (disk main_old) (disk main_new) stores_old stores_end
       keep_taken_all lasts gone_at result again =
-          keep_more plugin from to c c s main_old main_old main_new stores_old stores_mid stores_end later refl (λ told settled. settled) held (omega (arith, last, later)) goes (stores_as plugin to stores_mid stores_end same) keep_removes
-          (keep_commit plugin to c taken.0 s new main_old main_new result stores_mid stores_end same again
+          keep_more plugin from to c c s (disk main_old) (disk main_old) (disk main_new) stores_old stores_mid stores_end later refl (λ told settled. settled) held (omega (arith, last, later)) goes (stores_as plugin to stores_mid stores_end same) keep_removes
+          (keep_commit plugin to c taken.0 s new (disk main_old) (disk main_new) result stores_mid stores_end same again
           (λ t late w. whole_forgotten plugin t gone c taken.0 stores_mid (forgets_gone gone c taken.0 sound are_gone taken.1) (λ slot store is. omega (arith, lasts slot store is, late)) gone_at w))

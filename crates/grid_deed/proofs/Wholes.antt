@@ -1,5 +1,5 @@
 -- What calls leave of the stores beside main: they are whole at each moment.
-use Rattle.std.proofs.Common.{◌≡◌, ◌⊎◌, inl, inr, ℕ, ◌+◌, ◌<◌, ◌≤◌, List, [], slice_get, Some, Result, Ok, IsTrue, sym, ◌∙◌, subst, arith}
+use Rattle.std.proofs.Common.{◌≡◌, ◌⊎◌, inl, inr, ℕ, ◌<◌, ◌≤◌, List, [], slice_get, Some, Result, Ok, IsTrue, sym, ◌∙◌, subst, arith}
 use Rattle.std.specs.Prelude.{⊤, All}
 use Rattle.std.proofs.lemmas.Bool.{cases_lt}
 use Rattle.std.proofs.lemmas.Option.{slice_get_within}
@@ -8,7 +8,7 @@ use Rattle.grid_outside.specs.Disk.{DiskState}
 use Rattle.grid_outside.specs.Files.{Files, StoreState, file_at, finished}
 use Rattle.grid_outside.proofs.Spans.{at_place}
 use Rattle.grid_vault.proofs.Writing.{all_at}
-use Rattle.grid_vault.specs.Vault.{IsAmong, WritesAmong, WritesOnly, IsStableAt}
+use Rattle.grid_vault.specs.Vault.{IsAmong, WritesAmong, IsStableAt}
 use Rattle.grid_model.specs.Names.{Text}
 use Rattle.grid_model.specs.Rows.{Cat}
 use Rattle.grid_model.specs.Whole.{leaf_slot, IsFinishedAs, IsNamed, IsWhole}
@@ -116,22 +116,6 @@ module _ {B : Type 0} (state : B → StoreState) where
         | inl is ↦ whole_of t kept d stores_old is (whole t late)
         | inr is ↦ whole_of t after d stores_old is (step t late (whole t late))
       ])
-
-  -- files were written that are named
-  pub keep_write : (from to : ℕ) (c : Cat) (files : List NewFile) (s : Journal) (main : DiskState) (old new : List B) → IsHeld c main s → main.last ≤ from → WritesOnly state from to files old new → ((slot name : ℕ) → IsAmong files slot name → IsNamed c slot name)
-      → KeepWhole state from c main main old new
-  keep_write from to c files s main old new held last writes named told settled whole t image d late left stands =
-      let P : Text → Type 0 = λ m. StandsFor m d in
-      let here : StandsFor main.holds d = subst P (settled t image (omega (arith, late, last)) left) stands in
-      whole_of t c d new (one_cat main.holds c d (held_stands c main s held told) here) (record {
-        rows = (whole t late).rows;
-        files = λ slot store image is told left.
-            let was = at_place old slot (omega (arith, slice_get_within new slot store is, writes.count)) in
-            let between = writes.each slot was.0 store was.1 is in
-            let told_before : IsTrue (state was.0).tells = subst IsTrue between.tells told in
-            let step = between.images told_before t image late left in
-            written files c slot step.0 image (named slot) step.2 ((whole (from + 1) (omega arith)).files slot was.0 step.0 was.1 told_before step.1);
-      })
 
   -- what was whole at each moment before stays so
   pub keep_more : (from to : ℕ) (c mid : Cat) (s : Journal) (main_old main_mid main_new : DiskState) (old stores_mid new : List B) → from ≤ to → main_mid.tells ≡ main_old.tells → (IsTrue main_old.tells → IsSettled main_old → IsSettled main_mid)

@@ -47,7 +47,8 @@ module _ {D A P : Type 0} (disk : D → DiskState) (plugin : P → StoreState) w
   pub record Frame (failed : Type 0) (old new : Outside D A P) : Type 0 where
     pub drawn : old.moments ≤ new.moments
     pub main_last : (disk old.main).last ≤ old.moments → (disk new.main).last ≤ new.moments
-    pub stores_last : EachMember (λ k store. (plugin store).last ≤ old.moments) old.stores.items → EachMember (λ k store. (plugin store).last ≤ new.moments) new.stores.items
+    pub stores_last : EachMember (λ k store. (plugin store).last ≤ old.moments) old.stores.items
+        → EachMember (λ k store. (plugin store).last ≤ new.moments) new.stores.items
     pub main : Goes old.moments (disk old.main) (disk new.main)
     pub stores : StoresGo plugin old.moments old.stores.items new.stores.items
     pub spare : new.spare ≡ old.spare

@@ -1,13 +1,12 @@
 -- What a store of the catalogue holds in memory, and what main has beside it.
-use Rattle.std.specs.Prelude.{◌≡◌, ℕ, ◌+◌, ◌^◌, ◌<◌, List, [], length, Result, Ok, Err, IsTrue, ⊤}
+use Rattle.std.specs.Prelude.{◌≡◌, ℕ, ◌^◌, ◌<◌, [], Result, Ok, Err, IsTrue, ⊤}
 use Rattle.grid_outside.specs.Device.{IsSettled, Leaves}
 use Rattle.grid_outside.specs.Disk.{DiskState}
 use Rattle.grid_outside.specs.declared.outside.Wear.TheVariants.{Log}
-use Rattle.frame_log.specs.Log.{IsLog, frames}
 use Rattle.grid_model.specs.Names.{Text}
 use Rattle.grid_model.specs.Rows.{Cat}
 use Rattle.grid_model.specs.Applying.{IsMade, apply_all}
-use Rattle.grid_journal.specs.Journal.{Journal, Keeps}
+use Rattle.grid_journal.specs.Journal.{Journal, Keeps, ClosesAt}
 use Rattle.grid_journal.specs.Stands.{StandsEither, StandsFor}
 use Rattle.grid_journal.specs.declared.error.JournalError.{JournalError}
 use Rattle.grid_journal.specs.declared.error.JournalError.TheVariants as journal
@@ -18,12 +17,6 @@ pub record IsHeld (kept : Cat) (main : DiskState) (s : Journal) : Type 0 where
   pub staged : apply_all kept s.staged ≡ Ok s.cat
   pub keeps : IsTrue main.tells → Keeps kept s main.holds
   pub made : IsMade kept
-
--- the log on main closes at this place
-pub record ClosesAt (main : Text) (place : ℕ) : Type 0 where
-  pub records : List (List ℕ)
-  pub log : IsLog 16 records main
-  pub place_is : place ≡ 16 + length (frames records)
 
 -- Main and memory have this catalogue, with nothing staged or pending.
 pub record IsKept (c : Cat) (main_old main_new : DiskState) (new : Journal) : Type 0 where
@@ -37,7 +30,8 @@ abbrev pub CommitEnds : Cat → Cat → Journal → DiskState → DiskState → 
 CommitEnds kept after old main_old main_new (Ok done) new = IsKept after main_old main_new new
 CommitEnds kept after old main_old main_new (Err journal.DiskFault) new = Unit {0}
 CommitEnds kept after old main_old main_new (Err journal.Memory) new = IsTrue main_old.tells → StandsFor main_new.holds kept
-CommitEnds kept after old main_old main_new (Err (journal.Worn what place)) new = (what ≡ Log) × (2 ^ 62 < place) × (IsTrue main_old.tells → ClosesAt main_new.holds place × StandsFor main_new.holds kept)
+CommitEnds kept after old main_old main_new (Err (journal.Worn what place)) new =
+    (what ≡ Log) × (2 ^ 62 < place) × (IsTrue main_old.tells → ClosesAt main_new.holds place × StandsFor main_new.holds kept)
 CommitEnds kept after old main_old main_new (Err other) new = ⊥
 
 -- what a stop leaves of a commit that ended so: where it was refused, what was there
@@ -47,6 +41,7 @@ CommitLeaves kept after (Err (journal.Worn what place)) main = StandsFor main ke
 CommitLeaves kept after other main = StandsEither kept after main
 
 -- Changes that lead from the one catalogue to the other were committed, or how far that came, from so many moments on.
-pub record IsCommitted (kept after : Cat) (from : ℕ) (old : Journal) (main_old main_new : DiskState) (result : Result ⊤ JournalError) (new : Journal) : Type 0 where
+pub record IsCommitted (kept after : Cat) (from : ℕ) (old : Journal) (main_old main_new : DiskState) (result : Result ⊤ JournalError) (new : Journal)
+    : Type 0 where
   pub ends : CommitEnds kept after old main_old main_new result new
   pub leaves : IsTrue main_old.tells → IsSettled main_old → Leaves from (CommitLeaves kept after result) main_new

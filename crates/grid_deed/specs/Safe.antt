@@ -12,7 +12,8 @@ module _ {B : Type 0} (state : B → StoreState) where
   -- Good replicas are as their objects, and whatever a stop at this moment leaves of a store that tells is whole.
   pub record AreWhole (t : ℕ) (c : Cat) (stores : List B) : Type 0 where
     pub rows : HasGoodRows c
-    pub files : (slot : ℕ) (store : B) (image : Files) → slice_get stores slot ≡ Some store → IsTrue (state store).tells → (state store).left t image → IsWhole c slot image
+    pub files : (slot : ℕ) (store : B) (image : Files) → slice_get stores slot ≡ Some store → IsTrue (state store).tells → (state store).left t image
+        → IsWhole c slot image
 
   -- they are at each moment after so many, by whatever catalogue a stop leaves of main
   abbrev pub StayWhole : ℕ → DiskState → List B → Type 0
@@ -20,4 +21,5 @@ module _ {B : Type 0} (state : B → StoreState) where
 
   -- where they were whole by this catalogue, and nothing was pending on main
   abbrev pub KeepWhole : ℕ → Cat → DiskState → DiskState → List B → List B → Type 0
-  KeepWhole from c main_old main_new stores_old stores_new = IsTrue main_old.tells → IsSettled main_old → ((t : ℕ) → from < t → AreWhole t c stores_old) → StayWhole from main_new stores_new
+  KeepWhole from c main_old main_new stores_old stores_new =
+      IsTrue main_old.tells → IsSettled main_old → ((t : ℕ) → from < t → AreWhole t c stores_old) → StayWhole from main_new stores_new

@@ -30,8 +30,10 @@ pub fn discard<D: Disk, A: Ambient, P: Plugin>(
     requires slot { file.slot < vec_len outside.old.stores }
     requires ready { IsReady D.disk P.plugin 5 outside.old }
     ensures done { (after : Cat) → apply_all store.old.cat (no_orphans (file ∷ [])) ≡ Ok after →
-        IsDiscarded P.plugin store.old.cat after file.slot outside.old.moments (D.disk outside.old.main) (D.disk outside.new.main) outside.old.stores.items outside.new.stores.items store.old result store.new }
-    ensures whole { KeepWhole P.plugin outside.old.moments store.old.cat (D.disk outside.old.main) (D.disk outside.new.main) outside.old.stores.items outside.new.stores.items }
+        IsDiscarded P.plugin store.old.cat after file.slot outside.old.moments (D.disk outside.old.main)
+        (D.disk outside.new.main) outside.old.stores.items outside.new.stores.items store.old result store.new }
+    ensures whole { KeepWhole P.plugin outside.old.moments store.old.cat (D.disk outside.old.main)
+        (D.disk outside.new.main) outside.old.stores.items outside.new.stores.items }
     ensures frame { Frame D.disk P.plugin (IsErrOf result JournalError.DiskFault) outside.old outside.new }
     ensures drawn { outside.new.moments ≤ outside.old.moments + 5 }
 {
@@ -72,7 +74,7 @@ pub fn discard_all<D: Disk, A: Ambient, P: Plugin>(
     requires names { HaveOwnNames files.now }
     requires slots { All (λ file. file.slot < vec_len outside.old.stores) files.now }
     requires ready { IsReady D.disk P.plugin (length files.now + 4) outside.old }
-    ensures done { IsSwept P.plugin store.old.cat files.now outside.old.moments (D.disk outside.old.main) (D.disk outside.new.main)
+    ensures done { IsSwept D.disk P.plugin store.old.cat files.now outside.old.moments outside.old.main outside.new.main
         outside.old.stores.items outside.new.stores.items store.old result store.new }
     ensures whole { KeepWhole P.plugin outside.old.moments store.old.cat (D.disk outside.old.main) (D.disk outside.new.main)
         outside.old.stores.items outside.new.stores.items }

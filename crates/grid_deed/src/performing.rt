@@ -26,8 +26,10 @@ pub fn perform<D: Disk, A: Ambient, P: Plugin>(
 ) -> Result<Option<Fault>, JournalError>
     requires plan { (kept : Cat) × IsHeld kept (D.disk outside.old.main) store.old × IsPlan kept store.old.cat (vec_len outside.old.stores) plan bytes.now }
     requires ready { IsReady D.disk P.plugin (moments_for plan.files bytes.now) outside.old }
-    ensures done { (kept : Cat) → IsHeld kept (D.disk outside.old.main) store.old → (p : IsPlan kept store.old.cat (vec_len outside.old.stores) plan bytes.now) →
-        IsDone P.plugin kept p.mid p.end plan.files outside.old.moments (D.disk outside.old.main) (D.disk outside.new.main) outside.old.stores.items outside.new.stores.items result store.new }
+    ensures done { (kept : Cat) → IsHeld kept (D.disk outside.old.main) store.old →
+        (p : IsPlan kept store.old.cat (vec_len outside.old.stores) plan bytes.now) →
+        IsDone P.plugin kept p.mid p.end plan.files outside.old.moments (D.disk outside.old.main)
+        (D.disk outside.new.main) outside.old.stores.items outside.new.stores.items result store.new }
     ensures whole { (kept : Cat) → IsHeld kept (D.disk outside.old.main) store.old → IsPlan kept store.old.cat (vec_len outside.old.stores) plan bytes.now →
         KeepWhole P.plugin outside.old.moments kept (D.disk outside.old.main) (D.disk outside.new.main) outside.old.stores.items outside.new.stores.items }
     ensures frame { Frame D.disk P.plugin (IsErrOf result JournalError.DiskFault) outside.old outside.new }

@@ -1,18 +1,17 @@
 -- The file that a get reads, in the grid and by the rows.
-use Rattle.std.proofs.Common.{◌≡◌, ◌==◌, ℕ, Bool, true, false, List, [], ◌∷◌, Option, Some, None, Result, Ok, Err, IsTrue, refl, sym, ap, ◌∙◌, subst, eq-eqb, eqb-true}
+use Rattle.std.proofs.Common.{◌≡◌, ◌==◌, ℕ, true, false, List, [], ◌∷◌, Option, Some, None, Result, Ok, Err, IsTrue, refl, sym, ap, ◌∙◌, subst, eq-eqb, eqb-true}
 use Rattle.std.specs.Prelude.{find, is_some, option_map, unwrap_or, ⊤}
 use Rattle.std.specs.Option.{option_map_or}
 use Rattle.grid_model.specs.Maps.{get, has}
 use Rattle.grid_model.specs.Names.{Text, Path, same_text}
-use Rattle.grid_model.specs.Grid.{Grid, Object, Replica, Resource}
+use Rattle.grid_model.specs.Grid.{Object, Replica, Resource}
 use Rattle.grid_model.specs.Levels.{may}
 use Rattle.grid_model.specs.Refusing.{Or, ◌>>=◌, there, unless}
 use Rattle.grid_model.specs.Rows.{Cat, object, resource, has_resource}
 use Rattle.grid_model.specs.RowPaths.{is_path_of, object_at, object_path}
-use Rattle.grid_model.specs.RowGrids.{grid_of, object_of, replica_of, resource_name, resource_of, user_name}
+use Rattle.grid_model.specs.RowGrids.{grid_of, object_of, resource_name, resource_of}
 use Rattle.grid_model.specs.Applying.{IsMade}
 use Rattle.grid_model.specs.Trees.{candidates, slot_of}
-use Rattle.grid_model.specs.Whole.{leaf_slot}
 use Rattle.grid_model.specs.Operations.Common.{needs}
 use Rattle.grid_model.specs.Operations.Replicas.{Source, asked_there, first_of, got}
 use Rattle.grid_model.specs.declared.deltas.Item.TheVariants as item
@@ -29,10 +28,10 @@ use Rattle.tables_laws.proofs.Numbered.{found_in}
 use Rattle.tables_laws.proofs.Places.{row_there}
 use Rattle.tables_laws.proofs.LookUps.{get-objects, get-object_at, get-resources}
 use Rattle.tables_laws.proofs.Sound.{IsSound}
-use Rattle.grid_tree.specs.Reading.{FirstOf, IsReplica, up_by}
+use Rattle.grid_tree.specs.Reading.{FirstOf, up_by}
 use Rattle.grid_tree.proofs.Named.{sound_of, get-named}
 use Rattle.plan_base.proofs.AtPaths.{placed}
-use Rattle.plan_object.specs.Sending.{FindsFile, PlansGet, ReadsFirst, Sends}
+use Rattle.plan_object.specs.Sending.{FindsFile, PlansGet, ReadsFirst}
 
 -- what is found at a path is there
 pub object_there : (c : Cat) → IsMade c → (p : Path) (id : ℕ) → Some id ≡ object_at c p → None ≡ object c id → ⊥

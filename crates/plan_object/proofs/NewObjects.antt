@@ -1,13 +1,13 @@
 -- A new object at a path, and the access that it gets.
-use Rattle.std.proofs.Common.{◌≡◌, ◌==◌, ℕ, ◌+◌, ◌<◌, true, false, List, [], ◌∷◌, ◌++◌, length, Option, Some, None, Ok, IsTrue, refl, sym, ap, ◌∙◌, subst, eq-eqb}
+use Rattle.std.proofs.Common.{◌≡◌, ◌==◌, ℕ, ◌+◌, true, false, List, [], ◌∷◌, ◌++◌, length, Option, Some, None, Ok, IsTrue, refl, sym, ap, ◌∙◌, eq-eqb}
 use Rattle.std.specs.Prelude.{option_map, unwrap_or}
 use Rattle.grid_model.specs.Maps.{empty, put}
 use Rattle.grid_model.specs.MapLists.{size}
 use Rattle.grid_model.specs.Names.{Text, Path, is_name, is_path, parent}
-use Rattle.grid_model.specs.Grid.{Grid, Object}
-use Rattle.grid_model.specs.NewRows.{IsFreeAt, IsNewObjectAt}
+use Rattle.grid_model.specs.Grid.{Grid}
+use Rattle.grid_model.specs.NewRows.{IsNewObjectAt}
 use Rattle.grid_model.specs.Rows.{Cat, object, object_cmp, has_object, with_row}
-use Rattle.grid_model.specs.RowPaths.{collection_path, collection_at}
+use Rattle.grid_model.specs.RowPaths.{collection_path}
 use Rattle.grid_model.specs.RowGrids.{grid_of, collection_place, object_place, user_name}
 use Rattle.grid_model.specs.Applying.{IsMade, apply, where_fits, is_user}
 use Rattle.grid_model.specs.Operations.Common.{is_taken, with_new_item}
@@ -16,7 +16,6 @@ use Rattle.grid_model.specs.declared.deltas.Numbers.{Numbers}
 use Rattle.grid_model.specs.declared.deltas.ObjectRow.{ObjectRow}
 use Rattle.grid_model.specs.declared.deltas.OrphanRow.{OrphanRow}
 use Rattle.grid_model.specs.declared.grid.ItemKind.TheVariants as kind
-use Rattle.grid_model.proofs.Below.{parent-push}
 use Rattle.grid_model.proofs.FreePlaces.{object_fits-new}
 use Rattle.grid_model.proofs.NewCollections.{at_of}
 use Rattle.tables_laws.proofs.Rows.{any_from_in, new_in_with_row}

@@ -1,10 +1,9 @@
 -- The row of a new object.
-use Rattle.std.proofs.Common.{◌≡◌, ℕ, false, List, [], ◌∷◌, ◌++◌, Some, IsTrue, refl, sym, ap, ◌∙◌, subst}
+use Rattle.std.proofs.Common.{◌≡◌, ℕ, false, [], ◌∷◌, ◌++◌, Some, IsTrue, refl, sym, ap, ◌∙◌, subst}
 use Rattle.grid_model.specs.Names.{Text, Path, is_name, parent}
 use Rattle.grid_model.specs.Deltas.{text}
 use Rattle.grid_model.specs.Rows.{Cat, has_object}
 use Rattle.grid_model.specs.RowPaths.{collection_at}
-use Rattle.grid_model.specs.declared.deltas.ObjectRow.{ObjectRow}
 use Rattle.grid_model.proofs.Below.{parent-push}
 use Rattle.plan_base.specs.Found.{LiesIn}
 use Rattle.plan_object.specs.PutPlans.{IsObjectFor}

@@ -1,11 +1,10 @@
 -- Before files are made: their numbers are drawn, and they are orphans.
-use Rattle.std.proofs.Common.{◌≡◌, ◌==◌, ◌⊎◌, ℕ, suc, ◌+◌, ◌<◌, ◌≤◌, Bool, true, false, List, [], ◌∷◌, ◌++◌, length, Option, Some, None, Result, Ok, Err, inl, inr, IsTrue, refl, sym, ap, ◌∙◌, subst, arith, eqb-true}
+use Rattle.std.proofs.Common.{◌≡◌, ◌==◌, ◌⊎◌, ℕ, ◌+◌, ◌<◌, ◌≤◌, Bool, true, List, [], ◌∷◌, ◌++◌, length, Result, Ok, Err, inl, inr, refl, ap, ◌∙◌, subst, arith, eqb-true}
 use Rattle.std.specs.Prelude.{not, ◌&&◌, nat_le, nat_lt}
 use Rattle.std.specs.List.{AllByRecursion, list_any}
-use Rattle.std.specs.declared.cmp.Ordering.TheVariants.{Equal}
 use Rattle.std.proofs.lemmas.Bool.{and_from, and_parts, le-leb, lt-ltb, ltb-true}
 use Rattle.grid_model.specs.Rows.{Cat, empty_cat, orphan_cmp, with_row}
-use Rattle.grid_model.specs.Applying.{IsMade, apply, apply_all, is_drawn, numbers_fit, orphan_fits, where_fits}
+use Rattle.grid_model.specs.Applying.{IsMade, apply, apply_all, numbers_fit, orphan_fits, where_fits}
 use Rattle.grid_model.specs.RowGrids.{grid_of}
 use Rattle.grid_model.specs.Whole.{Naming, by_orphan, by_replica, Names}
 use Rattle.grid_model.specs.declared.deltas.Delta.{Delta}
@@ -16,13 +15,13 @@ use Rattle.tables_laws.proofs.Rows.{IsIn, in_from_all, in_from_with_row, new_in_
 use Rattle.tables_laws.proofs.Grids.{grid-same}
 use Rattle.tables_laws.proofs.Numbered.{same_number}
 use Rattle.tables_laws.proofs.Standing.{ReplicaStands}
-use Rattle.tables_laws.proofs.Sound.{IsSound, fits_so, ok-same, after_first}
+use Rattle.tables_laws.proofs.Sound.{fits_so, ok-same, after_first}
 use Rattle.file_laws.specs.Puts.{Target, orphans_from, put_before}
 use Rattle.file_laws.proofs.Members.{contains_of, in_of}
 use Rattle.file_laws.proofs.Puts.{AreThere}
 use Rattle.plan_base.proofs.AtPaths.{sound_of}
 use Rattle.plan_object.specs.Writing.{Draws}
-use Rattle.plan_object.proofs.Filing.{none_so}
+use Rattle.plan_object.proofs.ObjectGrids.{none_so}
 
 -- ---- changes one after another
 

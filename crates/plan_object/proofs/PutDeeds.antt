@@ -1,6 +1,6 @@
 -- A plan of a put is that of the deed of the put.
-use Rattle.std.proofs.Common.{◌≡◌, ◌==◌, ℕ, Bool, true, false, List, [], ◌∷◌, map, Option, Some, None, Ok, IsTrue, refl, sym, ap, ◌∙◌, subst, eq-eqb}
-use Rattle.std.specs.Prelude.{◌&&◌, option_map}
+use Rattle.std.proofs.Common.{◌≡◌, ◌==◌, ℕ, true, List, [], map, Option, Some, None, Ok, refl, ap, ◌∙◌, subst, eq-eqb}
+use Rattle.std.specs.Prelude.{option_map}
 use Rattle.std.specs.Option.{option_map_or}
 use Rattle.std.proofs.lemmas.Bool.{and_from}
 use Rattle.grid_model.specs.Digests.{Digest, HasDigest}
@@ -8,7 +8,7 @@ use Rattle.grid_model.specs.Maps.{get}
 use Rattle.grid_model.specs.Names.{Text}
 use Rattle.grid_model.specs.Grid.{Grid, Resource}
 use Rattle.grid_model.specs.Rows.{Cat, resource}
-use Rattle.grid_model.specs.RowGrids.{grid_of, resource_name, resource_of}
+use Rattle.grid_model.specs.RowGrids.{grid_of, resource_name}
 use Rattle.grid_model.specs.Applying.{IsMade}
 use Rattle.grid_model.specs.Whole.{leaf_slot}
 use Rattle.grid_model.specs.Trees.{Resources, possible, slot_of, slots_of, targets}
@@ -16,7 +16,6 @@ use Rattle.grid_model.specs.Deeds.{Deed, deed, is_among, writing}
 use Rattle.grid_model.specs.Operations.Objects.{put_row, with_object, written}
 use Rattle.grid_model.specs.declared.deltas.ResourceRow.{ResourceRow}
 use Rattle.grid_model.specs.declared.plans.Plan.{Plan}
-use Rattle.grid_vault.specs.Vault.{HasSlot}
 use Rattle.file_laws.proofs.Members.{in_of}
 use Rattle.grid_access.proofs.MapEntries.{map_from_in}
 use Rattle.tables_laws.proofs.Rows.{IsIn, any_from_in}
@@ -24,7 +23,7 @@ use Rattle.tables_laws.proofs.Sound.{IsSound}
 use Rattle.grid_tree.proofs.Named.{get-named}
 use Rattle.grid_tree.proofs.Reachable.{target_may}
 use Rattle.plan_base.proofs.AtPaths.{sound_of}
-use Rattle.plan_object.specs.Writing.{GoesOnlyTo, GoesTo, IsSlotOf, Makes, PlansWriting, Recorded, Wanted, Writes}
+use Rattle.plan_object.specs.Writing.{GoesOnlyTo, GoesTo, IsSlotOf, MakesGrid, PlansWriting, Wanted, WritesFiles}
 
 -- the slot of a leaf is that of its name
 slot_is : (c : Cat) → IsSound c → (id slot : ℕ) → leaf_slot c id ≡ Some slot → slot_of (grid_of c).resources (resource_name c id) ≡ slot
@@ -64,12 +63,12 @@ module _ (c : Cat) (made : IsMade c) (user : Text) (w : Wanted) (word : ℕ) (le
     row_is : put_row g user w.path w.resource w.mode body ≡ Ok (deed (written_so w.size digest))
     row_is = goes.row_is body has.size ∙ (λ i. Ok (deed (written_so (has.size i) (has.digest i))))
 
-    makes : PlansWriting c user w.path leaves (record { size = w.size; digest = digest; now = now }) plan → Makes c ((written_so w.size digest).ran word now []) body plan
+    makes : PlansWriting c user w.path leaves (record { size = w.size; digest = digest; now = now }) plan → MakesGrid c ((written_so w.size digest).ran word now []) body plan
     makes plans =
-        subst (λ (names : List Text). Makes c (with_object g user goes.may.above w.path (written (get g.objects w.path) w.size digest now names)) body plan) goes.names (plans goes.may.above body goes.may.parent_is has)
+        subst (λ (names : List Text). MakesGrid c (with_object g user goes.may.above w.path (written (get g.objects w.path) w.size digest now names)) body plan) goes.names (plans goes.may.above body goes.may.parent_is has)
 
     -- the plan is one of the deed of the put
-    pub writes_put : PlansWriting c user w.path leaves (record { size = w.size; digest = digest; now = now }) plan → GoesOnlyTo c leaves plan → Writes c (put_row g user w.path w.resource w.mode body) word now body plan
+    pub writes_put : PlansWriting c user w.path leaves (record { size = w.size; digest = digest; now = now }) plan → GoesOnlyTo c leaves plan → WritesFiles c (put_row g user w.path w.resource w.mode body) word now body plan
     writes_put plans only = record {
       of = written_so w.size digest;
       row_is = row_is;

@@ -1,5 +1,5 @@
 -- The row of a put, test by test.
-use Rattle.std.proofs.Common.{◌≡◌, ◌==◌, ℕ, true, false, Bool, List, [], length, Option, Some, None, Result, Ok, Err, IsTrue, refl, sym, ap, ◌∙◌}
+use Rattle.std.proofs.Common.{◌≡◌, ℕ, true, false, Bool, List, length, Option, Some, None, Ok, Err, IsTrue, refl, sym, ap, ◌∙◌}
 use Rattle.std.specs.Prelude.{◌&&◌, not, find, is_some, option_map, ⊤}
 use Rattle.std.specs.List.{AllByRecursion}
 use Rattle.std.proofs.lemmas.Bool.{and_parts}
@@ -14,7 +14,7 @@ use Rattle.grid_model.specs.RowGrids.{grid_of, resource_name}
 use Rattle.grid_model.specs.Applying.{IsMade, is_leaf}
 use Rattle.grid_model.specs.Trees.{is_any, possible, targets}
 use Rattle.grid_model.specs.Deeds.{Act}
-use Rattle.grid_model.specs.Operations.Common.{collection_above, resource_there}
+use Rattle.grid_model.specs.Operations.Common.{resource_there}
 use Rattle.grid_model.specs.Operations.Objects.{may_put, may_stand, put_row, room_for, writes}
 use Rattle.grid_model.specs.declared.deltas.ResourceRow.{ResourceRow}
 use Rattle.grid_model.specs.declared.grid.Mode.{Mode}
@@ -22,7 +22,6 @@ use Rattle.grid_model.specs.declared.grid.Mode.TheVariants.{New, Over}
 use Rattle.grid_model.specs.declared.grid.Level.TheVariants.{Write}
 use Rattle.grid_model.specs.declared.plans.PlanError.{PlanError}
 use Rattle.grid_model.specs.declared.plans.PlanError.TheVariants.{Refused, Memory}
-use Rattle.grid_model.specs.declared.refusal.Refusal.{Refusal}
 use Rattle.grid_model.specs.declared.refusal.Refusal.TheVariants.{NoAccess, Exists, NoTarget, NoResource}
 use Rattle.plan_base.specs.Found.{FindsAbove, LiesIn}
 use Rattle.plan_base.proofs.AtPaths.{sound_of}

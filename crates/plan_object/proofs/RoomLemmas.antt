@@ -1,5 +1,5 @@
 -- Room for objects, test by test.
-use Rattle.std.proofs.Common.{◌≡◌, ℕ, ◌+◌, true, false, length, Bool, Option, Some, None, Result, Ok, Err, refl, sym, ap, ◌∙◌}
+use Rattle.std.proofs.Common.{◌≡◌, ℕ, ◌+◌, true, false, length, Bool, Option, Some, None, Result, Ok, Err, sym, ap, ◌∙◌}
 use Rattle.std.specs.Prelude.{◌||◌, is_some, nat_le, ⊤}
 use Rattle.grid_model.specs.Maps.{has}
 use Rattle.grid_model.specs.MapLists.{size}

@@ -1,3 +1,5 @@
+pub mod LeafNumbers
+pub mod OverPlans
 pub mod PutPlans
 pub mod Room
 pub mod Sending

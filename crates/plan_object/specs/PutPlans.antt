@@ -1,19 +1,20 @@
 -- The plan of a put: which leaves it writes, and its changes.
-use Rattle.std.specs.Prelude.{◌≡◌, ℕ, true, false, ◌==◌, List, [], ◌∷◌, ◌++◌, length, map, Some, IsTrue}
+use Rattle.std.specs.Prelude.{◌≡◌, ℕ, true, false, ◌==◌, List, [], ◌∷◌, ◌++◌, map, Some, IsTrue}
 use Rattle.std.specs.List.{AllByRecursion, list_all, list_any}
-use Rattle.grid_model.specs.Names.{Path, is_name, parent}
+use Rattle.grid_model.specs.Names.{Path, is_name}
 use Rattle.grid_model.specs.Deltas.{text}
 use Rattle.grid_model.specs.Rows.{Cat, has_object}
 use Rattle.grid_model.specs.RowPaths.{collection_at}
 use Rattle.grid_model.specs.Whole.{leaf_slot}
-use Rattle.grid_model.specs.declared.deltas.Delta.{Delta}
 use Rattle.grid_model.specs.declared.deltas.Delta.TheVariants as delta
 use Rattle.grid_model.specs.declared.deltas.ObjectRow.{ObjectRow}
 use Rattle.grid_journal.specs.Journal.{can_be_kept}
 use Rattle.file_laws.specs.Puts as laws
+use Rattle.file_laws.specs.Rewriting.{replicas_placed}
 use Rattle.grid_model.specs.declared.grid.ItemKind.TheVariants as kind
 use Rattle.grid_model.specs.declared.plans.Plan.{Plan}
 use Rattle.plan_base.specs.NewItems.{new_entries}
+use Rattle.plan_object.specs.LeafNumbers.{with_numbers}
 use Rattle.plan_object.specs.Writing.{Recorded}
 use Rattle.plan_object.specs.declared.placing.Target.{Target}
 
@@ -58,6 +59,6 @@ pub record IsNewPlan (c : Cat) (user : ℕ) (o : ObjectRow) (ts : List Target) (
   pub before : plan.before ≡ laws.put_before c (map law_target ts)
   pub files : plan.files ≡ laws.files_from c.numbers.next_vault (map law_target ts)
   pub after : plan.after
-      ≡ delta.Object o ∷ (new_entries c user o.collection kind.Object o.id ++ laws.replicas_from o 0 c.numbers.next_vault (map law_target ts))
+      ≡ delta.Object o ∷ (new_entries c user o.collection kind.Object o.id ++ replicas_placed o c.numbers.next_vault (with_numbers [] (map law_target ts)))
   pub spelled_first : IsTrue (list_all can_be_kept plan.before)
   pub spelled_then : IsTrue (list_all can_be_kept plan.after)

@@ -4,7 +4,6 @@ use Rattle.grid_model.specs.MapLists.{size}
 use Rattle.grid_model.specs.Names.{Text, Path}
 use Rattle.grid_model.specs.Limits.{object_size}
 use Rattle.grid_model.specs.Grid.{Grid}
-use Rattle.grid_model.specs.Refusing.{unless}
 use Rattle.grid_model.specs.Operations.Common.{with_new_item}
 use Rattle.grid_model.specs.Operations.Objects.{room_for, room_for_new}
 use Rattle.grid_model.specs.declared.plans.PlanError.{PlanError}

@@ -1,5 +1,5 @@
 -- Plans of deeds that write files: a put, and what else writes a body for a path.
-use Rattle.std.specs.Prelude.{◌≡◌, ℕ, ◌+◌, ◌<◌, true, false, List, [], map, length, Option, Some, Result, Ok, Err, IsTrue}
+use Rattle.std.specs.Prelude.{◌≡◌, ℕ, ◌+◌, ◌<◌, true, false, List, [], map, length, Some, Result, Ok, Err, IsTrue}
 use Rattle.std.specs.List.{AllByRecursion, Contains}
 use Rattle.grid_model.specs.Digests.{Digest, HasDigest}
 use Rattle.grid_model.specs.Maps.{get, has}
@@ -80,7 +80,7 @@ pub record Draws (c : Cat) (files : ℕ) (d : Cat) : Type 0 where
   pub stores : d.stores ≡ c.stores
 
 -- The plan may be carried out with this body and makes this grid: before the files are there nothing is seen of it.
-pub record Makes (c : Cat) (g : Grid) (body : Text) (plan : Plan) : Type 0 where
+pub record MakesGrid (c : Cat) (g : Grid) (body : Text) (plan : Plan) : Type 0 where
   pub is_plan : IsPlan c c c.stores plan body
   pub before : grid_of is_plan.mid ≡ grid_of c
   pub ran : grid_of is_plan.end ≡ g
@@ -96,7 +96,7 @@ pub record Recorded : Type 0 where
 -- The plan writes each body that these are size and digest of to the leaves, as the user's object at the path.
 abbrev pub PlansWriting : Cat → Text → Path → List ℕ → Recorded → Plan → Type 0
 PlansWriting c user p leaves r plan = (above : Path) (body : List ℕ) → parent p ≡ Some above → HasDigest r.size r.digest body
-    → let g = grid_of c in Makes c (with_object g user above p (written (get g.objects p) r.size r.digest r.now (map (resource_name c) leaves))) body plan
+    → let g = grid_of c in MakesGrid c (with_object g user above p (written (get g.objects p) r.size r.digest r.now (map (resource_name c) leaves))) body plan
 
 -- ---- where its files are
 
@@ -113,8 +113,8 @@ GoesOnlyTo c leaves plan = (slot : ℕ) → HasSlot plan.files slot → IsSlotOf
 -- ---- the deed
 
 -- A plan of a deed that writes files: what it makes of the rows is what the row says of the grid, and it calls no other store.
-pub record Writes (c : Cat) (row : Or Act) (word now : ℕ) (body : Text) (plan : Plan) : Type 0 where
+pub record WritesFiles (c : Cat) (row : Or Act) (word now : ℕ) (body : Text) (plan : Plan) : Type 0 where
   pub of : Deed
   pub row_is : row ≡ Ok (deed of)
-  pub makes : Makes c (of.ran word now []) body plan
+  pub makes : MakesGrid c (of.ran word now []) body plan
   pub slots : (slot : ℕ) → HasSlot plan.files slot → IsTrue (fault_fits of.touch of.size slot 0)

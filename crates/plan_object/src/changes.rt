@@ -2,12 +2,16 @@ ghost use Rattle.std.specs.Prelude.{◌≡◌, ◌+◌, ◌<◌, ◌++◌, ◌^�
 ghost use Rattle.std.specs.List.{list_all};
 ghost use Rattle.grid_journal.specs.Journal.{can_be_kept};
 ghost use Rattle.grid_model.specs.Deltas.{digest as digest_part, text};
-ghost use Rattle.file_laws.specs.Puts.{files_from, orphans_from, put_before, replicas_from};
+ghost use Rattle.file_laws.specs.Puts.{files_from, orphans_from, put_before};
+ghost use Rattle.file_laws.specs.Rewriting.{replicas_placed};
+ghost use Rattle.plan_object.specs.LeafNumbers.{with_numbers};
 ghost use Rattle.plan_object.specs.PutPlans.{law_target};
 
+use crate::numbering::{LeafNumber, number_on};
 use crate::placing::Target;
 use grid_model::{Delta, Digest, NewFile, Numbers, ObjectRow, OrphanRow, ReplicaRow};
 use grid_tables::Tables;
+use plan_base::digest_is_kept;
 use std::alloc::{AllocError, Global};
 
 /// The changes before new files are made for the targets: their numbers are drawn, and they are orphans. Fails for want of
@@ -67,24 +71,26 @@ pub(crate) fn files_of(
     Ok(files)
 }
 
-/// Adds the changes that make the files of the targets, numbered from the first one on, replicas of the object, numbered
-/// from this number on. Fails for want of memory alone.
+/// Adds the changes that make the files of the targets, numbered from the first one on, replicas of the object, each under
+/// the number that its leaf has or gets. Fails for want of memory alone.
 pub(crate) fn push_replicas(
     deltas: &mut Vec<Delta>,
     object: &ObjectRow,
-    number: u32,
+    taken: Vec<LeafNumber>,
     first: u64,
     targets: &[Target],
 ) -> Result<(), AllocError>
-    requires numbers { number + length targets.now < 2 ^ 32 }
+    requires numbers { length taken.items + length targets.now < 2 ^ 32 }
     requires vault { first + length targets.now < 2 ^ 64 }
-    ensures replicas { OnOk result (deltas.new.items ≡ deltas.old.items ++ replicas_from object.now number first (map law_target targets.now)) }
+    ensures replicas { OnOk result (deltas.new.items
+        ≡ deltas.old.items ++ replicas_placed object.now first (with_numbers taken.items (map law_target targets.now))) }
     ensures spelled { OnOk result (IsTrue (list_all can_be_kept deltas.old.items) → IsTrue (list_all can_be_kept deltas.new.items)) }
 {
     digest_is_kept(object.digest);
-    let mut number = number;
+    let mut taken = taken;
     let mut vault = first;
     for target in targets {
+        let number = number_on(&mut taken, target.leaf)?;
         deltas.push(no_orphan(vault))?;
         deltas.push(replica(ReplicaRow {
             object: object.id,
@@ -95,7 +101,6 @@ pub(crate) fn push_replicas(
             digest: object.digest,
             vault,
         }))?;
-        number += 1;
         vault += 1;
     }
     Ok(())
@@ -109,8 +114,8 @@ fn numbers_change(numbers: Numbers) -> Delta
     Delta::Numbers(numbers)
 }
 
-// The change that makes a file an orphan.
-fn orphan(vault: u64, slot: u8) -> Delta
+/// The change that makes a file an orphan.
+pub(crate) fn orphan(vault: u64, slot: u8) -> Delta
     ensures change { result ≡ Delta.Orphan (record { vault = vault; slot = slot }) }
     ensures spelled { IsTrue (can_be_kept result) }
 {
@@ -125,8 +130,8 @@ fn no_orphan(vault: u64) -> Delta
     Delta::NoOrphan { vault }
 }
 
-// The change that puts a replica.
-fn replica(row: ReplicaRow) -> Delta
+/// The change that puts a replica.
+pub(crate) fn replica(row: ReplicaRow) -> Delta
     requires { IsTrue (digest_part row.digest).fits }
     ensures change { result ≡ Delta.Replica row }
     ensures spelled { IsTrue (can_be_kept result) }
@@ -134,7 +139,15 @@ fn replica(row: ReplicaRow) -> Delta
     Delta::Replica(row)
 }
 
-// The change that puts an object.
+/// The change that takes a replica away.
+pub(crate) fn no_replica(object: u64, number: u32) -> Delta
+    ensures change { result ≡ Delta.NoReplica object number }
+    ensures spelled { IsTrue (can_be_kept result) }
+{
+    Delta::NoReplica { object, number }
+}
+
+/// The change that puts an object.
 pub(crate) fn object(row: ObjectRow) -> Delta
     requires name { IsTrue (text row.name).fits }
     ensures change { result ≡ Delta.Object row }
@@ -143,15 +156,3 @@ pub(crate) fn object(row: ObjectRow) -> Delta
     digest_is_kept(row.digest);
     Delta::Object(row)
 }
-
-// A digest may stand in the catalogue. It does nothing.
-fn digest_is_kept(digest: Digest)
-    ensures { IsTrue (digest_part digest).fits }
-{
-    bytes_are_kept(&digest.to_bytes());
-}
-
-fn bytes_are_kept(bytes: &[u8])
-    requires { length bytes.now ≡ 32 }
-    ensures { IsTrue (digest_part bytes.now).fits }
-{}

@@ -6,8 +6,10 @@ mod checking;
 mod getting;
 mod laws;
 mod making;
+mod numbering;
 mod placing;
 mod putting;
+mod rewriting;
 mod room;
 
 pub use getting::plan_get;

@@ -70,7 +70,7 @@ pub(crate) fn new_plan(
         ItemKind::Object,
         row.id,
     )?;
-    push_replicas(&mut after, &row, 0, first, targets)?;
+    push_replicas(&mut after, &row, Vec::new(alloc), first, targets)?;
     after.insert(0, object(row))?;
     Ok(Plan {
         before: Deltas::from_vec(before),

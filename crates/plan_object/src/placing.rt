@@ -2,6 +2,7 @@ ghost use Rattle.std.specs.Prelude.{◌≡◌, ◌==◌, IsTrue, IfOk, Some};
 ghost use Rattle.std.specs.List.{AllByRecursion, list_any};
 ghost use Rattle.grid_model.specs.Applying.{is_leaf};
 ghost use Rattle.grid_model.specs.Whole.{leaf_slot};
+ghost use Rattle.plan_object.specs.OverPlans.{slot_on};
 ghost use Rattle.plan_object.specs.PutPlans.{AreTargets};
 
 use grid_tables::Tables;
@@ -32,11 +33,21 @@ pub(crate) fn targets_of(
     Ok(targets)
 }
 
-// Whether one of these is on the leaf.
-fn has_leaf(targets: &[Target], leaf: u32) -> bool
+/// Whether one of these is on the leaf.
+pub(crate) fn has_leaf(targets: &[Target], leaf: u32) -> bool
     ensures { result ≡ list_any (λ t. t.leaf == leaf) targets.now }
 {
     targets.iter().any(|target| target.leaf == leaf)
+}
+
+/// The slot of the one of these that is on the leaf, if there is one.
+pub(crate) fn slot_on(targets: &[Target], leaf: u32) -> Option<u8>
+    ensures { result ≡ slot_on targets.now leaf }
+{
+    match targets.iter().find(|target| target.leaf == leaf) {
+        None => None,
+        Some(target) => Some(target.slot),
+    }
 }
 
 // A leaf with its slot.

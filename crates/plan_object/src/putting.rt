@@ -1,12 +1,12 @@
-ghost use Rattle.std.specs.Prelude.{◌≡◌, ◌+◌, ◌<◌, ◌^◌, length, None, IsTrue, IfOk};
+ghost use Rattle.std.specs.Prelude.{◌+◌, ◌<◌, ◌^◌, length, IsTrue, IfOk};
 ghost use Rattle.grid_model.specs.Applying.{IsMade, is_user};
 ghost use Rattle.grid_model.specs.RowGrids.{user_name};
-ghost use Rattle.grid_model.specs.RowPaths.{object_at};
 ghost use Rattle.plan_object.specs.Writing.{FindsTargets, GoesOnlyTo, MayWrite, PlansWriting, Recorded, Wanted};
 
 use crate::checking::check_put;
 use crate::making::{new_plan, new_row};
 use crate::placing::targets_of;
+use crate::rewriting::plan_over;
 use grid_model::{Digest, Mode, Path, Plan, PlanError, Text};
 use grid_tables::Tables;
 use grid_tree::{Leaves, targets};
@@ -39,7 +39,8 @@ pub fn put_targets(
 }
 
 /// A plan to write a body, of which these are the size in bytes and the SHA-256, to each of the leaves, as the user's object
-/// at the path from this time on: the object that is there, or a new one with the access that new ones get. Fails for want of
+/// at the path from this time on: the object that is there, or a new one with the access that new ones get. An object that is
+/// there keeps its access, and the numbers of its replicas on these leaves; its other replicas are stale. Fails for want of
 /// memory alone.
 pub fn plan_put(
     alloc: Global,
@@ -54,22 +55,26 @@ pub fn plan_put(
     requires made { IsMade tables.now }
     requires user { IsTrue (is_user tables.now user) }
     requires may { MayWrite tables.now path.now leaves.now }
-    requires new { object_at tables.now path.now ≡ None }
     requires vault { tables.now.numbers.next_vault + length leaves.now < 2 ^ 64 }
     ensures plan { let r : Recorded = record { size = size; digest = digest; now = now } in
         IfOk result (PlansWriting tables.now (user_name tables.now user) path.now leaves.now r) }
     ensures slots { IfOk result (GoesOnlyTo tables.now leaves.now) }
 {
-    let parent = match collection_above(alloc, tables, path) {
-        Err(PlanError::Memory) => return Err(AllocError),
-        Err(PlanError::Refused(_)) => unreachable!(),
-        Ok(parent) => parent,
-    };
     let targets = targets_of(alloc, tables, leaves.as_slice())?;
     // As many take more memory than there is.
     if targets.len() as u64 > u32::MAX as u64 {
         return Err(AllocError);
     }
-    let row = new_row(alloc, tables, parent, path, size, digest, now)?;
-    new_plan(alloc, tables, user, row, targets.as_slice())
+    match tables.object_at(path) {
+        Some(id) => plan_over(alloc, tables, id, targets.as_slice(), size, digest, now),
+        None => {
+            let parent = match collection_above(alloc, tables, path) {
+                Err(PlanError::Memory) => return Err(AllocError),
+                Err(PlanError::Refused(_)) => unreachable!(),
+                Ok(parent) => parent,
+            };
+            let row = new_row(alloc, tables, parent, path, size, digest, now)?;
+            new_plan(alloc, tables, user, row, targets.as_slice())
+        }
+    }
 }

@@ -3,6 +3,7 @@ use Rattle.std.specs.Prelude.{is_ok}
 use Rattle.grid_model.specs.Rows.{Cat}
 use Rattle.grid_model.specs.Applying.{apply_all}
 use Rattle.grid_journal.specs.declared.error.JournalError.TheVariants.{DiskFault}
+use Rattle.grid_vault.specs.Vault.{HasSlot, WritesAmong}
 use Rattle.grid_deed.proofs.Frames.{frame_then, frame_stores, frame_as, stores_went, rose_after}
 use Rattle.grid_deed.proofs.Keeping.{err_as}
 use Rattle.grid_deed.proofs.DeedLemmas.{none_there, none_more, first_failed, store_failed, no_more, then_kept}
@@ -26,7 +27,7 @@ returns-in-Err-write_all-clause-done g c kept held p =
     store_failed g.P.Plugin.plugin kept p.mid p.end c.args.plan.files o.moments (g.D.Disk.disk o.main) c.args.store.now o.stores.items c.write_all.new.stores.items (g.D.Disk.disk m.main) c.commit.new.store
     (c.in-Ok.ensures.committed kept p.mid held p.first) c.in-Err-write_all.fault c.in-Err-write_all.ensures.slot
     (rose_after g.P.Plugin.plugin o.moments m.moments c.in-Ok.ensures.frame.drawn o.stores.items m.stores.items c.write_all.new.stores.items c.in-Ok.ensures.frame.stores
-    (stores_went g.P.Plugin.plugin m.moments c.write_all.new.moments c.args.plan.files m.stores.items c.write_all.new.stores.items c.in-Err-write_all.ensures.any_moment) c.in-Err-write_all.fault.slot c.in-Err-write_all.ensures.cause)
+    (stores_went g.P.Plugin.plugin m.moments c.write_all.new.moments (WritesAmong c.args.plan.files) (HasSlot c.args.plan.files) m.stores.items c.write_all.new.stores.items c.in-Err-write_all.ensures.any_moment) c.in-Err-write_all.fault.slot c.in-Err-write_all.ensures.cause)
 
 pub returns-in-Err-write_all-clause-whole : goal.returns-in-Err-write_all-clause-whole
 returns-in-Err-write_all-clause-whole g c kept held p =
@@ -34,7 +35,7 @@ returns-in-Err-write_all-clause-whole g c kept held p =
     let m = c.commit.new.outside in
     keep_files g.P.Plugin.plugin kept p.mid p.begins o.moments c.args.store.now c.commit.new.store (g.D.Disk.disk o.main) (g.D.Disk.disk m.main) o.stores.items m.stores.items
     (ap (λ v. v.items) c.in-Ok.ensures.stores) (c.in-Ok.ensures.committed kept p.mid held p.first) c.in-Ok.ensures.frame.main.tells m.moments c.write_all.new.moments c.in-Ok.ensures.frame.drawn (c.in-Ok.ensures.frame.main_last c.requires.ready.main_last)
-    c.args.plan.files c.write_all.new.stores.items c.in-Err-write_all.ensures.any_moment p.named
+    c.args.plan.files (HasSlot c.args.plan.files) c.write_all.new.stores.items c.in-Err-write_all.ensures.any_moment p.named
 
 pub returns-in-Err-write_all-clause-frame : goal.returns-in-Err-write_all-clause-frame
 returns-in-Err-write_all-clause-frame g c =
@@ -55,7 +56,7 @@ returns-then-is_empty-clause-whole g c kept held p =
     let m = c.commit.new.outside in
     keep_files g.P.Plugin.plugin kept p.mid p.begins o.moments c.args.store.now c.commit.new.store (g.D.Disk.disk o.main) (g.D.Disk.disk m.main) o.stores.items m.stores.items
     (ap (λ v. v.items) c.in-Ok.ensures.stores) (c.in-Ok.ensures.committed kept p.mid held p.first) c.in-Ok.ensures.frame.main.tells m.moments c.write_all.new.moments c.in-Ok.ensures.frame.drawn (c.in-Ok.ensures.frame.main_last c.requires.ready.main_last)
-    c.args.plan.files c.write_all.new.stores.items c.in-Ok-write_all.ensures.any_moment p.named
+    c.args.plan.files (HasSlot c.args.plan.files) c.write_all.new.stores.items c.in-Ok-write_all.ensures.any_moment p.named
 
 pub returns-then-is_empty-clause-frame : goal.returns-then-is_empty-clause-frame
 returns-then-is_empty-clause-frame g c =
@@ -88,7 +89,7 @@ returns-in-Ok-commit-clause-whole g c kept held p =
     let applied = ap (λ (x : Cat). apply_all x c.args.plan.after) first.ends.cat ∙ p.then in
     keep_last g.P.Plugin.plugin kept p.mid p.begins o.moments c.args.store.now c.commit.new.store (g.D.Disk.disk o.main) (g.D.Disk.disk m.main) o.stores.items m.stores.items
     (ap (λ v. v.items) c.in-Ok.ensures.stores) first c.in-Ok.ensures.frame.main.tells m.moments c.write_all.new.moments c.in-Ok.ensures.frame.drawn (c.in-Ok.ensures.frame.main_last c.requires.ready.main_last)
-    c.args.plan.files c.write_all.new.stores.items c.in-Ok-write_all.ensures.any_moment p.named
+    c.args.plan.files (HasSlot c.args.plan.files) c.write_all.new.stores.items c.in-Ok-write_all.ensures.any_moment p.named
     p.end c.args.bytes.now p.ends c.in-Ok-write_all.ensures.drawn_from c.in-Ok-write_all.ensures.last c.in-Ok-write_all.ensures.stable
     (g.D.Disk.disk c.commit-2.new.outside.main) c.commit-2.new.store (Ok tt) c.commit-2.new.outside.stores.items (ap (λ v. v.items) c.in-Ok-commit.ensures.stores) c.in-Ok-commit.ensures.frame.main (c.in-Ok-commit.ensures.committed p.mid p.end first.ends.held applied)
 
@@ -118,7 +119,7 @@ returns-clause-whole g c kept held p =
     let applied = ap (λ (x : Cat). apply_all x c.args.plan.after) first.ends.cat ∙ p.then in
     keep_last g.P.Plugin.plugin kept p.mid p.begins o.moments c.args.store.now c.commit.new.store (g.D.Disk.disk o.main) (g.D.Disk.disk m.main) o.stores.items m.stores.items
     (ap (λ v. v.items) c.in-Ok.ensures.stores) first c.in-Ok.ensures.frame.main.tells m.moments c.write_all.new.moments c.in-Ok.ensures.frame.drawn (c.in-Ok.ensures.frame.main_last c.requires.ready.main_last)
-    c.args.plan.files c.write_all.new.stores.items c.in-Ok-write_all.ensures.any_moment p.named
+    c.args.plan.files (HasSlot c.args.plan.files) c.write_all.new.stores.items c.in-Ok-write_all.ensures.any_moment p.named
     p.end c.args.bytes.now p.ends c.in-Ok-write_all.ensures.drawn_from c.in-Ok-write_all.ensures.last c.in-Ok-write_all.ensures.stable
     (g.D.Disk.disk c.commit-2.new.outside.main) c.commit-2.new.store (Err c.in-Err-commit.error) c.commit-2.new.outside.stores.items (ap (λ v. v.items) c.in-Err-commit.ensures.stores) c.in-Err-commit.ensures.frame.main (c.in-Err-commit.ensures.committed p.mid p.end first.ends.held applied)
 

@@ -1,5 +1,4 @@
 use Rattle.std.proofs.Common.{sym, ◌∙◌}
-use Rattle.grid_model.specs.declared.plans.PlanError.{PlanError}
 use Rattle.plan_object.specs.Writing.{Wanted}
 use Rattle.plan_object.proofs.GotFiles.{known_named}
 use Rattle.plan_object.proofs.PutRows.{exists, free_path, may_be_put, no_access, no_resource, no_room, no_target}

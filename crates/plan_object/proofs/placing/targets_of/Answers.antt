@@ -1,4 +1,4 @@
-use Rattle.std.proofs.Common.{◌==◌, ℕ, List, Vec, Global, get_or, refl, sym, ap, ◌∙◌}
+use Rattle.std.proofs.Common.{◌==◌, List, Vec, Global, get_or, refl, sym, ap, ◌∙◌}
 use Rattle.std.specs.List.{list_any}
 use Rattle.plan_object.specs.declared.placing.Target.{Target}
 use Rattle.plan_object.proofs.Targets.{target_new, target_there}
