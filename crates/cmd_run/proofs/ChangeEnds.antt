@@ -1,5 +1,5 @@
 -- How a request that changes rows alone ends.
-use Rattle.std.proofs.Common.{◌≡◌, ℕ, ◌+◌, ◌<◌, ◌≤◌, List, [], ◌++◌, Ok, Err, None, IsTrue, refl, sym, ap, ◌∙◌, subst, arith}
+use Rattle.std.proofs.Common.{◌≡◌, ◌≢◌, ◌==◌, inl, inr, ℕ, ◌+◌, ◌<◌, ◌≤◌, false, length, List, [], ◌∷◌, ◌++◌, Ok, Err, None, IsTrue, refl, sym, ap, ◌∙◌, subst, arith}
 use Rattle.std.specs.Prelude.{Result, ⊤}
 use Rattle.grid_outside.specs.Ambient.{AmbientState}
 use Rattle.grid_outside.specs.Device.{IsSettled}
@@ -40,6 +40,11 @@ use Rattle.cmd_run.proofs.Vaults.{some_vault}
 -- a device that was not called
 pub rests_self : (s : SinkState) → Rests s s
 rests_self s = record { faults = omega arith; tells = refl; last = refl; holds = λ told. refl; left = λ t image left. left }
+
+-- a list that has a length is not empty
+pub some_there : {X : Type 0} (xs : List X) → (length xs == 0) ≡ false → xs ≢ []
+some_there [] e = absurd (cc e)
+some_there (x ∷ xs) e = λ none. cc none
 
 -- a server that stands on these rows fits
 pub fits_on : (c : Cat) (main_old main : DiskState) (s : Server) → IsKept c main_old main s.store → c.pending ≡ None → c.rules ≡ [] → AreUsers c s.sessions → FitsMain main s
@@ -95,16 +100,19 @@ module _ {D A P : Type 0} (disk : D → DiskState) (ambient : A → AmbientState
       grid_new : grid_of (named number after) ≡ (state_of after_server).grid
       grid_new = ap grid_of (sym k.ends.cat)
 
-      whole_step : (IsTrue from.tells → to.holds ≡ from.holds ++ end_line number well) → IsHandledWhole old new (state_of server) c number request step after_server.store.cat (state_of after_server)
-      whole_step all =
+      differs : deltas ≢ [] → grid_of after ≢ grid_of c
+      differs some = elim change.still [ inl none ↦ absurd (some none) | inr other ↦ other ]
+
+      whole_step : deltas ≢ [] → (IsTrue from.tells → to.holds ≡ from.holds ++ end_line number well) → IsHandledWhole old new (state_of server) c number request step after_server.store.cat (state_of after_server)
+      whole_step some_deltas all =
           let W : Cat → Type 0 = λ x. IsHandledWhole old new (state_of server) c number request step x (state_of after_server) in
-          subst W (sym k.ends.cat) (whole old new (state_of server) c number request after s some (caused_same disk ambient plugin source o n from to stores_same) (gave_same disk ambient plugin source o n ambient_same) sink_last k.leaves mid put later main_last stands k.ends.settled (state_of after_server) state_new grid_new all)
+          subst W (sym k.ends.cat) (whole old new (state_of server) c number request after s some (caused_same disk ambient plugin source o n from to stores_same) (gave_same disk ambient plugin source o n ambient_same) sink_last k.leaves mid put later main_last stands k.ends.settled (differs some_deltas) (state_of after_server) state_new grid_new all)
 
       fits_new : FitsMain (disk n.main) after_server
       fits_new =
           let U : Places → Type 0 = λ x. AreUsers (named number after) x in
           fits_on (named number after) (disk o.main) (disk n.main) after_server k.ends (s.stays.pending ∙ fits.pending) (s.stays.rules ∙ fits.rules) (subst U (sym sessions_same) (users_last c after server.sessions number keeps fits.users some))
 
-      pub said_then : (result : Result ⊤ Ending) → PutEnds (end_line number well) from to result → Obeys old new server number request result after_server
-      said_then (Ok done) ends = handled step (whole_step ends, fits_new)
-      said_then (Err e) ends = handled step tt
+      pub said_then : deltas ≢ [] → (result : Result ⊤ Ending) → PutEnds (end_line number well) from to result → Obeys old new server number request result after_server
+      said_then some_deltas (Ok done) ends = handled step (whole_step some_deltas ends, fits_new)
+      said_then some_deltas (Err e) ends = handled step tt

@@ -1,5 +1,5 @@
 -- A request that changes rows alone.
-use Rattle.std.proofs.Common.{◌≡◌, ◌⊎◌, inl, inr, ℕ, ◌+◌, ◌<◌, ◌≤◌, List, [], ◌∷◌, ◌++◌, Ok, Err, None, Some, IsTrue, refl, sym, ap, ◌∙◌, subst, arith, append-nil}
+use Rattle.std.proofs.Common.{◌≡◌, ◌≢◌, ◌⊎◌, inl, inr, ℕ, ◌+◌, ◌<◌, ◌≤◌, List, [], ◌∷◌, ◌++◌, Ok, Err, None, Some, IsTrue, refl, sym, ap, ◌∙◌, subst, arith, append-nil}
 use Rattle.std.specs.Prelude.{Result, ⊤, length, take}
 use Rattle.std.proofs.lemmas.Bool.{cases_lt}
 use Rattle.grid_outside.specs.Device.{IsSettled, Leaves}
@@ -154,13 +154,14 @@ module _ {B : Type 0} (old new : World B) (at : State) (c : Cat) (number : ℕ) 
       abbrev pub said : RequestStep old new at c number request
       said = step_of (λ told. line.acts.holds told) images
 
-      pub whole : (end : State) → s.d.state ≡ end → grid_of (named number after) ≡ end.grid → (IsTrue old.sink.tells → new.sink.holds ≡ old.sink.holds ++ end_line number well) → IsHandledWhole old new at c number request said (named number after) end
-      whole end state grid all = record {
+      pub whole : grid_of after ≢ grid_of c → (end : State) → s.d.state ≡ end → grid_of (named number after) ≡ end.grid → (IsTrue old.sink.tells → new.sink.holds ≡ old.sink.holds ++ end_line number well) → IsHandledWhole old new at c number request said (named number after) end
+      whole differs end state grid all = record {
         state = state;
         grid = grid;
         follows = kept behind;
         stands = stands;
         text = λ told. all told ∙ ap (λ (t : Text). old.sink.holds ++ t) (sym text_is);
+        still = λ no_sweep none same told. absurd (differs (sym (ap (λ (x : State). x.grid) s.state) ∙ same));
         main_settled = λ told settled. settled_new told;
         sink_settled = λ told settled. put.settled told;
       }

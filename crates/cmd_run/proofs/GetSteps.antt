@@ -191,6 +191,7 @@ module _ {B : Type 0} (old new : World B) (server : Server) (n : ℕ) (request :
         follows = kept behind;
         stands = stands;
         text = λ told. put_all (mid_tells told) ∙ ap (λ (x : Text). x ++ text) (all.all told) ∙ append_assoc old.sink.holds lines text ∙ ap (λ (x : Text). old.sink.holds ++ x) (sym reply_is);
+        still = λ no_sweep none same told. absurd (cc none);
         main_settled = λ told settled. settled_new told;
         sink_settled = λ told settled. put.settled (mid_tells told);
       }

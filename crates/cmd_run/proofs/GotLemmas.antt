@@ -47,7 +47,7 @@ use Rattle.grid_model.proofs.Comparing.{same_text-Decides}
 use Rattle.grid_headline.specs.Worlds.{World, faults_of}
 use Rattle.grid_headline.specs.Files.{IsKnown}
 use Rattle.grid_headline.specs.Causes.{AreCaused, faults_told}
-use Rattle.grid_headline.specs.Draws.{AreSomeOf, none, skip, keep, words_of as words_told, times_of as times_told}
+use Rattle.grid_headline.specs.Draws.{AreSomeOf, none, skip, keep, told_words as words_told, times_of as times_told}
 use Rattle.run_laws.specs.Steps.{Gave, IsToldOf}
 use Rattle.plan_object.specs.Sending.{Sends}
 use Rattle.cmd_run.specs.declared.server.Server.{Server}

@@ -77,7 +77,7 @@ module _ (c after : Cat) (from : ℕ) (old : Journal) (main_old main_new : DiskS
     leaves = λ told settled t image late left. either_of c after (Ok tt) image (committed.leaves told settled t image late left);
   }
 
-  ends_err : (e : JournalError) (new : Journal) (server : Server) → CommitEnds c after old main_old main_new (Err e) new → KeepEnds c after main_old main_new (Err (ending_of e)) server
+  pub ends_err : (e : JournalError) (new : Journal) (server : Server) → CommitEnds c after old main_old main_new (Err e) new → KeepEnds c after main_old main_new (Err (ending_of e)) server
   ends_err journal.Memory new server ends = tt
   ends_err journal.DiskFault new server ends = tt
   ends_err (journal.Worn what place) new server ends = (ends.0, ends.1, λ told. (ends.2 told).0)

@@ -23,6 +23,8 @@ pub mod Remembering
 pub mod Resting
 pub mod SayLemmas
 pub mod SentFiles
+pub mod SweepEnds
+pub mod SweepLemmas
 pub mod Users
 pub mod Vaults
 pub mod WorkingLemmas

@@ -10,7 +10,9 @@ use Rattle.grid_model.specs.RowGrids.{grid_of, user_name}
 use Rattle.grid_model.specs.Applying.{is_user, is_group_kind}
 use Rattle.grid_model.specs.Meanings.{Meaning, gives}
 use Rattle.grid_model.specs.Operations.Common.{is_person}
-use Rattle.grid_model.specs.Orders.{Order, logs_in, logs_out, quits}
+use Rattle.grid_model.specs.Levels.{is_admin}
+use Rattle.grid_model.specs.Refusing.{unless}
+use Rattle.grid_model.specs.Orders.{Order, logs_in, logs_out, quits, sweeps}
 use Rattle.grid_model.specs.Runs.{Request, does}
 use Rattle.grid_model.specs.Sessions as sessions
 use Rattle.grid_model.specs.Sessions.{State, Sessions}
@@ -231,6 +233,32 @@ module _ (s : Server) (session : ℕ) where
       by : (o : Option sessions.Session) → get now.sessions session ≡ o → does now (Ok (session, quits)) [] ≡ gives (answered now from well)
       by None is = without_login now session quits [] is
       by (Some x) is = with_login now session quits [] x is
+
+  -- ---- a sweep
+
+  -- what a sweep answers, by whether an administrator asks for it
+  abbrev swept_by : Bool → Done
+  swept_by admin = elim (unless admin refusal.NotAdmin) [ Err r ↦ refused_at_once now from r | Ok _ ↦ answered now from well ]
+
+  module _ (u : ℕ) (has : user_of (at s.sessions session) ≡ Some u) where
+    swept_so : (admin : Bool) → is_admin (get (grid_of c).users (names u)) ≡ admin → does now (Ok (session, sweeps)) [] ≡ gives (swept_by admin)
+    swept_so admin is =
+        with_login now session sweeps [] (record { user = names u; upload = None }) (sessions_of-user names s.sessions session u has)
+        ∙ ap (λ b. gives (swept_by b)) is
+
+    pub says_swept : is_admin (get (grid_of c).users (names u)) ≡ true → SaysOnly now (Ok (session, sweeps)) well now
+    says_swept admin = record { d = answered now from well; does_so = swept_so true admin; reply_is = refl; all = refl; state = refl; grid = refl; by_rows = tt }
+
+    pub says_not_admin : is_admin (get (grid_of c).users (names u)) ≡ false → SaysOnly now (Ok (session, sweeps)) (end.Refused refusal.NotAdmin) now
+    says_not_admin other = record {
+      d = refused_at_once now from refusal.NotAdmin;
+      does_so = swept_so false other;
+      reply_is = refl;
+      all = refl;
+      state = refl;
+      grid = refl;
+      by_rows = tt;
+    }
 
   -- ---- words that were refused
 

@@ -6,14 +6,14 @@ use Rattle.grid_model.specs.Names.{Text, SpellsName, is_name, same_text}
 use Rattle.grid_model.specs.declared.requests.Request.{Request}
 use Rattle.grid_model.specs.declared.requests.Verb.{Verb}
 use Rattle.grid_model.specs.declared.requests.Verb.TheVariants as verb
-use Rattle.cmd_read.specs.Table.{Form, Value, Means, Asks, Way, Row, among, number_of, table, of_sessions, of_users, of_resources, of_rules, of_collections, of_objects, of_uploads, of_metadata}
-use Rattle.cmd_read.specs.Reading.{Makes, fits, chosen, AsksBy, ReadsVerb, ReadsIn, ReadsBehind, Reads, session_of}
+use Rattle.cmd_read.specs.Table.{Form, FormValue, Means, VerbFrom, Way, Row, among, number_of, table, of_sessions, of_users, of_resources, of_rules, of_collections, of_objects, of_uploads, of_metadata}
+use Rattle.cmd_read.specs.Reading.{Makes, fits_forms, chosen, WordsAsk, ReadsVerb, ReadsIn, ReadsBehind, Reads, session_of}
 use Rattle.cmd_run.specs.Asking.{HasNewName}
 
 -- whatever values stand for words of these forms, the verb has a new name
-abbrev AllMade : (fs : List Form) → Asks fs → Type 0
+abbrev AllMade : (fs : List Form) → VerbFrom fs → Type 0
 AllMade [] v = HasNewName v
-AllMade (f ∷ fs) v = (w : Text) (x : Value f) → Means f w x → AllMade fs (v x)
+AllMade (f ∷ fs) v = (w : Text) (x : FormValue f) → Means f w x → AllMade fs (v x)
 
 abbrev AllWays : List Way → Type 0
 AllWays [] = Unit {0}
@@ -173,17 +173,17 @@ table_so =
 
 -- ---- words
 
-made : (fs : List Form) (v : Asks fs) → AllMade fs v → (ws : List Text) (its : Verb) → Makes fs ws v its → HasNewName its
+made : (fs : List Form) (v : VerbFrom fs) → AllMade fs v → (ws : List Text) (its : Verb) → Makes fs ws v its → HasNewName its
 made [] v all [] its is = subst HasNewName is all
 made [] v all (w ∷ ws) its is = absurd is
 made (f ∷ fs) v all [] its is = absurd is
 made (f ∷ fs) v all (w ∷ ws) its is = made fs (v is.0) (all w is.0 is.1) ws its is.2
 
-by_way : (ways : List Way) → AllWays ways → (ws : List Text) (its : Verb) → AsksBy (chosen ways ws) ws its → HasNewName its
+by_way : (ways : List Way) → AllWays ways → (ws : List Text) (its : Verb) → WordsAsk (chosen ways ws) ws its → HasNewName its
 by_way [] all ws its asks = absurd asks
-by_way (way ∷ ways) all ws its asks = by (fits way.forms ws) (λ is. by_way ways all.1 ws its is) asks
+by_way (way ∷ ways) all ws its asks = by (fits_forms way.forms ws) (λ is. by_way ways all.1 ws its is) asks
   where
-    by : (b : Bool) → (AsksBy (chosen ways ws) ws its → HasNewName its) → AsksBy (cond b (Some way) (chosen ways ws)) ws its → HasNewName its
+    by : (b : Bool) → (WordsAsk (chosen ways ws) ws its → HasNewName its) → WordsAsk (cond b (Some way) (chosen ways ws)) ws its → HasNewName its
     by true later is = made way.forms way.makes all.0 ws its is
     by false later is = later is
 

@@ -11,14 +11,14 @@ use Rattle.grid_model.specs.Operations.Table.{Operation, row}
 use Rattle.grid_model.specs.Orders.{works}
 use Rattle.grid_model.specs.Runs.{Request, does}
 use Rattle.grid_model.specs.Sessions.{Session, State}
-use Rattle.grid_model.specs.Working.{Done, running}
+use Rattle.grid_model.specs.Working.{Done, running, well}
 use Rattle.grid_model.specs.declared.replies.End.{End}
 use Rattle.grid_model.specs.declared.replies.End.TheVariants as end
 use Rattle.grid_model.specs.declared.replies.Reply.{Reply}
 use Rattle.plan_object.specs.Writing.{GoesTo}
 use Rattle.cmd_run.specs.declared.server.Server.{Server}
 use Rattle.cmd_run.specs.Fits.{state_of}
-use Rattle.cmd_run.specs.Obeys.{IsRefusedAtOnce, ChangesGrid}
+use Rattle.cmd_run.specs.Obeys.{IsRefusedAtOnce, ChangesGrid, SaysOnly}
 use Rattle.cmd_run.specs.Puts.{AsksToPut, operation_of, wanted}
 use Rattle.cmd_run.specs.declared.putting.Putting.{Putting}
 use Rattle.cmd_run.proofs.Operating.{with_login, not_too_much, waited_so}
@@ -33,6 +33,15 @@ changed_not_refused at before request after c r =
     let ended : c.d.reply.end ≡ end.Done [] = ap (λ (x : Reply). x.end) c.reply_is in
     let refused : r.d.reply.end ≡ end.Refused r.why = ap (λ (x : Reply). x.end) r.reply_is in
     let both : end.Done [] ≡ end.Refused r.why = sym ended ∙ ap (λ (d : Done). d.reply.end) same ∙ refused in
+    absurd cc
+
+-- one that is answered ok
+pub well_not_refused : (at : State) (request : Request) → SaysOnly at request well at → ¬ IsRefusedAtOnce at request
+well_not_refused at request says r =
+    let same : says.d ≡ r.d = same_done says.d r.d (sym says.does_so ∙ r.does_so) in
+    let ended : says.d.reply.end ≡ well = ap (λ (x : Reply). x.end) says.reply_is in
+    let refused : r.d.reply.end ≡ end.Refused r.why = ap (λ (x : Reply). x.end) r.reply_is in
+    let both : well ≡ end.Refused r.why = sym ended ∙ ap (λ (d : Done). d.reply.end) same ∙ refused in
     absurd cc
 
 -- a deed waits for a mark

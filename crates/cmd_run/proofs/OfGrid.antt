@@ -47,7 +47,7 @@ pub refuse_of : (b : Bool) (r : Refusal) → IsOfGrid r → OfGrid (refuse b r)
 refuse_of true r is = is
 refuse_of false r is = tt
 
-there_of : {A : Type 0} (o : Option A) (r : Refusal) → IsOfGrid r → OfGrid (there o r)
+pub there_of : {A : Type 0} (o : Option A) (r : Refusal) → IsOfGrid r → OfGrid (there o r)
 there_of None r is = is
 there_of (Some a) r is = tt
 
@@ -101,15 +101,6 @@ module _ (g : Grid) (user : Text) (p : Path) (r : Text) (mode : Mode) (body : Li
 
   abbrev allowed : Path → Or Act
   allowed c = unless (may_put g user c p) refusal.NoAccess >>= (λ _. standing c)
-
-  -- what is put may stand at the path
-  pub put_stands : (a : Act) → put_row g user p r mode body ≡ Ok a → may_stand g p mode ≡ true
-  put_stands a is =
-      let one = bind_ok (collection_above g p) (λ c. resource_there g r >>= (λ _. allowed c)) a is in
-      let two = bind_ok (resource_there g r) (λ _. allowed one.0) a one.2 in
-      let three = bind_ok (unless (may_put g user one.0 p) refusal.NoAccess) (λ _. standing one.0) a two.2 in
-      let four = bind_ok (unless (may_stand g p mode) refusal.Exists) (λ _. targeted one.0) a three.2 in
-      unless_ok (may_stand g p mode) refusal.Exists four.0 four.1
 
   pub put_of : OfGrid (put_row g user p r mode body)
   put_of =

@@ -1,30 +1,38 @@
 -- What the rows of operations refuse that change rows alone is of the grid.
 use Rattle.std.proofs.Common.{◌≡◌, refl, Bool, true, false, [], ◌∷◌, Option, Some, None, Ok, Err}
-use Rattle.std.specs.Prelude.{⊤, ◌||◌}
+use Rattle.std.specs.Prelude.{⊤, ℕ, ◌||◌, is_some}
+use Rattle.std.specs.List.{list_any}
 use Rattle.grid_model.specs.Maps.{get, has, put, add, remove}
 use Rattle.grid_model.specs.MapLists.{size}
 use Rattle.grid_model.specs.Names.{Text, Path, is_under, same_text}
-use Rattle.grid_model.specs.Grid.{Grid, everybody, homes, home_of}
+use Rattle.grid_model.specs.Grid.{Grid, Object, Resource, everybody, homes, home_of}
 use Rattle.grid_model.specs.Levels.{may, is_admin}
 use Rattle.grid_model.specs.Bounds.{within}
-use Rattle.grid_model.specs.Refusing.{Or, ◌>>=◌, unless, refuse}
+use Rattle.grid_model.specs.Refusing.{Or, ◌>>=◌, unless, refuse, there}
 use Rattle.grid_model.specs.Deeds.{Act, changes}
 use Rattle.grid_model.specs.Moves.{moved_grid}
-use Rattle.grid_model.specs.Operations.Common.{collection_above, needs, needs_admin, is_taken, is_fixed, forget}
+use Rattle.grid_model.specs.Operations.Common.{collection_above, needs, needs_admin, is_taken, is_fixed, forget, object_there, resource_there}
+use Rattle.grid_model.specs.Operations.Replicas.{trim_row, rm_row, trimmed, has_good, with_replicas}
 use Rattle.grid_model.specs.Operations.Collections.{mv_row, rmdir_row, holds_items}
 use Rattle.grid_model.specs.Operations.Access.{chmod_row, inherit_row, with_entry}
-use Rattle.grid_model.specs.Operations.Users.{mkuser_row, mkgroup_row, addmember_row, rmmember_row, with_user, with_group, can_join, is_in_group}
+use Rattle.grid_model.specs.Operations.Users.{mkuser_row, mkgroup_row, addmember_row, rmmember_row, with_user, with_group, can_be_member, is_in_group}
+use Rattle.grid_model.specs.Operations.Resources.{mkresc_row, addchild_row, modresc_row, can_stand_at, grid_with_resource, with_child, is_full}
+use Rattle.grid_model.specs.Trees.{upward, is_in}
+use Rattle.grid_model.specs.Applying.{is_storage}
 use Rattle.grid_model.specs.Operations.Table.{Operation, row}
 use Rattle.grid_model.specs.Working.{words_of}
 use Rattle.grid_model.specs.declared.grid.UserKind.{UserKind}
 use Rattle.grid_model.specs.declared.grid.Level.{Level}
 use Rattle.grid_model.specs.declared.grid.Level.TheVariants.{Write, Own}
-use Rattle.grid_model.specs.declared.refusal.What.TheVariants.{Access, Collections, Members, Users}
+use Rattle.grid_model.specs.declared.grid.ResourceKind.{ResourceKind}
+use Rattle.grid_model.specs.declared.grid.ResourceKind.TheVariants.{Storage}
+use Rattle.grid_model.specs.declared.refusal.TreeCause.TheVariants.{Leaf, HasParent, Cycle, Full, Coordinating}
+use Rattle.grid_model.specs.declared.refusal.What.TheVariants.{Access, Collections, Members, Resources, Users}
 use Rattle.grid_model.specs.declared.refusal.Refusal.TheVariants as refusal
 use Rattle.grid_model.specs.declared.requests.Verb.{Verb}
 use Rattle.grid_model.specs.declared.requests.Verb.TheVariants as verb
 use Rattle.cmd_run.specs.Operating.{operation_by}
-use Rattle.cmd_run.proofs.OfGrid.{OfGrid, then_of, unless_of, refuse_of, within_of, above_of, mkdir_of}
+use Rattle.cmd_run.proofs.OfGrid.{OfGrid, then_of, unless_of, refuse_of, there_of, within_of, above_of, mkdir_of}
 
 module _ (g : Grid) (user : Text) where
   admin_of : OfGrid (needs_admin g user)
@@ -158,12 +166,12 @@ module _ (g : Grid) (user : Text) where
     not_in = refuse (is_in_group g group member) refusal.Exists >>= (λ _. with_room)
 
     abbrev joining : Or Act
-    joining = unless (can_join g group member) refusal.NoUser >>= (λ _. not_in)
+    joining = unless (can_be_member g group member) refusal.NoUser >>= (λ _. not_in)
 
     addmember_of : OfGrid (addmember_row g user group member)
     addmember_of =
         then_of (needs_admin g user) (λ _. joining) admin_of (λ _.
-        then_of (unless (can_join g group member) refusal.NoUser) (λ _. not_in) (unless_of (can_join g group member) refusal.NoUser tt) (λ _.
+        then_of (unless (can_be_member g group member) refusal.NoUser) (λ _. not_in) (unless_of (can_be_member g group member) refusal.NoUser tt) (λ _.
         then_of (refuse (is_in_group g group member) refusal.Exists) (λ _. with_room) (refuse_of (is_in_group g group member) refusal.Exists tt) (λ _.
         then_of (within Members (size (add g.members (group, member)))) (λ _. joined) (within_of Members (size (add g.members (group, member)))) (λ _. tt))))
 
@@ -177,14 +185,117 @@ module _ (g : Grid) (user : Text) where
     may_leave = refuse (same_text group everybody) refusal.Fixed >>= (λ _. is_member)
 
     abbrev leaving : Or Act
-    leaving = unless (can_join g group member) refusal.NoUser >>= (λ _. may_leave)
+    leaving = unless (can_be_member g group member) refusal.NoUser >>= (λ _. may_leave)
 
     rmmember_of : OfGrid (rmmember_row g user group member)
     rmmember_of =
         then_of (needs_admin g user) (λ _. leaving) admin_of (λ _.
-        then_of (unless (can_join g group member) refusal.NoUser) (λ _. may_leave) (unless_of (can_join g group member) refusal.NoUser tt) (λ _.
+        then_of (unless (can_be_member g group member) refusal.NoUser) (λ _. may_leave) (unless_of (can_be_member g group member) refusal.NoUser tt) (λ _.
         then_of (refuse (same_text group everybody) refusal.Fixed) (λ _. is_member) (refuse_of (same_text group everybody) refusal.Fixed tt) (λ _.
         then_of (unless (has g.members (group, member)) refusal.NoMember) (λ _. left) (unless_of (has g.members (group, member)) refusal.NoMember tt) (λ _. tt))))
+
+  module _ (name : Text) (kind : ResourceKind) (slot : ℕ) where
+    abbrev with_leaf : Grid
+    with_leaf = grid_with_resource g name kind slot
+
+    abbrev in_slot : Or Act
+    in_slot = unless (can_stand_at kind slot g.stores) (refusal.NoSlot slot) >>= (λ _. Ok (changes with_leaf))
+
+    abbrev room_resources : Or Act
+    room_resources = within Resources (size with_leaf.resources) >>= (λ _. in_slot)
+
+    abbrev unlike : Or Act
+    unlike = refuse (has g.resources name) refusal.Exists >>= (λ _. room_resources)
+
+    mkresc_of : OfGrid (mkresc_row g user name kind slot)
+    mkresc_of =
+        then_of (needs_admin g user) (λ _. unlike) admin_of (λ _.
+        then_of (refuse (has g.resources name) refusal.Exists) (λ _. room_resources) (refuse_of (has g.resources name) refusal.Exists tt) (λ _.
+        then_of (within Resources (size with_leaf.resources)) (λ _. in_slot) (within_of Resources (size with_leaf.resources)) (λ _.
+        then_of (unless (can_stand_at kind slot g.stores) (refusal.NoSlot slot)) (λ _. Ok (changes with_leaf))
+        (unless_of (can_stand_at kind slot g.stores) (refusal.NoSlot slot) tt) (λ _. tt))))
+
+  module _ (p c : Text) where
+    abbrev below : Resource → Or Act
+    below child = Ok (changes (record g { resources = with_child g.resources p c child }))
+
+    abbrev not_full : Resource → Resource → Or Act
+    not_full above child = refuse (is_full g.resources p above.kind) (refusal.BadTree Full) >>= (λ _. below child)
+
+    abbrev no_cycle : Resource → Resource → Or Act
+    no_cycle above child = refuse (list_any (same_text c) (upward g.resources p)) (refusal.BadTree Cycle) >>= (λ _. not_full above child)
+
+    abbrev orphan : Resource → Resource → Or Act
+    orphan above child = refuse (is_some child.parent) (refusal.BadTree HasParent) >>= (λ _. no_cycle above child)
+
+    abbrev node : Resource → Resource → Or Act
+    node above child = refuse (is_storage above.kind) (refusal.BadTree Leaf) >>= (λ _. orphan above child)
+
+    abbrev the_child : Resource → Or Act
+    the_child above = there (get g.resources c) refusal.NoResource >>= node above
+
+    abbrev the_parent : Or Act
+    the_parent = there (get g.resources p) refusal.NoResource >>= the_child
+
+    addchild_of : OfGrid (addchild_row g user p c)
+    addchild_of =
+        then_of (needs_admin g user) (λ _. the_parent) admin_of (λ _.
+        then_of (there (get g.resources p) refusal.NoResource) the_child (there_of (get g.resources p) refusal.NoResource tt) (λ above.
+        then_of (there (get g.resources c) refusal.NoResource) (node above) (there_of (get g.resources c) refusal.NoResource tt) (λ child.
+        then_of (refuse (is_storage above.kind) (refusal.BadTree Leaf)) (λ _. orphan above child) (refuse_of (is_storage above.kind) (refusal.BadTree Leaf) tt) (λ _.
+        then_of (refuse (is_some child.parent) (refusal.BadTree HasParent)) (λ _. no_cycle above child) (refuse_of (is_some child.parent) (refusal.BadTree HasParent) tt) (λ _.
+        then_of (refuse (list_any (same_text c) (upward g.resources p)) (refusal.BadTree Cycle)) (λ _. not_full above child)
+        (refuse_of (list_any (same_text c) (upward g.resources p)) (refusal.BadTree Cycle) tt) (λ _.
+        then_of (refuse (is_full g.resources p above.kind) (refusal.BadTree Full)) (λ _. below child)
+        (refuse_of (is_full g.resources p above.kind) (refusal.BadTree Full) tt) (λ _. tt)))))))
+
+  module _ (name : Text) (up : Bool) where
+    abbrev turned : Resource → Or Act
+    turned x = Ok (changes (record g { resources = put g.resources name (record x { up = up }) }))
+
+    abbrev a_leaf : Resource → Or Act
+    a_leaf x = unless (is_storage x.kind) (refusal.BadTree Coordinating) >>= (λ _. turned x)
+
+    abbrev the_resource : Or Act
+    the_resource = there (get g.resources name) refusal.NoResource >>= a_leaf
+
+    modresc_of : OfGrid (modresc_row g user name up)
+    modresc_of =
+        then_of (needs_admin g user) (λ _. the_resource) admin_of (λ _.
+        then_of (there (get g.resources name) refusal.NoResource) a_leaf (there_of (get g.resources name) refusal.NoResource tt) (λ x.
+        then_of (unless (is_storage x.kind) (refusal.BadTree Coordinating)) (λ _. turned x) (unless_of (is_storage x.kind) (refusal.BadTree Coordinating) tt) (λ _. tt)))
+
+  module _ (p : Path) (r : Text) where
+    abbrev trim_done : Object → Or Act
+    trim_done o = Ok (changes (with_replicas g p o (trimmed g.resources o.replicas r)))
+
+    abbrev one_left : Object → Or Act
+    one_left o = unless (has_good (trimmed g.resources o.replicas r)) refusal.LastGood >>= (λ _. trim_done o)
+
+    abbrev some_there : Object → Or Act
+    some_there o = unless (list_any (λ e. is_in g.resources r e.1.leaf) o.replicas.entries) refusal.NoReplica >>= (λ _. one_left o)
+
+    abbrev on_resource : Object → Or Act
+    on_resource o = resource_there g r >>= (λ _. some_there o)
+
+    trim_of : OfGrid (trim_row g user p r)
+    trim_of =
+        then_of (object_there g p) (λ o. needs g user p Own >>= (λ _. on_resource o)) (there_of (get g.objects p) refusal.NoObject tt) (λ o.
+        then_of (needs g user p Own) (λ _. on_resource o) (unless_of (may g user p Own) refusal.NoAccess tt) (λ _.
+        then_of (resource_there g r) (λ _. some_there o) (unless_of (has g.resources r) refusal.NoResource tt) (λ _.
+        then_of (unless (list_any (λ e. is_in g.resources r e.1.leaf) o.replicas.entries) refusal.NoReplica) (λ _. one_left o)
+        (unless_of (list_any (λ e. is_in g.resources r e.1.leaf) o.replicas.entries) refusal.NoReplica tt) (λ _.
+        then_of (unless (has_good (trimmed g.resources o.replicas r)) refusal.LastGood) (λ _. trim_done o)
+        (unless_of (has_good (trimmed g.resources o.replicas r)) refusal.LastGood tt) (λ _. tt)))))
+
+  module _ (p : Path) where
+    abbrev rm_done : Or Act
+    rm_done = Ok (changes (forget (record g { objects = remove g.objects p }) p))
+
+    rm_of : OfGrid (rm_row g user p)
+    rm_of =
+        then_of (object_there g p) (λ _. needs g user p Own >>= (λ _. rm_done)) (there_of (get g.objects p) refusal.NoObject tt) (λ _.
+        then_of (needs g user p Own) (λ _. rm_done) (unless_of (may g user p Own) refusal.NoAccess tt) (λ _. tt))
 
   -- ---- by the verb
 
@@ -197,6 +308,12 @@ module _ (g : Grid) (user : Text) where
   row_of_grid (verb.MkUser name kind) = mkuser_of name kind
   row_of_grid (verb.MkGroup name) = mkgroup_of name
   row_of_grid (verb.RmDir path) = rmdir_of path
+  row_of_grid (verb.MkStorage name slot) = mkresc_of name Storage slot
+  row_of_grid (verb.MkCoordinating name kind) = mkresc_of name kind 0
+  row_of_grid (verb.AddChild parent child) = addchild_of parent child
+  row_of_grid (verb.ModResc name up) = modresc_of name up
+  row_of_grid (verb.Trim path resource) = trim_of path resource
+  row_of_grid (verb.Rm path) = rm_of path
   row_of_grid (verb.MkDir path) = mkdir_of g user path
   row_of_grid (verb.Mv from to) = mv_of from to
   row_of_grid (verb.ChMod level name path) = chmod_of level name path
@@ -213,6 +330,12 @@ module _ (g : Grid) (user : Text) where
   pub silent_by : (v : Verb) → IsSilent (operation_by v)
   silent_by (verb.MkUser name kind) = refl
   silent_by (verb.MkGroup name) = refl
+  silent_by (verb.MkStorage name slot) = refl
+  silent_by (verb.MkCoordinating name kind) = refl
+  silent_by (verb.AddChild parent child) = refl
+  silent_by (verb.ModResc name up) = refl
+  silent_by (verb.Trim path resource) = refl
+  silent_by (verb.Rm path) = refl
   silent_by (verb.MkDir path) = refl
   silent_by (verb.RmDir path) = refl
   silent_by (verb.Mv from to) = refl

@@ -10,7 +10,7 @@ use Rattle.grid_model.specs.Refusing.{Or}
 use Rattle.grid_model.specs.Deeds.{Act, Deed, changes, deed, fits, by_mark}
 use Rattle.grid_model.specs.Operations.Table.{Operation, row}
 use Rattle.grid_model.specs.Meanings.{Meaning, gives, waits, mapped}
-use Rattle.grid_model.specs.Doing.{Course, Did, do_act, where_fits, with_result, taking}
+use Rattle.grid_model.specs.Doing.{Course, Did, do_act, where_mark_fits, with_result, taking}
 use Rattle.grid_model.specs.Sessions.{Session, State}
 use Rattle.grid_model.specs.Orders.{Order, works}
 use Rattle.grid_model.specs.Working.{Done, Worked, Sent, begun, done, refused_at_once, work, running, words_of, sent_by, operate}
@@ -92,7 +92,7 @@ module _ (at : State) (none : at.rules ≡ []) (user : Text) (op : Operation) wh
   waited_so d is = alone [] (Ok (deed d)) is
 
   abbrev by_fit : Deed → Mark → Bool → Meaning Done
-  by_fit d m b = mapped (answers at) (mapped (λ (x : Did). record { state = x.state; failure = x.failure; words = its_words; rows = []; sent = its_sent (m ∷ []) }) (where_fits b (with_result (taking (begun at.grid (m ∷ [])) m []) (by_mark d m))))
+  by_fit d m b = mapped (answers at) (mapped (λ (x : Did). record { state = x.state; failure = x.failure; words = its_words; rows = []; sent = its_sent (m ∷ []) }) (where_mark_fits b (with_result (taking (begun at.grid (m ∷ [])) m []) (by_mark d m))))
 
   marked : (d : Deed) (m : Mark) → row at.grid user op ≡ Ok (deed d) → fits d m ≡ true → operate at user op (begun at.grid (m ∷ [])) ≡ by_fit d m true
   marked d m is it_fits = alone (m ∷ []) (Ok (deed d)) is ∙ ap (by_fit d m) it_fits

@@ -23,7 +23,6 @@ use Rattle.grid_model.specs.Sessions.{State, Sessions}
 use Rattle.grid_model.specs.Working.{well, begun, operate}
 use Rattle.grid_model.specs.declared.marks.Mark.{Mark}
 use Rattle.grid_model.specs.declared.marks.Mark.TheVariants as mark
-use Rattle.grid_model.specs.declared.grid.Mode.TheVariants.{New}
 use Rattle.grid_model.specs.declared.plans.Plan.{Plan}
 use Rattle.grid_model.specs.declared.plans.NewFile.{NewFile}
 use Rattle.grid_model.specs.declared.replies.End.{End}
@@ -68,7 +67,7 @@ use Rattle.cmd_run.proofs.Users.{KeepsUsers, users_apply_all, users_then, users_
 use Rattle.cmd_run.proofs.Vaults.{some_vault}
 
 -- the state behind these rows
-state_behind : (c fin : Cat) (places : Places) (g : Grid) → KeepsUsers c fin → AreUsers c places → grid_of fin ≡ g → record (state_by c places) { grid = g } ≡ state_by fin places
+pub state_behind : (c fin : Cat) (places : Places) (g : Grid) → KeepsUsers c fin → AreUsers c places → grid_of fin ≡ g → record (state_by c places) { grid = g } ≡ state_by fin places
 state_behind c fin places g keeps are grid =
     ap (λ (x : Grid). (let s : State = record { grid = x; rules = []; sessions = sessions_of (user_name c) places } in s)) (sym grid)
     ∙ ap (λ (x : Sessions). (let s : State = record { grid = grid_of fin; rules = []; sessions = x } in s)) (sym (sessions_stay c fin places keeps are))
@@ -103,7 +102,7 @@ says_refused_put s p request asks word r finds =
       all = refl;
       state = refl;
       grid = refl;
-      by_rows = subst OfGrid is (put_of (grid_of s.store.cat) (user_name s.store.cat p.user) p.path p.resource New p.body);
+      by_rows = subst OfGrid is (put_of (grid_of s.store.cat) (user_name s.store.cat p.user) p.path p.resource p.mode p.body);
     }
 
 -- no more numbers of vault files

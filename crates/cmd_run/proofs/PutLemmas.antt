@@ -1,13 +1,6 @@
 -- The plan of a put, with the number of its command.
 use Rattle.std.proofs.Common.{◌≡◌, ℕ, ◌+◌, ◌<◌, ◌≤◌, ◌^◌, true, List, [], ◌∷◌, ◌++◌, length, Ok, Some, IsTrue, refl, sym, ap, ◌∙◌, subst, arith}
-use Rattle.std.specs.Prelude.{All, Result, Err, IfOk, Option, None, is_some, not, ◌&&◌, Bool, false}
-use Rattle.grid_model.specs.Maps.{has}
-use Rattle.grid_model.specs.Names.{Path}
-use Rattle.grid_model.specs.RowPaths.{object_at}
-use Rattle.grid_model.specs.Deeds.{Act}
-use Rattle.tables_laws.proofs.LookUps.{has-objects}
-use Rattle.plan_base.proofs.AtPaths.{sound_of}
-use Rattle.cmd_run.proofs.OfGrid.{put_stands}
+use Rattle.std.specs.Prelude.{All, Result, Err, IfOk}
 use Rattle.std.specs.List.{list_all}
 use Rattle.grid_model.specs.Names.{Text}
 use Rattle.grid_model.specs.Grid.{Grid}
@@ -22,7 +15,6 @@ use Rattle.grid_model.specs.declared.deltas.Delta.{Delta}
 use Rattle.grid_model.specs.declared.deltas.Delta.TheVariants as delta
 use Rattle.grid_model.specs.declared.deltas.Numbers.{Numbers}
 use Rattle.grid_model.specs.declared.marks.Mark.TheVariants.{Ran, Fault}
-use Rattle.grid_model.specs.declared.grid.Mode.TheVariants.{New}
 use Rattle.grid_model.specs.declared.plans.Plan.{Plan}
 use Rattle.grid_model.specs.declared.plans.NewFile.{NewFile}
 use Rattle.grid_journal.specs.Journal.{can_be_kept}
@@ -32,7 +24,7 @@ use Rattle.file_laws.proofs.Turning.{turns_then, turns_apply}
 use Rattle.grid_deed.proofs.Keeping.{made_more}
 use Rattle.grid_headline.specs.Numbers.{KeepsNumbers}
 use Rattle.run_laws.specs.Steps.{IsLike}
-use Rattle.plan_object.specs.Writing.{Draws, Makes, Writes}
+use Rattle.plan_object.specs.Writing.{Draws, MakesGrid, WritesFiles}
 use Rattle.cmd_run.specs.declared.putting.Putting.{Putting}
 use Rattle.cmd_run.specs.Keeps.{named}
 use Rattle.cmd_run.specs.Obeys.{StaysBeside}
@@ -97,7 +89,7 @@ ran_fits_none (copying slot slots) = refl
 ran_fits_none (reading [] slots) = refl
 ran_fits_none (reading (e ∷ es) slots) = refl
 
-module _ (c : Cat) (m : IsMade c) (p : Putting) (word now n : ℕ) (plan named_plan : Plan) (w : Writes c (put_row (grid_of c) (user_name c p.user) p.path p.resource New p.body) word now p.body plan) (k : Numbers)
+module _ (c : Cat) (m : IsMade c) (p : Putting) (word now n : ℕ) (plan named_plan : Plan) (w : WritesFiles c (put_row (grid_of c) (user_name c p.user) p.path p.resource p.mode p.body) word now p.body plan) (k : Numbers)
     (k_is : k ≡ record c.numbers { next_vault = c.numbers.next_vault + length plan.files; last = n }) (is : IsNamedPlan plan k named_plan) (few : length plan.files ≤ 2 ^ 32) where
   abbrev e : Cat
   e = w.makes.is_plan.end
@@ -126,23 +118,7 @@ module _ (c : Cat) (m : IsMade c) (p : Putting) (word now n : ℕ) (plan named_p
   }
 
 -- of a plan that is named, or where memory ran out
-pub plans_of : {E : Type 0} (c : Cat) (m : IsMade c) (p : Putting) (word now n : ℕ) (plan : Plan) → Writes c (put_row (grid_of c) (user_name c p.user) p.path p.resource New p.body) word now p.body plan → (k : Numbers)
+pub plans_of : {E : Type 0} (c : Cat) (m : IsMade c) (p : Putting) (word now n : ℕ) (plan : Plan) → WritesFiles c (put_row (grid_of c) (user_name c p.user) p.path p.resource p.mode p.body) word now p.body plan → (k : Numbers)
     → k ≡ record c.numbers { next_vault = c.numbers.next_vault + length plan.files; last = n } → length plan.files ≤ 2 ^ 32 → (r : Result Plan E) → IfOk r (IsNamedPlan plan k) → IfOk r (PlansPut c p word now n)
 plans_of c m p word now n plan w k k_is few (Ok named_plan) is = plans_put c m p word now n plan named_plan w k k_is is few
 plans_of c m p word now n plan w k k_is few (Err e) is = tt
-
--- where a new object is put there is none
-pub new_is_free : (c : Cat) → IsMade c → (user : Text) (p : Path) (r : Text) (body : List ℕ) (a : Act) → put_row (grid_of c) user p r New body ≡ Ok a → object_at c p ≡ None
-new_is_free c m user p r body a is = by (object_at c p) refl
-  where
-    none : (b d : Bool) → (not b && not d) ≡ true → b ≡ false
-    none true d e = absurd cc
-    none false d e = refl
-
-    by : (o : Option ℕ) → object_at c p ≡ o → o ≡ None
-    by None found = refl
-    by (Some id) found =
-        let there : has (grid_of c).objects p ≡ true = has-objects c (sound_of c m) p ∙ ap is_some found in
-        let free : has (grid_of c).objects p ≡ false = none (has (grid_of c).objects p) (has (grid_of c).collections p) (put_stands (grid_of c) user p r New body a is) in
-        let both : true ≡ false = sym there ∙ free in
-        absurd cc

@@ -133,6 +133,7 @@ module _ {B : Type 0} (old new : World B) (at : State) (c mid fin : Cat) (n : �
         follows = kept behind;
         stands = stands;
         text = λ told. all told ∙ ap (λ (x : Text). old.sink.holds ++ x) (sym text_is);
+        still = λ no_sweep none same told. absurd (cc none);
         main_settled = λ told settled. settled_new told;
         sink_settled = λ told settled. put.settled told;
       }

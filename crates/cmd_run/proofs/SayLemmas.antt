@@ -28,7 +28,7 @@ use Rattle.grid_deed.specs.Held.{IsHeld}
 use Rattle.grid_deed.proofs.Keeping.{held_stands}
 use Rattle.grid_headline.specs.Worlds.{World}
 use Rattle.grid_headline.specs.Files.{IsKnown}
-use Rattle.run_laws.specs.Steps.{RequestStep, IsHandledWhole, IsQuiet, OneOf, kept_so, nothing}
+use Rattle.run_laws.specs.Steps.{RequestStep, IsHandledWhole, IsLike, IsQuiet, OneOf, kept_so, unseen}
 use Rattle.cmd_run.specs.declared.server.Server.{Server}
 use Rattle.cmd_run.specs.declared.server.Ending.{Ending}
 use Rattle.cmd_run.specs.declared.server.Ending.TheVariants as ending
@@ -83,7 +83,7 @@ module _ {D A P : Type 0} (disk : D → DiskState) (ambient : A → AmbientState
     -- main still stands for the rows, and the sink has a part of the reply
     pub image_of : (t : ℕ) (main sink : Text) → IsTrue (disk o.main).tells → IsSettled (disk o.main) → o.moments < t → (disk n.main).left t main → AddsPart text from.holds sink → OneOf before.store.cat number s.d [] from.holds main sink
     image_of t main sink told settled late main_left part =
-        kept_so before.store.cat (nothing refl marks_none s.grid) (stands_still disk o.main n.main before.store.cat o.moments t main main_same main_last late settled (stood told) main_left) part
+        kept_so before.store.cat (unseen (like_self before.store.cat) marks_none s.grid) (stands_still disk o.main n.main before.store.cat o.moments t main main_same main_last late settled (stood told) main_left) part
 
     abbrev pub step_of : IsTextPut (shown_lines number rows e) o.moments from to → RequestStep old new (state_of before) before.store.cat number request
     step_of put_line =
@@ -112,9 +112,10 @@ module _ {D A P : Type 0} (disk : D → DiskState) (ambient : A → AmbientState
     whole_of put all = record {
       state = s.state;
       grid = refl;
-      follows = nothing (sym (ap (λ x. x.cat) store_same)) marks_none s.grid;
+      follows = unseen (let L : Cat → Type 0 = λ x. IsLike before.store.cat x in subst L (ap (λ x. x.cat) store_same) (like_self before.store.cat)) marks_none s.grid;
       stands = λ told. (let S : D → Type 0 = λ m. StandsFor (disk m).holds after.store.cat in subst S (sym main_same) (held_stands after.store.cat (disk o.main) after.store fits.held told));
       text = λ told. all told ∙ ap (λ (t : Text). from.holds ++ t) (sym text_is);
+      still = λ no_sweep none same told. ap (λ (m : D). (disk m).holds) main_same;
       main_settled = λ told settled. (let S : D → Type 0 = λ m. IsSettled (disk m) in subst S (sym main_same) settled);
       sink_settled = λ told settled. put.settled told;
     }

@@ -12,11 +12,11 @@ use Rattle.grid_model.specs.RowGrids.{grid_of, user_name}
 use Rattle.grid_model.specs.Applying.{IsMade, is_leaf, is_storage, slot_fits}
 use Rattle.grid_model.specs.Doing.{Course}
 use Rattle.grid_model.specs.Completing.{IsOfGrid}
-use Rattle.grid_model.specs.Operations.Table.{Operation, row, mkuser, mkgroup, mkdir, rmdir, mv, chmod, inherit, addmember, rmmember, put}
+use Rattle.grid_model.specs.Operations.Table.{Operation, row, mkuser, mkgroup, mkdir, rmdir, mv, chmod, inherit, addmember, rmmember, mkresc, addchild, modresc, put, trim, rm}
 use Rattle.grid_model.specs.Orders.{Order, works}
 use Rattle.grid_model.specs.declared.requests.Request as model
 use Rattle.grid_model.specs.declared.grid.Mode.{Mode}
-use Rattle.grid_model.specs.declared.grid.Mode.TheVariants.{New}
+use Rattle.grid_model.specs.declared.grid.ResourceKind.TheVariants.{Storage}
 use Rattle.grid_model.specs.declared.requests.Verb.{Verb}
 use Rattle.grid_model.specs.declared.requests.Verb.TheVariants as verb
 use Rattle.grid_headline.specs.Reads.{is_built}
@@ -27,7 +27,7 @@ use Rattle.cmd_run.specs.declared.working.PutLine.{PutLine}
 use Rattle.grid_model.specs.Runs.{Request}
 use Rattle.grid_model.specs.Sessions.{Session, State}
 use Rattle.grid_model.specs.Whole.{leaf_slot}
-use Rattle.grid_model.specs.Working.{begun, refused_at_once, words_of}
+use Rattle.grid_model.specs.Working.{begun, refused_at_once, well, words_of}
 use Rattle.grid_model.specs.declared.deltas.Delta.{Delta}
 use Rattle.grid_model.specs.declared.deltas.Numbers.{Numbers}
 use Rattle.grid_model.specs.declared.deltas.ReplicaRow.{ReplicaRow}
@@ -42,6 +42,7 @@ use Rattle.tables_laws.proofs.Rows.{IsIn, in_from_all, in_from_any}
 use Rattle.tables_laws.proofs.Sound.{IsSound}
 use Rattle.tables_laws.proofs.Standing.{ResourceStands, ReplicaStands}
 use Rattle.plan_base.proofs.AtPaths.{sound_of}
+use Rattle.grid_deed.proofs.DeedLemmas.{none_more}
 use Rattle.file_laws.proofs.Members.{in_of}
 use Rattle.plan_base.specs.Plans as plans
 use Rattle.sess.specs.Places.{at, user_of}
@@ -114,7 +115,23 @@ module _ (s : Server) (session user : ℕ) (has : user_of (at s.sessions session
     }
 
 pub is_change : (c : Cat) (name : Text) (op : Operation) (deltas : List Delta) (p : plans.Changes c name op deltas) → IsChange c deltas p.after
-is_change c name op deltas p = record { applied = p.applied; spelled = p.spelled; turns = p.turns; numbers = p.numbers; pending = p.pending }
+is_change c name op deltas p = record { applied = p.applied; spelled = p.spelled; turns = p.turns; numbers = p.numbers; pending = p.pending; still = p.still }
+
+-- what asks for no changes is answered ok, and leaves all as it was
+pub says_still : (s : Server) (request : Request) (deltas : List Delta) (after : Cat) → deltas ≡ [] → IsChange s.store.cat deltas after
+    → ChangesGrid (state_of s) s.store.cat request after → SaysOnly (state_of s) request well (state_of s)
+says_still s request deltas after none change asks =
+    let same : after ≡ s.store.cat = none_more s.store.cat after deltas none change.applied in
+    let stays : asks.d.state ≡ state_of s = asks.state ∙ ap (λ (x : Cat). record (state_of s) { grid = grid_of x }) same in
+    record {
+      d = asks.d;
+      does_so = asks.does_so;
+      reply_is = asks.reply_is;
+      all = asks.all;
+      state = stays;
+      grid = ap (λ (x : State). x.grid) stays;
+      by_rows = tt;
+    }
 
 -- ---- what was read
 
@@ -129,35 +146,42 @@ verb_asks at asked body request r v is verb_is asks =
 -- what one asks for that is none of these: an operation that changes rows alone, or what is unknown
 pub asks_other : (at : State) (asked : Result model.Request Refusal) (body : Text) (request : Request) (r : model.Request) → asked ≡ Ok r
     → ((u : Text) → r.verb ≡ verb.Login u → ⊥) → (r.verb ≡ verb.Logout → ⊥) → (r.verb ≡ verb.Quit → ⊥)
-    → ((p : Path) → r.verb ≡ verb.Ls p → ⊥) → ((p : Path) (o : Text) (m : Mode) (n : ℕ) → r.verb ≡ verb.Put p o m n → ⊥)
+    → (r.verb ≡ verb.Sweep → ⊥) → ((p : Path) → r.verb ≡ verb.Ls p → ⊥) → ((p : Path) (o : Text) (m : Mode) (n : ℕ) → r.verb ≡ verb.Put p o m n → ⊥)
     → ((p : Path) (o : Option Text) → r.verb ≡ verb.Get p o → ⊥) → AsksForRequest at asked body request → AsksBy r.session (operation_by r.verb) request
-asks_other at asked body request r is no_login no_logout no_quit no_ls no_put no_get asks = by r.verb no_login no_logout no_quit no_ls no_put no_get (verb_asks at asked body request r r.verb is refl asks)
+asks_other at asked body request r is no_login no_logout no_quit no_sweep no_ls no_put no_get asks = by r.verb no_login no_logout no_quit no_sweep no_ls no_put no_get (verb_asks at asked body request r r.verb is refl asks)
   where
     worked : (o order : Order) → request ≡ Ok (r.session, order) → order ≡ o → request ≡ Ok (r.session, o)
     worked o order its same = its ∙ ap (λ (x : Order). Ok (r.session, x)) same
 
     by : (v : Verb) → ((u : Text) → v ≡ verb.Login u → ⊥) → (v ≡ verb.Logout → ⊥) → (v ≡ verb.Quit → ⊥)
-        → ((p : Path) → v ≡ verb.Ls p → ⊥) → ((p : Path) (o : Text) (m : Mode) (n : ℕ) → v ≡ verb.Put p o m n → ⊥)
+        → (v ≡ verb.Sweep → ⊥) → ((p : Path) → v ≡ verb.Ls p → ⊥) → ((p : Path) (o : Text) (m : Mode) (n : ℕ) → v ≡ verb.Put p o m n → ⊥)
         → ((p : Path) (o : Option Text) → v ≡ verb.Get p o → ⊥)
         → MatchBool (is_built v) ((order : Order) × (request ≡ Ok (r.session, order)) × MeansHeld at v body order) (request ≡ Err refusal.UnknownCommand)
         → AsksBy r.session (operation_by v) request
-    by (verb.Login u) n0 n1 n2 nl n3 n4 its = absurd (n0 u refl)
-    by verb.Logout n0 n1 n2 nl n3 n4 its = absurd (n1 refl)
-    by verb.Quit n0 n1 n2 nl n3 n4 its = absurd (n2 refl)
-    by (verb.Ls p) n0 n1 n2 nl n3 n4 its = absurd (nl p refl)
-    by (verb.Put p o m n) n0 n1 n2 nl n3 n4 its = absurd (n3 p o m n refl)
-    by (verb.Get p o) n0 n1 n2 nl n3 n4 its = absurd (n4 p o refl)
-    by (verb.MkUser name kind) n0 n1 n2 nl n3 n4 its = worked (works (mkuser name kind) 0) its.0 its.1 its.2.1
-    by (verb.MkGroup name) n0 n1 n2 nl n3 n4 its = worked (works (mkgroup name) 0) its.0 its.1 its.2.1
-    by (verb.RmDir path) n0 n1 n2 nl n3 n4 its = worked (works (rmdir path) 0) its.0 its.1 its.2.1
-    by (verb.AddMember group user) n0 n1 n2 nl n3 n4 its = worked (works (addmember group user) 0) its.0 its.1 its.2.1
-    by (verb.RmMember group user) n0 n1 n2 nl n3 n4 its = worked (works (rmmember group user) 0) its.0 its.1 its.2.1
-    by (verb.MkDir path) n0 n1 n2 nl n3 n4 its = worked (works (mkdir path) 0) its.0 its.1 its.2.1
-    by (verb.Mv from to) n0 n1 n2 nl n3 n4 its = worked (works (mv from to) 0) its.0 its.1 its.2.1
-    by (verb.ChMod level name path) n0 n1 n2 nl n3 n4 its = worked (works (chmod level name path) 0) its.0 its.1 its.2.1
-    by (verb.Inherit path) n0 n1 n2 nl n3 n4 its = worked (works (inherit path true) 0) its.0 its.1 its.2.1
-    by (verb.NoInherit path) n0 n1 n2 nl n3 n4 its = worked (works (inherit path false) 0) its.0 its.1 its.2.1
-    by other n0 n1 n2 nl n3 n4 its = its
+    by (verb.Login u) n0 n1 n2 ns nl n3 n4 its = absurd (n0 u refl)
+    by verb.Logout n0 n1 n2 ns nl n3 n4 its = absurd (n1 refl)
+    by verb.Quit n0 n1 n2 ns nl n3 n4 its = absurd (n2 refl)
+    by verb.Sweep n0 n1 n2 ns nl n3 n4 its = absurd (ns refl)
+    by (verb.Ls p) n0 n1 n2 ns nl n3 n4 its = absurd (nl p refl)
+    by (verb.Put p o m n) n0 n1 n2 ns nl n3 n4 its = absurd (n3 p o m n refl)
+    by (verb.Get p o) n0 n1 n2 ns nl n3 n4 its = absurd (n4 p o refl)
+    by (verb.MkUser name kind) n0 n1 n2 ns nl n3 n4 its = worked (works (mkuser name kind) 0) its.0 its.1 its.2.1
+    by (verb.MkGroup name) n0 n1 n2 ns nl n3 n4 its = worked (works (mkgroup name) 0) its.0 its.1 its.2.1
+    by (verb.RmDir path) n0 n1 n2 ns nl n3 n4 its = worked (works (rmdir path) 0) its.0 its.1 its.2.1
+    by (verb.AddMember group user) n0 n1 n2 ns nl n3 n4 its = worked (works (addmember group user) 0) its.0 its.1 its.2.1
+    by (verb.RmMember group user) n0 n1 n2 ns nl n3 n4 its = worked (works (rmmember group user) 0) its.0 its.1 its.2.1
+    by (verb.MkStorage name slot) n0 n1 n2 ns nl n3 n4 its = worked (works (mkresc name Storage slot) 0) its.0 its.1 its.2.1
+    by (verb.MkCoordinating name kind) n0 n1 n2 ns nl n3 n4 its = worked (works (mkresc name kind 0) 0) its.0 its.1 its.2.1
+    by (verb.AddChild parent child) n0 n1 n2 ns nl n3 n4 its = worked (works (addchild parent child) 0) its.0 its.1 its.2.1
+    by (verb.ModResc name up) n0 n1 n2 ns nl n3 n4 its = worked (works (modresc name up) 0) its.0 its.1 its.2.1
+    by (verb.Trim path resource) n0 n1 n2 ns nl n3 n4 its = worked (works (trim path resource) 0) its.0 its.1 its.2.1
+    by (verb.Rm path) n0 n1 n2 ns nl n3 n4 its = worked (works (rm path) 0) its.0 its.1 its.2.1
+    by (verb.MkDir path) n0 n1 n2 ns nl n3 n4 its = worked (works (mkdir path) 0) its.0 its.1 its.2.1
+    by (verb.Mv from to) n0 n1 n2 ns nl n3 n4 its = worked (works (mv from to) 0) its.0 its.1 its.2.1
+    by (verb.ChMod level name path) n0 n1 n2 ns nl n3 n4 its = worked (works (chmod level name path) 0) its.0 its.1 its.2.1
+    by (verb.Inherit path) n0 n1 n2 ns nl n3 n4 its = worked (works (inherit path true) 0) its.0 its.1 its.2.1
+    by (verb.NoInherit path) n0 n1 n2 ns nl n3 n4 its = worked (works (inherit path false) 0) its.0 its.1 its.2.1
+    by other n0 n1 n2 ns nl n3 n4 its = its
 
 -- ---- a put
 
@@ -171,11 +195,11 @@ not_le a b more = by (nat_le a b) refl
 
 -- what is put, where the line promised no more than an object may have
 pub asks_to_put : (s : Server) (session user : ℕ) → user_of (at s.sessions session) ≡ Some user → (line : PutLine) (request : Request) → PutOf session line request → nat_le line.count object_size ≡ true
-    → AsksToPut s (record { user = user; path = line.path; resource = line.resource; body = line.body }) request
+    → AsksToPut s (record { user = user; path = line.path; resource = line.resource; mode = line.mode; body = line.body }) request
 asks_to_put s session user has line request asks small = record {
   session = session;
   count = line.count;
-  is = asks.1 ∙ ap (λ (b : Text). Ok (session, works (put line.path line.resource New b) line.count)) (asks.2 small);
+  is = asks.1 ∙ ap (λ (b : Text). Ok (session, works (put line.path line.resource line.mode b) line.count)) (asks.2 small);
   of = who s session user has;
   logged_in = login s session user has;
   user = refl;

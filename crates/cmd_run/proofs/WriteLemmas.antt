@@ -28,7 +28,7 @@ use Rattle.cmd_run.specs.Writes.{Kept, Writing, WriteEnds, EndsIn, FailedAt, IsW
 
 -- no change at all
 pub no_change : (c : Cat) → IsChange c [] c
-no_change c = record { applied = refl; spelled = refl; turns = turns_self [] [] c; numbers = refl; pending = refl }
+no_change c = record { applied = refl; spelled = refl; turns = turns_self [] [] c; numbers = refl; pending = refl; still = inl refl }
 
 module _ {B : Type 0} (plugin : B → StoreState) (w : Writing) (old mid_devices : Kept B) (store : Journal) where
   -- all was written and kept

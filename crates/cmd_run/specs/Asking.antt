@@ -6,7 +6,6 @@ use Rattle.grid_model.specs.Limits.{object_size}
 use Rattle.grid_model.specs.Orders.{Order, works}
 use Rattle.grid_model.specs.Operations.Table.{put}
 use Rattle.grid_model.specs.Runs as runs
-use Rattle.grid_model.specs.declared.grid.Mode.TheVariants.{New}
 use Rattle.grid_model.specs.declared.requests.Request.{Request}
 use Rattle.grid_model.specs.declared.requests.Verb.{Verb}
 use Rattle.grid_model.specs.declared.requests.Verb.TheVariants as verb
@@ -14,13 +13,13 @@ use Rattle.grid_model.specs.declared.refusal.Refusal.{Refusal}
 use Rattle.grid_model.specs.declared.refusal.Refusal.TheVariants as refusal
 use Rattle.grid_model.specs.Completing.{IsOfGrid}
 use Rattle.grid_model.specs.Sessions.{State}
-use Rattle.cmd_read.specs.Orders.{Means, promised}
+use Rattle.cmd_read.specs.Orders.{MeansOrder, promised}
 use Rattle.grid_headline.specs.Reads.{is_built, texts}
 use Rattle.cmd_run.specs.declared.working.PutLine.{PutLine}
 
 -- The verb means this order with a body of which this is held: all of it, where no more bytes were promised than an object may have.
 abbrev pub MeansHeld : State → Verb → Text → Order → Type 0
-MeansHeld at verb held order = (body : Text) × Means texts at verb body order × (nat_le (promised verb) object_size ≡ true → body ≡ held)
+MeansHeld at verb held order = (body : Text) × MeansOrder texts at verb body order × (nat_le (promised verb) object_size ≡ true → body ≡ held)
 
 -- The words ask for this request where the state is so, or were refused; verbs that are not built are refused as unknown.
 abbrev pub AsksForRequest : State → Result Request Refusal → Text → runs.Request → Type 0
@@ -52,8 +51,8 @@ abbrev pub IsForm : Result Request Refusal → Type 0
 IsForm (Ok asked) = (asked.session < 64) × HasNewName asked.verb
 IsForm (Err r) = IsOfGrid r
 
--- the request is this put of a new object in the session
+-- the request is this put in the session
 abbrev pub PutOf : ℕ → PutLine → runs.Request → Type 0
 PutOf session line request =
-    (body : Text) × (request ≡ Ok (session, works (put line.path line.resource New body) line.count))
+    (body : Text) × (request ≡ Ok (session, works (put line.path line.resource line.mode body) line.count))
     × (nat_le line.count object_size ≡ true → body ≡ line.body)

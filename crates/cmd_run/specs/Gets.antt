@@ -16,7 +16,7 @@ use Rattle.grid_model.specs.declared.replies.End.TheVariants as end
 use Rattle.grid_model.specs.declared.refusal.Refusal.TheVariants as refusal
 use Rattle.grid_model.specs.declared.plans.OldFile.{OldFile}
 use Rattle.grid_vault.specs.Vault.{RoseAt}
-use Rattle.grid_vault.specs.Sending.{AtSlot, Breaks, OnFault, Sends as SendsLines}
+use Rattle.grid_vault.specs.Sending.{AtSlot, Breaks, OnFault, SendsLines as SendsLines}
 use Rattle.grid_vault.specs.declared.sent.Sent.{Sent}
 use Rattle.grid_vault.specs.declared.sent.Sent.TheVariants.{Whole, Fault, Bad}
 use Rattle.plan_object.specs.Sending.{Sends}

@@ -1,16 +1,17 @@
 -- What is kept of a command that changes rows.
-use Rattle.std.specs.Prelude.{◌≡◌, ℕ, ◌^◌, ◌<◌, List, [], Result, Ok, Err, IsTrue, ⊤}
+use Rattle.std.specs.Prelude.{◌≡◌, ◌≢◌, ◌⊎◌, ℕ, ◌^◌, ◌<◌, List, [], Result, Ok, Err, IsTrue, ⊤}
 use Rattle.grid_outside.specs.Device.{IsSettled, Leaves}
 use Rattle.grid_outside.specs.Disk.{DiskState}
 use Rattle.grid_outside.specs.declared.outside.Wear.TheVariants.{Log}
 use Rattle.grid_model.specs.Rows.{Cat}
+use Rattle.grid_model.specs.RowGrids.{grid_of}
 use Rattle.std.specs.List.{list_all}
 use Rattle.grid_model.specs.Applying.{apply_all}
 use Rattle.grid_model.specs.declared.deltas.Delta.{Delta}
-use Rattle.grid_journal.specs.Journal.{can_be_kept}
+use Rattle.grid_journal.specs.Journal.{can_be_kept, ClosesAt}
 use Rattle.grid_journal.specs.Stands.{StandsEither}
 use Rattle.file_laws.specs.Plans.{Turns}
-use Rattle.grid_deed.specs.Held.{IsKept, ClosesAt}
+use Rattle.grid_deed.specs.Held.{IsKept}
 use Rattle.cmd_run.specs.declared.server.Server.{Server}
 use Rattle.cmd_run.specs.declared.server.Ending.{Ending}
 use Rattle.cmd_run.specs.declared.server.Ending.TheVariants.{Disk, Sink, Memory, Worn}
@@ -33,10 +34,11 @@ pub record IsKeptSo (kept after : Cat) (from : ℕ) (main_old main_new : DiskSta
   pub leaves : IsTrue main_old.tells → IsSettled main_old → Leaves from (StandsEither kept after) main_new
 
 -- The changes lead from the one catalogue to the other, may be kept, and name the same files; they change no number and no pending
--- command.
+-- command. They make another grid of it, or there are none.
 pub record IsChange (c : Cat) (deltas : List Delta) (after : Cat) : Type 0 where
   pub applied : apply_all c deltas ≡ Ok after
   pub spelled : IsTrue (list_all can_be_kept deltas)
   pub turns : Turns [] [] c after
   pub numbers : after.numbers ≡ c.numbers
   pub pending : after.pending ≡ c.pending
+  pub still : (deltas ≡ []) ⊎ (grid_of after ≢ grid_of c)

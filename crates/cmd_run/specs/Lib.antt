@@ -10,4 +10,5 @@ pub mod Obeys
 pub mod Operating
 pub mod Passes
 pub mod Puts
+pub mod Sweeping
 pub mod Writes

@@ -15,7 +15,7 @@ use Rattle.grid_model.specs.RowGrids.{grid_of}
 use Rattle.grid_model.specs.declared.refusal.Refusal.{Refusal}
 use Rattle.grid_model.specs.declared.replies.End.{End}
 use Rattle.grid_model.specs.declared.replies.End.TheVariants as end
-use Rattle.grid_deed.specs.Held.{ClosesAt}
+use Rattle.grid_journal.specs.Journal.{ClosesAt}
 use Rattle.grid_journal.specs.Stands.{StandsFor}
 use Rattle.grid_headline.specs.Files.{NamesCall, KeepsNamed}
 use Rattle.grid_headline.specs.Worlds.{World}
@@ -40,6 +40,11 @@ pub data Obeys {B : Type 0} (old new : World B) (before : Server) (n : ℕ) (req
   handled : (step : RequestStep old new (state_of before) before.store.cat n request) → ObeyEnds old new before n request step result after
       → Obeys old new before n request result after
   quiet : (ending : Ending) → result ≡ Err ending → IsQuiet old new before.store.cat → Obeys old new before n request result after
+
+-- A catalogue that main stands for at a moment after so many names the call of a command that is pending.
+abbrev pub NamesItsCall : ℕ → DiskState → DiskState → Type 0
+NamesItsCall from old new = IsTrue old.tells → IsSettled old → (t : ℕ) (main : Text) (c : Cat)
+    → from < t → new.left t main → StandsFor main c → NamesCall c.pending
 
 -- A catalogue that main stands for at a moment after so many names what one row of this one named, and the call of a pending command.
 abbrev pub Remembers : Cat → ℕ → DiskState → DiskState → Type 0

@@ -5,12 +5,14 @@ use Rattle.grid_model.specs.Rows.{Cat}
 use Rattle.grid_model.specs.RowGrids.{grid_of, user_name}
 use Rattle.grid_model.specs.Orders.{works}
 use Rattle.grid_model.specs.Operations.Table.{Operation, row, mkuser, mkgroup, mkdir, rmdir, mv, chmod, inherit, addmember, rmmember}
+use Rattle.grid_model.specs.Operations.Table.{mkresc, addchild, modresc, trim, rm}
 use Rattle.grid_model.specs.Runs.{Request}
 use Rattle.grid_model.specs.Completing.{IsOfGrid}
 use Rattle.grid_model.specs.Working.{words_of}
 use Rattle.grid_model.specs.declared.deltas.Delta.{Delta}
 use Rattle.grid_model.specs.declared.plans.PlanError.{PlanError}
 use Rattle.grid_model.specs.declared.plans.PlanError.TheVariants.{Refused}
+use Rattle.grid_model.specs.declared.grid.ResourceKind.TheVariants.{Storage}
 use Rattle.grid_model.specs.declared.refusal.Refusal.{Refusal}
 use Rattle.grid_model.specs.declared.refusal.Refusal.TheVariants.{UnknownCommand}
 use Rattle.grid_model.specs.declared.requests.Verb.{Verb}
@@ -31,6 +33,12 @@ operation_by (verb.Inherit path) = Some (inherit path true)
 operation_by (verb.NoInherit path) = Some (inherit path false)
 operation_by (verb.AddMember group user) = Some (addmember group user)
 operation_by (verb.RmMember group user) = Some (rmmember group user)
+operation_by (verb.MkStorage name slot) = Some (mkresc name Storage slot)
+operation_by (verb.MkCoordinating name kind) = Some (mkresc name kind 0)
+operation_by (verb.AddChild parent child) = Some (addchild parent child)
+operation_by (verb.ModResc name up) = Some (modresc name up)
+operation_by (verb.Trim path resource) = Some (trim path resource)
+operation_by (verb.Rm path) = Some (rm path)
 operation_by other = None
 
 -- what a plan of such a verb is to its operation; another verb is unknown

@@ -14,7 +14,6 @@ use Rattle.grid_model.specs.Orders.{works}
 use Rattle.grid_model.specs.Deeds.{Deed, deed, fits}
 use Rattle.grid_model.specs.Operations.Table.{Operation, put, row}
 use Rattle.grid_model.specs.Runs.{Request}
-use Rattle.grid_model.specs.declared.grid.Mode.TheVariants.{New}
 use Rattle.grid_model.specs.declared.marks.Mark.TheVariants.{Ran, Fault}
 use Rattle.grid_model.specs.declared.plans.Plan.{Plan}
 use Rattle.grid_vault.specs.Vault.{HasSlot}
@@ -28,13 +27,13 @@ use Rattle.cmd_run.specs.Obeys.{StaysBeside}
 
 -- the operation
 abbrev pub operation_of : Putting → Operation
-operation_of p = put p.path p.resource New p.body
+operation_of p = put p.path p.resource p.mode p.body
 
 -- what it asks for, but for its bytes
 abbrev pub wanted : Putting → Wanted
-wanted p = record { path = p.path; resource = p.resource; mode = New; size = length p.body }
+wanted p = record { path = p.path; resource = p.resource; mode = p.mode; size = length p.body }
 
--- The request is this put of a new object by a session that is logged in, for which the line promised no more bytes than there may be.
+-- The request is this put by a session that is logged in, for which the line promised no more bytes than there may be.
 pub record AsksToPut (s : Server) (p : Putting) (request : Request) : Type 0 where
   pub session : ℕ
   pub count : ℕ

@@ -6,9 +6,10 @@ use Rattle.grid_outside.specs.Files.{StoreState}
 use Rattle.grid_outside.specs.declared.outside.Wear.TheVariants.{Log}
 use Rattle.grid_model.specs.Rows.{Cat}
 use Rattle.grid_model.specs.declared.plans.NewFile.{NewFile}
+use Rattle.grid_journal.specs.Journal.{ClosesAt}
 use Rattle.grid_vault.specs.Vault.{HasSlot, RoseAt}
 use Rattle.grid_deed.specs.Deeds.{StandsOne}
-use Rattle.grid_deed.specs.Held.{IsKept, ClosesAt}
+use Rattle.grid_deed.specs.Held.{IsKept}
 use Rattle.cmd_run.specs.declared.server.Server.{Server}
 use Rattle.cmd_run.specs.declared.server.Ending.{Ending}
 use Rattle.cmd_run.specs.declared.server.Ending.TheVariants.{Disk, Sink, Memory, Worn}

@@ -18,7 +18,7 @@ impl Server {
     ghost use Rattle.cmd_run.specs.Fits.{state_of, FitsMain};
     ghost use Rattle.cmd_run.specs.Obeys.{Obeys, ChangesGrid, IsWorn, Remembers};
 
-    /// Keeps changes of the rows, and answers ok.
+    /// Keeps changes of the rows, if there are any, and answers ok.
     pub(crate) fn change<D: Disk, K: Sink, A: Ambient, P: Plugin>(
         &mut self,
         alloc: Global,
@@ -44,6 +44,9 @@ impl Server {
             (record { outside = outside.old; sink = sink.old }) (record { outside = outside.new; sink = sink.new }) }
         ensures drawn { outside.new.moments ≤ outside.old.moments + 5 }
     {
+        if deltas.as_slice().is_empty() {
+            return self.say(alloc, outside, sink, number, well(alloc));
+        }
         let Ok(text) = end_text(alloc, number, well(alloc)) else {
             return Err(Ending::Memory);
         };

@@ -13,6 +13,7 @@ mod operations;
 mod putting;
 mod saying;
 mod server;
+mod sweeping;
 mod working;
 mod writing;
 

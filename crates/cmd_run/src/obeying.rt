@@ -3,6 +3,7 @@ ghost use Rattle.grid_outside.specs.Source.{SourceState};
 ghost use Rattle.grid_model.specs.Limits.{object_size};
 ghost use Rattle.grid_model.specs.Runs.{Request as RequestOf};
 ghost use Rattle.grid_deed.specs.Safe.{KeepWhole};
+ghost use Rattle.run_laws.specs.Steps.{IsNoSweep};
 ghost use Rattle.cmd_run.specs.Around.{around};
 ghost use Rattle.cmd_run.specs.Asking.{AsksForRequest, IsForm};
 ghost use Rattle.cmd_run.specs.Passes.{AreReady, CallsPass};
@@ -10,14 +11,14 @@ ghost use Rattle.cmd_run.specs.Passes.{AreReady, CallsPass};
 use crate::answers::well;
 use crate::working::PutLine;
 use crate::{Ending, Server};
-use grid_model::{Bytes, End, Mode, Refusal, Request, Verb};
+use grid_model::{Bytes, End, Refusal, Request, Verb};
 use grid_outside::{Ambient, Disk, Outside, Plugin, Sink, Wear};
 use std::alloc::Global;
 
 impl Server {
     ghost use Rattle.cmd_run.specs.declared.server.Server.{Server};
     ghost use Rattle.cmd_run.specs.Fits.{state_of, FitsMain};
-    ghost use Rattle.cmd_run.specs.Obeys.{IsRefusedAtOnce, Obeys, IsWorn, Remembers};
+    ghost use Rattle.cmd_run.specs.Obeys.{IsRefusedAtOnce, Obeys, IsWorn, NamesItsCall, Remembers};
 
     /// Handles the request of this number: it is decided over the rows, done, kept and answered. Where its words were
     /// refused, that is answered. `body` is the request's body, and empty where its verb has none or promised more bytes
@@ -43,7 +44,9 @@ impl Server {
             self.old number request result self.new }
         ensures worn { (source : SourceState) (request : RequestOf) → AsksForRequest (state_of self.old) asked body request →
             IsWorn (around D.disk A.ambient P.plugin outside.new (K.sink sink.new) source) self.old request result }
-        ensures remembers { Remembers self.old.store.cat outside.old.moments (D.disk outside.old.main) (D.disk outside.new.main) }
+        ensures call { NamesItsCall outside.old.moments (D.disk outside.old.main) (D.disk outside.new.main) }
+        ensures remembers { (request : RequestOf) → AsksForRequest (state_of self.old) asked body request → IsNoSweep request →
+            Remembers self.old.store.cat outside.old.moments (D.disk outside.old.main) (D.disk outside.new.main) }
         ensures whole { KeepWhole P.plugin outside.old.moments self.old.store.cat
             (D.disk outside.old.main) (D.disk outside.new.main) outside.old.stores.items outside.new.stores.items }
         ensures passes { CallsPass D.disk P.plugin K.sink (IsErrOf result Ending.Disk) (IsErrOf result Ending.Sink)
@@ -71,21 +74,17 @@ impl Server {
                 resource,
                 mode,
                 count,
-            } => match mode {
-                Mode::New => {
-                    let line = PutLine {
-                        path,
-                        resource,
-                        count,
-                        body,
-                    };
-                    self.put_line(alloc, outside, sink, number, session, line)
-                }
-                Mode::Over => {
-                    let end = End::Refused(Refusal::UnknownCommand);
-                    self.say(alloc, outside, sink, number, end)
-                }
-            },
+            } => {
+                let line = PutLine {
+                    path,
+                    resource,
+                    mode,
+                    count,
+                    body,
+                };
+                self.put_line(alloc, outside, sink, number, session, line)
+            }
+            Verb::Sweep => self.sweep(alloc, outside, sink, number, session),
             Verb::Ls { path } => self.list(alloc, outside, sink, number, session, &path),
             Verb::Get { path, resource } => {
                 self.get_for(

@@ -14,13 +14,15 @@ ghost use Rattle.cmd_run.specs.Operating.{operation_by, PlansBy};
 ghost use Rattle.cmd_run.specs.Passes.{AreReady, CallsPass};
 
 use crate::{Ending, Server};
-use grid_model::{Deltas, End, PlanError, Refusal, Verb};
+use grid_model::{Deltas, End, PlanError, Refusal, ResourceKind, Verb};
 use grid_outside::{Ambient, Disk, Outside, Plugin, Sink};
 use grid_tables::Tables;
 use plan_coll::{
     plan_addmember, plan_chmod, plan_inherit, plan_mkdir, plan_mkgroup, plan_mkuser, plan_move,
     plan_rmdir, plan_rmmember,
 };
+use plan_drop::{plan_rm, plan_trim};
+use plan_tree::{plan_addchild, plan_mkresc, plan_modresc};
 use std::alloc::Global;
 
 impl Server {
@@ -70,7 +72,7 @@ impl Server {
         self.operate(alloc, outside, sink, number, planned)
     }
 
-    // Keeps the changes that were planned and answers ok, or answers the refusal.
+    // Keeps the changes that were planned, if there are any, and answers ok, or answers the refusal.
     fn operate<D: Disk, K: Sink, A: Ambient, P: Plugin>(
         &mut self,
         alloc: Global,
@@ -126,6 +128,18 @@ fn changes_rows(verb: &Verb) -> bool
         Verb::NoInherit { path: _ } => true,
         Verb::AddMember { group: _, user: _ } => true,
         Verb::RmMember { group: _, user: _ } => true,
+        Verb::MkStorage { name: _, slot: _ } => true,
+        Verb::MkCoordinating { name: _, kind: _ } => true,
+        Verb::AddChild {
+            parent: _,
+            child: _,
+        } => true,
+        Verb::ModResc { name: _, up: _ } => true,
+        Verb::Trim {
+            path: _,
+            resource: _,
+        } => true,
+        Verb::Rm { path: _ } => true,
         _ => false,
     }
 }
@@ -155,6 +169,14 @@ fn plan(alloc: Global, tables: &Tables, user: u32, verb: &Verb) -> Result<Deltas
             group,
             user: member,
         } => { plan_rmmember(alloc, tables, user, group, member) }
+        Verb::MkStorage { name, slot } => {
+            plan_mkresc(alloc, tables, user, name, ResourceKind::Storage, *slot)
+        }
+        Verb::MkCoordinating { name, kind } => plan_mkresc(alloc, tables, user, name, *kind, 0),
+        Verb::AddChild { parent, child } => plan_addchild(alloc, tables, user, parent, child),
+        Verb::ModResc { name, up } => plan_modresc(alloc, tables, user, name, *up),
+        Verb::Trim { path, resource } => plan_trim(alloc, tables, user, path, resource),
+        Verb::Rm { path } => plan_rm(alloc, tables, user, path),
         _ => Err(PlanError::Refused(Refusal::UnknownCommand)),
     }
 }

@@ -29,13 +29,14 @@ const LAST_VAULT: u64 = 18_446_744_065_119_617_024;
 /// More files than a plan makes: a list of so many does not fit into memory.
 const FEW: usize = 4_294_967_296;
 
-/// What a put of a new object asks for, with its body.
+/// What a put asks for, with its body.
 #[derive(Debug, Drop)]
 pub(crate) struct Putting {
     /// The id of the user.
     pub(crate) user: u32,
     pub(crate) path: Path,
     pub(crate) resource: Text,
+    pub(crate) mode: Mode,
     pub(crate) body: Bytes,
 }
 
@@ -44,7 +45,7 @@ impl Server {
     ghost use Rattle.cmd_run.specs.Fits.{state_of, FitsMain};
     ghost use Rattle.cmd_run.specs.Obeys.{IsRefusedAtOnce, Obeys, IsWorn, Remembers};
 
-    /// Puts a body as a new object on the targets of a resource: its files are written, its object kept, and then the reply is written.
+    /// Puts a body on the targets of a resource: its files are written, its object kept, and then the reply is written.
     pub(crate) fn put<D: Disk, K: Sink, A: Ambient, P: Plugin>(
         &mut self,
         alloc: Global,
@@ -104,7 +105,7 @@ impl Server {
             putting.user,
             &putting.path,
             &putting.resource,
-            Mode::New,
+            putting.mode,
             size,
             word,
         )

@@ -8,18 +8,19 @@ ghost use Rattle.cmd_run.specs.Passes.{AreReady, CallsPass};
 
 use crate::putting::Putting;
 use crate::{Ending, Server};
-use grid_model::{Bytes, End, Path, Refusal, Text};
+use grid_model::{Bytes, End, Mode, Path, Refusal, Text};
 use grid_outside::{Ambient, Disk, Outside, Plugin, Sink, Wear};
 use std::alloc::Global;
 
 /// How many bytes an object may have.
 const OBJECT_SIZE: u64 = 16_777_216;
 
-/// What the line of a put of a new object asks for, and its body.
+/// What the line of a put asks for, and its body.
 #[derive(Debug, Drop)]
 pub(crate) struct PutLine {
     pub(crate) path: Path,
     pub(crate) resource: Text,
+    pub(crate) mode: Mode,
     /// How many bytes the line promised.
     pub(crate) count: u64,
     /// The body where these are no more than an object may have.
@@ -32,7 +33,7 @@ impl Server {
     ghost use Rattle.cmd_run.specs.Fits.{state_of, FitsMain};
     ghost use Rattle.cmd_run.specs.Obeys.{IsRefusedAtOnce, Obeys, IsWorn, Remembers};
 
-    /// Puts a body as a new object.
+    /// Puts a body as a new object, or over the one that is there.
     pub(crate) fn put_line<D: Disk, K: Sink, A: Ambient, P: Plugin>(
         &mut self,
         alloc: Global,
@@ -81,6 +82,7 @@ impl Server {
             user,
             path: line.path,
             resource: line.resource,
+            mode: line.mode,
             body: line.body,
         };
         self.put(alloc, outside, sink, number, putting)

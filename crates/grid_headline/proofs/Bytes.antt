@@ -12,13 +12,12 @@ use Rattle.grid_model.specs.Grid.{everybody, home}
 use Rattle.grid_model.specs.declared.deltas.Delta.{Delta}
 use Rattle.grid_model.specs.declared.deltas.Delta.TheVariants as delta
 use Rattle.grid_model.specs.declared.grid.UserKind.TheVariants.{Rodsadmin, Rodsgroup}
-use Rattle.grid_model.specs.declared.grid.ResourceKind.TheVariants.{Storage}
 use Rattle.grid_model.specs.declared.grid.Level.TheVariants.{Read, Own}
 use Rattle.grid_model.specs.declared.grid.ItemKind.TheVariants.{Collection}
-use Rattle.grid_journal.specs.Start.{main_with, start_leaf}
+use Rattle.grid_journal.specs.Start.{main_with}
 use Rattle.grid_journal.specs.Stands.{Stands, stands, taken, none_left, sets_no_rules}
 use Rattle.grid_headline.specs.Stops.{OneImage}
-use Rattle.grid_headline.proofs.Scene.{zone, rods}
+use Rattle.grid_headline.proofs.Scene.{zone, rods, first_leaf, second_leaf}
 use Rattle.grid_headline.proofs.PutStops.{run, pending, within, image_within}
 
 one_short : (body : List ℕ) → length body < 2 ^ 64 → All IsShort (body ∷ [])
@@ -57,8 +56,8 @@ deltas known =
     ∷ delta.Entry (record { kind = Collection; id = 1; user = 2; level = Read })
     ∷ delta.Entry (record { kind = Collection; id = 2; user = 2; level = Read })
     ∷ delta.Entry (record { kind = Collection; id = 3; user = 1; level = Own })
-    ∷ delta.Resource start_leaf
-    ∷ delta.Resource (record { id = 2; name = codes "d1"; kind = Storage; slot = 1; up = true; parent = 0; place = 0 })
+    ∷ delta.Resource first_leaf
+    ∷ delta.Resource second_leaf
     ∷ delta.Numbers (record { next_vault = 2; run = 1; last = 0 })
     ∷ delta.Orphan (record { vault = 1; slot = 0 })
     ∷ delta.Pending (pending known)

@@ -12,7 +12,7 @@ use Rattle.grid_model.specs.Runs as runs
 use Rattle.grid_journal.specs.Stands.{Stands}
 use Rattle.grid_headline.specs.Worlds.{World, IsInOrder, DevicesImage, LeavesImage, LeavesDisks}
 use Rattle.grid_headline.specs.Reads.{HasRules}
-use Rattle.grid_headline.specs.Served.{Run}
+use Rattle.grid_headline.specs.Served.{NoneSweeps, Run}
 use Rattle.grid_headline.specs.Stops.{OneImage}
 use Rattle.grid_headline.specs.Files.{IsKnown, AreSettled, DisksAreSettled, KeepsNamed, WereWhole, AllStayWhole, AllAreWhole, StayNamed}
 use Rattle.grid_headline.specs.Silence.{IsBetween, IsOfDisks, NoneIsSilent, AddsBeforeRun}
@@ -92,8 +92,8 @@ module _ {B : Type 0} (old : World B) (c : Cat) (rules : List Rule) where
     stay_whole settled whole t main spare d later left s =
         subst (AllAreWhole old t) (sym (the_catalogue main spare found d (stays t main spare settled later left) s)) (whole t later)
 
-    stay_named : IsSettled old.main → StayNamed old old.moments found
-    stay_named settled t main d later left s =
+    stay_named : NoneSweeps old.source.left → IsSettled old.main → StayNamed old old.moments found
+    stay_named none settled t main d later left s =
         let e : main ≡ old.main.holds = settled t main (omega (arith, order.main_last, later)) left in
         let stood = subst (λ m. Stands m old.spare.holds (Ok found)) (sym e) begin.stands in
         subst (KeepsNamed found) (sym (the_catalogue main old.spare.holds found d stood (s old.spare.holds))) (λ slot name is. is)

@@ -43,10 +43,10 @@ use Rattle.grid_headline.proofs.Scene.{logs_in_first, puts_then, login_done, put
 abbrev login_text : List Text
 login_text = codes "0" ∷ codes "login" ∷ rods ∷ []
 
-no_login_quits : (at : State) (v : Verb) → (x : Text) × (rods ≡ x) × (verb.Login x ≡ v) → orders.Means texts at v [] quits → ⊥
+no_login_quits : (at : State) (v : Verb) → (x : Text) × (rods ≡ x) × (verb.Login x ≡ v) → orders.MeansOrder texts at v [] quits → ⊥
 no_login_quits at v made means =
-    let P : Verb → Type 0 = λ w. orders.Means texts at w [] quits in
-    let m : orders.Means texts at (verb.Login made.0) [] quits = subst P (sym made.2) means in
+    let P : Verb → Type 0 = λ w. orders.MeansOrder texts at w [] quits in
+    let m : orders.MeansOrder texts at (verb.Login made.0) [] quits = subst P (sym made.2) means in
     absurd (cc m)
 
 pub none_end : (at : State) (session : ℕ) → Asks texts at login_line [] (Ok (session, quits)) → ⊥

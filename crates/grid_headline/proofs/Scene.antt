@@ -19,10 +19,11 @@ use Rattle.grid_model.specs.Beginning.{begins}
 use Rattle.grid_model.specs.Runs.{Marked, After, none, next}
 use Rattle.grid_model.specs.declared.grid.Mode.TheVariants.{New}
 use Rattle.grid_model.specs.declared.grid.ResourceKind.TheVariants.{Storage}
+use Rattle.grid_model.specs.declared.deltas.ResourceRow.{ResourceRow}
 use Rattle.grid_model.specs.declared.marks.Mark.{Mark}
 use Rattle.grid_model.specs.declared.marks.Mark.TheVariants.{Ran}
 use Rattle.grid_model.specs.declared.refusal.Refusal.TheVariants.{NoLogin}
-use Rattle.grid_journal.specs.Start.{start, start_leaf}
+use Rattle.grid_journal.specs.Start.{start}
 use Rattle.cmd_read.specs.Table.{number_of}
 use Rattle.cmd_read.specs.Orders.{asks_for}
 use Rattle.grid_model.specs.declared.requests.Verb.TheVariants as verb
@@ -37,19 +38,16 @@ zone = codes "tempZone"
 abbrev pub rods : Text
 rods = codes "rods"
 
+-- the leaves `d0` and `d1` on the two stores
+abbrev pub first_leaf : ResourceRow
+first_leaf = record { id = 1; name = codes "d0"; kind = Storage; slot = 0; up = true; parent = 0; place = 0 }
+
+abbrev pub second_leaf : ResourceRow
+second_leaf = record { id = 2; name = codes "d1"; kind = Storage; slot = 1; up = true; parent = 0; place = 0 }
+
 -- what was found: the run before did nothing
 abbrev pub found : Cat
-found = record (start zone rods 2) {
-  resources = start_leaf ∷ record {
-    id = 2;
-    name = codes "d1";
-    kind = Storage;
-    slot = 1;
-    up = true;
-    parent = 0;
-    place = 0;
-  } ∷ [];
-}
+found = record (start zone rods 2) { resources = first_leaf ∷ second_leaf ∷ [] }
 
 -- its text of rules has none
 pub has_no_rules : HasRules found []

@@ -62,9 +62,9 @@ abbrev put_text : List Text
 put_text = codes "0" ∷ codes "put" ∷ codes "/tempZone/home/rods/f" ∷ codes "d0" ∷ codes "new" ∷ codes "3" ∷ []
 
 put_is_loud : (at : State) (p : Path) (resource : Text) (mode : Mode) (count : ℕ) (v : Verb) (order : Order) → verb.Put p resource mode count ≡ v
-    → orders.Means texts at v abc order → ¬ IsSilent order
+    → orders.MeansOrder texts at v abc order → ¬ IsSilent order
 put_is_loud at p resource mode count v order is means s =
-    let P : Verb → Type 0 = λ w. orders.Means texts at w abc order in
+    let P : Verb → Type 0 = λ w. orders.MeansOrder texts at w abc order in
     let m : order ≡ works (put p resource mode abc) count = subst P (sym is) means in
     subst IsSilent m s
 

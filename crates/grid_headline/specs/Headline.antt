@@ -6,7 +6,7 @@ use Rattle.grid_model.specs.Rows.{Cat}
 use Rattle.grid_model.specs.Completing.{AreClean, AllEndByRows}
 use Rattle.grid_journal.specs.Stands.{Stands}
 use Rattle.grid_headline.specs.Worlds.{World, DevicesImage, LeavesImage}
-use Rattle.grid_headline.specs.Served.{Run, report_of, text_of, acknowledged, marks_of}
+use Rattle.grid_headline.specs.Served.{Run, NoneSweeps, report_of, text_of, acknowledged, marks_of}
 use Rattle.grid_headline.specs.Stops.{OneImage}
 use Rattle.grid_headline.specs.Files.{IsKnown, DisksAreSettled, AreSettled, WereWhole, AllStayWhole, StayNamed}
 use Rattle.grid_headline.specs.Silence.{NoneIsSilent}
@@ -57,8 +57,8 @@ pub record Serves {B : Type 0} (old new : World B) (found : Cat) (end : RunEnd) 
   pub images : IsTrue old.sink.tells → AreSettled old → (t : ℕ) (i : DevicesImage) → old.moments < t → LeavesImage new t i → OneImage run old.sink.holds i
   -- the files of stores that tell stay whole
   pub whole : DisksAreSettled old → WereWhole old old.moments found → AllStayWhole new old.moments
-  -- no file is lost track of, on stores that tell nothing too: no request that is built has a file removed
-  pub named : IsSettled old.main → StayNamed new old.moments found
+  -- no file is lost track of, on stores that tell nothing too, where none is asked to be removed: only a sweep does so
+  pub named : NoneSweeps old.source.left → IsSettled old.main → StayNamed new old.moments found
   -- each fault that is told was counted
   pub caused : AreCaused old new (run.report ++ marks_of run.begun)
   pub completes : (tells : IsTrue old.sink.tells) → NoneFailed old new → AllTell old → DisksAreSettled old → WereWhole old old.moments found

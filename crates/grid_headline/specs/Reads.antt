@@ -4,16 +4,15 @@ use Rattle.grid_model.specs.RuleText.{Rule}
 use Rattle.grid_model.specs.Rows.{Cat}
 use Rattle.grid_model.specs.Inputs.{Asked}
 use Rattle.grid_model.specs.Sessions.{State}
-use Rattle.grid_model.specs.Orders.{quits}
+use Rattle.grid_model.specs.Orders.{quits, sweeps}
 use Rattle.grid_model.specs.Runs.{Request}
-use Rattle.grid_model.specs.declared.grid.Mode.TheVariants.{New}
 use Rattle.grid_model.specs.declared.requests.Verb.{Verb}
 use Rattle.grid_model.specs.declared.requests.Verb.TheVariants as verb
 use Rattle.cmd_read.specs.Orders.{Texts, Asks}
 use Rattle.rule_parse.specs.RuleOrders.{ReadsRules, ReadsCall}
 use Rattle.rule_parse.specs.Printed.{print_rules}
 
--- what is built: these verbs, and of put that of a new object; all else is refused as unknown
+-- what is built: these verbs; all else is refused as unknown
 abbrev pub is_built : Verb → Bool
 is_built (verb.Login user) = true
 is_built verb.Logout = true
@@ -22,6 +21,10 @@ is_built (verb.MkUser name kind) = true
 is_built (verb.MkGroup name) = true
 is_built (verb.AddMember group user) = true
 is_built (verb.RmMember group user) = true
+is_built (verb.MkStorage name slot) = true
+is_built (verb.MkCoordinating name kind) = true
+is_built (verb.AddChild parent child) = true
+is_built (verb.ModResc name up) = true
 is_built (verb.MkDir path) = true
 is_built (verb.RmDir path) = true
 is_built (verb.Mv from to) = true
@@ -29,8 +32,11 @@ is_built (verb.Ls path) = true
 is_built (verb.ChMod level name path) = true
 is_built (verb.Inherit path) = true
 is_built (verb.NoInherit path) = true
-is_built (verb.Put path resource New count) = true
+is_built (verb.Put path resource mode count) = true
 is_built (verb.Get path resource) = true
+is_built (verb.Trim path resource) = true
+is_built (verb.Rm path) = true
+is_built verb.Sweep = true
 is_built other = false
 
 -- the texts of rules and calls are read and printed so
@@ -51,7 +57,13 @@ pub record EndsInput (a : Asked) : Type 0 where
   pub session : ℕ
   pub quits : MeansRequest at a (Ok (session, quits))
 
--- none of them but the last one does
+-- the request asks for a sweep
+pub record AsksToSweep (a : Asked) : Type 0 where
+  pub at : State
+  pub session : ℕ
+  pub asks : MeansRequest at a (Ok (session, sweeps))
+
+-- none of them but the last one ends the input
 abbrev pub EndsInputLast : List Asked → Type 0
 EndsInputLast [] = Unit {0}
 EndsInputLast (a ∷ []) = Unit {0}

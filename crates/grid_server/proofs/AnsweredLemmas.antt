@@ -16,7 +16,7 @@ use Rattle.grid_headline.specs.Reads.{MeansRequest, EndsInput}
 use Rattle.grid_headline.specs.Worlds.{World}
 use Rattle.run_laws.specs.Sofar.{BeginsPlainly, CallsGoOn, KeepsWhole, Sofar}
 use Rattle.grid_model.specs.Working.{Done}
-use Rattle.run_laws.specs.Steps.{ComesAfter, kept, nothing}
+use Rattle.run_laws.specs.Steps.{ComesAfter, kept, unseen}
 use Rattle.run_laws.proofs.RunLaws.{one_more}
 use Rattle.cmd_run.specs.Fits.{FitsMain, state_of}
 use Rattle.cmd_run.specs.Obeys.{Obeys, handled, quiet}
@@ -41,7 +41,7 @@ keeps_whole v a b c r after told cmd settled whole t main spare d late left its 
     )) t main d late left.of_main stood in
     record {
       rows = was.rows;
-      call = (cmd.remembers told settled.of_main t main d late left.of_main stood).0;
+      call = cmd.call told settled.of_main t main d late left.of_main stood;
       files = λ slot image there. was.files slot there.store image there.is there.tells there.of_store;
     }
 
@@ -63,7 +63,7 @@ pub obeys_at : {B : Type 0} (old new : World B) (before : Server) (m n : ℕ) (r
 obeys_at old new before m n request r after e o = let O : ℕ → Type 0 = λ k. Obeys old new before (k + 1) request r after in subst O e o
 
 module _ {B : Type 0} {old mid new : World B} {found : Cat} {before : Server} {asked : List Asked} {a : Asked} {request : Request} (after : Server) (plain : BeginsPlainly old found)
-    (so : Sofar old mid found before.store.cat (state_of before) asked) (goes : CallsGoOn mid new before.store.cat) (means : MeansRequest (state_of before) a request) where
+    (so : Sofar old mid found before.store.cat (state_of before) asked) (goes : CallsGoOn old.source.left mid new before.store.cat) (means : MeansRequest (state_of before) a request) where
   -- it was handled whole, and does not end the input
   pub answered_more : (done : ⊤) → Obeys mid new before (length asked + 1) request (Ok done) after → ¬ EndsInput a → Sofar old new found after.store.cat (state_of after) (asked ++ a ∷ [])
   answered_more done (handled step ends) not = one_more plain so goes means not step ends.0
@@ -76,5 +76,5 @@ fits_more old new before n request done after (handled step ends) = (ends.1, sto
   where
     stores_of : {d : Done} → ComesAfter before.store.cat n d after.store.cat → after.store.cat.stores ≡ before.store.cat.stores
     stores_of (kept its) = its.stores
-    stores_of (nothing same marks grid) = ap (λ (c : Cat). c.stores) same
+    stores_of (unseen like marks grid) = like.stores
 fits_more old new before n request done after (quiet ending e q) = absurd (cc e)

@@ -16,7 +16,7 @@ use Rattle.grid_model.specs.declared.refusal.Refusal.{Refusal}
 use Rattle.grid_model.specs.declared.refusal.Refusal.TheVariants as refusal
 use Rattle.cmd_read.specs.Reading.{Reads, as_session, session_of, ReadsBehind, ReadsIn}
 use Rattle.cmd_read.specs.Table.{number_of}
-use Rattle.cmd_read.specs.Orders.{refusal_of, asks_for as reads_so, Means as MeansBy}
+use Rattle.cmd_read.specs.Orders.{refusal_of, asks_for as reads_so, MeansOrder as MeansBy}
 use Rattle.cmd_read.specs.declared.error.ReadError.{ReadError}
 use Rattle.cmd_read.specs.declared.error.ReadError.TheVariants as error
 use Rattle.grid_headline.specs.Reads.{texts, is_built, MeansRequest, EndsInput}

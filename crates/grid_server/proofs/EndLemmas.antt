@@ -12,9 +12,10 @@ use Rattle.grid_model.specs.Inputs.{Asked, Takes}
 use Rattle.grid_model.specs.Rows.{Cat}
 use Rattle.grid_model.specs.Sessions.{State}
 use Rattle.grid_model.specs.Runs.{Request}
+use Rattle.grid_journal.specs.Journal.{ClosesAt}
 use Rattle.grid_journal.specs.Stands.{StandsFor}
 use Rattle.grid_headline.specs.Causes.{NoneFailed}
-use Rattle.grid_headline.specs.Ends.{RunEnd, read_all, source_failed, too_long, worn, no_memory, disk_failed, sink_failed, EndsInRequest, EndsAtEnd, ReadsPart, ReadsMost, ClosesAt, Stand}
+use Rattle.grid_headline.specs.Ends.{RunEnd, read_all, source_failed, too_long, worn, no_memory, disk_failed, sink_failed, EndsInRequest, EndsAtEnd, ReadsEnded, ReadsMost, Stand}
 use Rattle.grid_headline.specs.Headline.{Serves}
 use Rattle.grid_headline.specs.Reads.{MeansRequest, EndsInput}
 use Rattle.grid_headline.specs.Served.{BeginsWithRequests}
@@ -42,7 +43,7 @@ use Rattle.grid_server.proofs.AnsweredLemmas.{none_end_at}
 pub reads_end : (from to : SourceState) (asked : List Asked) → HeardAll from to asked → EndsAtEnd asked from to
 reads_end from to asked all = record { fits = all.fits; are = all.are; all = all.all }
 
-pub reads_part : (from to : SourceState) (asked : List Asked) → HeardPart from to asked → ReadsPart asked from to
+pub reads_part : (from to : SourceState) (asked : List Asked) → HeardPart from to asked → ReadsEnded asked from to
 reads_part from to asked part = record { taken = part.taken; split = part.split; left = part.left; takes = part.takes; part = part.part }
 
 pub reads_most : (from to : SourceState) (asked : List Asked) → AllByRecursion (λ a. ¬ EndsInput a) asked → HeardMost from to asked → ReadsMost asked from to
@@ -99,7 +100,7 @@ puts_file input at asked a (Ok (session, order)) first means makes =
 puts_file input at asked a (Err r) first means makes = absurd makes
 
 module _ {B : Type 0} {old mid new : World B} {found : Cat} {before : Server} {asked : List Asked} {a : Asked} {request : Request} (after : Server) (plain : BeginsPlainly old found)
-    (so : Sofar old mid found before.store.cat (state_of before) asked) (goes : CallsGoOn mid new before.store.cat) (means : MeansRequest (state_of before) a request)
+    (so : Sofar old mid found before.store.cat (state_of before) asked) (goes : CallsGoOn old.source.left mid new before.store.cat) (means : MeansRequest (state_of before) a request)
     (first : BeginsWithRequests old.source.left (asked ++ a ∷ [])) where
   -- a request that ended the input was handled whole
   pub last_answered : (done : ⊤) → Obeys mid new before (length asked + 1) request (Ok done) after → EndsAtEnd (asked ++ a ∷ []) old.source new.source ⊎ EndsInRequest (asked ++ a ∷ []) old.source new.source

@@ -70,5 +70,5 @@ vault_made deltas c made = vault_after-all deltas empty_cat c (omega arith) made
 
 -- ---- a new grid
 
-pub grid_start : (zone admin : Text) (stores : ℕ) → grid_of (start zone admin stores) ≡ model.start zone admin stores
+pub grid_start : (zone admin : Text) (stores : ℕ) → grid_of (start zone admin stores) ≡ model.start_grid zone admin stores
 grid_start zone admin stores = refl

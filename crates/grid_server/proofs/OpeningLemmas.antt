@@ -1,39 +1,42 @@
 -- What the beginning of a run leaves.
 use Rattle.std.proofs.Common.{length, ◌-◌, ◌≤◌, inl, inr, sym, ◌≡◌, ◌≢◌, ℕ, ◌+◌, ◌^◌, ◌<◌, List, [], ◌∷◌, Ok, Err, None, Some, IsTrue, refl, ap, ◌∙◌, subst, false, arith}
-use Rattle.std.specs.Prelude.{nat_lt, nat_le}
+use Rattle.std.specs.Prelude.{nat_lt, nat_le, ◌++◌, flat_map}
 use Rattle.std.proofs.lemmas.Bool.{and_from, lt-ltb, le-leb}
 use Rattle.grid_outside.specs.Device.{IsSettled}
 use Rattle.grid_outside.specs.Disk.{DiskState}
 use Rattle.grid_outside.specs.declared.outside.Wear.{Wear}
+use Rattle.grid_model.specs.Deltas.{spelling}
 use Rattle.grid_model.specs.Rows.{Cat}
 use Rattle.grid_model.specs.Applying.{IsMade, apply, apply_all, where_fits}
 use Rattle.grid_model.specs.declared.deltas.Numbers.{Numbers}
 use Rattle.grid_model.specs.declared.deltas.Delta.{Delta}
 use Rattle.grid_model.specs.declared.deltas.Delta.TheVariants as delta
-use Rattle.grid_journal.specs.Journal.{Journal, Keeps}
+use Rattle.grid_journal.specs.Journal.{Journal, Keeps, ClosesAt}
 use Rattle.grid_journal.specs.Store.{Commits}
 use Rattle.grid_journal.specs.declared.error.JournalError.{JournalError}
 use Rattle.grid_journal.specs.declared.error.JournalError.TheVariants as journal
 use Rattle.grid_journal.proofs.DeltaLemmas.{then_all}
 use Rattle.std.proofs.lemmas.Bool.{cases_lt}
 use Rattle.grid_model.specs.Names.{Text}
-use Rattle.frame_log.specs.Log.{frames, log_of}
+use Rattle.frame_log.specs.Log.{IsLog, frames, log_of}
+use Rattle.frame_log.specs.Extent.{IsLogOf}
 use Rattle.frame_log.proofs.Reading.{reads_as_log}
+use Rattle.cmd_run.specs.Errors.{IsOfCommit}
 use Rattle.grid_server.specs.Opening.{BeginEnds, HasRoom}
-use Rattle.grid_server.specs.Stopping.{IsOfCommit, begin_error_of}
+use Rattle.grid_server.specs.Stopping.{begin_error_of}
 use Rattle.grid_server.proofs.OpenedLemmas.{vault_made}
-use Rattle.grid_deed.specs.Held.{ClosesAt}
 use Rattle.grid_deed.proofs.Keeping.{closes_at, made_more}
+use Rattle.grid_headline.specs.Ends.{HasOneMore}
 use Rattle.sess.specs.Places.{Places, at, user_of}
-use Rattle.run_laws.specs.Sofar.{begun}
+use Rattle.run_laws.specs.Sofar.{run_begun}
 use Rattle.run_laws.specs.Went.{Rests}
 
 abbrev next_run : Cat → Numbers
 next_run c = record { next_vault = c.numbers.next_vault; run = c.numbers.run + 1; last = 0 }
 
-applied_run : (c : Cat) → IsMade c → apply c (delta.Numbers (next_run c)) ≡ Ok (begun c)
+applied_run : (c : Cat) → IsMade c → apply c (delta.Numbers (next_run c)) ≡ Ok (run_begun c)
 applied_run c m =
-    ap (λ b. where_fits b 19 (begun c))
+    ap (λ b. where_fits b 19 (run_begun c))
     (and_from (nat_lt 0 c.numbers.next_vault) (nat_le c.numbers.next_vault c.numbers.next_vault) (lt-ltb 0 c.numbers.next_vault (vault_made m.0 c m.1)) (le-leb c.numbers.next_vault c.numbers.next_vault (omega arith)))
 
 -- nobody is there
@@ -42,19 +45,20 @@ none_there places n id none is = let e : user_of None ≡ Some id = ap user_of (
 
 -- the deltas lead to the catalogue of the next run
 pub is_begun : (c : Cat) → IsMade c → (tables : Cat) → tables ≡ c → (n : Numbers) → n ≡ tables.numbers → (deltas : List Delta)
-    → deltas ≡ delta.Numbers (record { next_vault = n.next_vault; run = n.run + 1; last = 0 }) ∷ [] → apply_all c deltas ≡ Ok (begun c)
+    → deltas ≡ delta.Numbers (record { next_vault = n.next_vault; run = n.run + 1; last = 0 }) ∷ [] → apply_all c deltas ≡ Ok (run_begun c)
 is_begun c m tables tables_are n n_is deltas deltas_are =
     let same : n ≡ c.numbers = n_is ∙ ap (λ (c : Cat). c.numbers) tables_are in
     ap (apply_all c) (deltas_are ∙ ap (λ (k : Numbers). delta.Numbers (record { next_vault = k.next_vault; run = k.run + 1; last = 0 }) ∷ []) same) ∙ ap (then_all []) (applied_run c m)
 
 pub begun_well : (old new : Journal) (deltas : List Delta) (main_old main_new : DiskState) (sessions : Places) → IsMade old.cat → old.cat.pending ≡ None → old.cat.rules ≡ [] → ((n : ℕ) → at sessions n ≡ None)
-    → apply_all old.cat deltas ≡ Ok (begun old.cat) → Commits deltas old new
+    → apply_all old.cat deltas ≡ Ok (run_begun old.cat) → Commits deltas old new
     → (IsTrue main_old.tells → Keeps new.cat new main_new.holds) → main_new.tells ≡ main_old.tells → (IsTrue main_old.tells → IsSettled main_new) → HasRoom old.cat main_old
+    → (IsTrue main_old.tells → HasOneMore main_old.holds main_new.holds)
     → BeginEnds old.cat main_old main_new (Ok (record { store = new; sessions = sessions }))
-begun_well old new deltas main_old main_new sessions m pending rules nobody is commits keeps tells settled room =
-    let both : apply_all old.cat deltas ≡ Ok (begun old.cat) = is in
+begun_well old new deltas main_old main_new sessions m pending rules nobody is commits keeps tells settled room one =
+    let both : apply_all old.cat deltas ≡ Ok (run_begun old.cat) = is in
     let ours : apply_all old.cat deltas ≡ Ok new.cat = commits.applied in
-    let same : new.cat ≡ begun old.cat = cc in (
+    let same : new.cat ≡ run_begun old.cat = cc in (
       record {
         held = record {
           sound = commits.sound;
@@ -71,7 +75,18 @@ begun_well old new deltas main_old main_new sessions m pending rules nobody is c
       nobody,
       settled,
       room,
+      one,
     )
+
+-- the log has one record more
+pub one_record : (old new : Journal) (deltas : List Delta) (main_old main_new : Text) (k : Keeps old.cat old main_old) → Keeps new.cat new main_new
+    → IsLogOf new.log (k.records ++ flat_map spelling (old.staged ++ deltas) ∷ []) main_new → HasOneMore main_old main_new
+one_record old new deltas main_old main_new k keeps added = record {
+  records = k.records;
+  one = flat_map spelling (old.staged ++ deltas);
+  before = subst (λ (b : ℕ). IsLog b k.records main_old) k.base k.log.is_log;
+  after = subst (λ (b : ℕ). IsLog b (k.records ++ flat_map spelling (old.staged ++ deltas) ∷ []) main_new) keeps.base added.is_log;
+}
 
 -- a log closes at one place
 pub one_close : (main : Text) (m n : ℕ) → ClosesAt main m → ClosesAt main n → m ≡ n

@@ -11,16 +11,15 @@ use Rattle.grid_model.specs.Rows.{Cat}
 use Rattle.grid_model.specs.RowGrids.{grid_of}
 use Rattle.grid_journal.specs.Stands.{StandsEither, StandsFor}
 use Rattle.grid_deed.specs.Frame.{Goes}
-use Rattle.grid_deed.specs.Held.{ClosesAt}
 use Rattle.grid_deed.proofs.Frames.{goes_nowhere, goes_more}
 use Rattle.grid_deed.proofs.Keeping.{held_stands}
-use Rattle.grid_headline.specs.Ends.{RunEnd, no_memory, disk_failed, worn, HasRunOut}
+use Rattle.grid_headline.specs.Ends.{RunEnd, no_memory, disk_failed, worn, HasRunOut, HasOneMore}
 use Rattle.grid_headline.specs.Headline.{Serves}
 use Rattle.grid_headline.specs.Worlds.{World}
 use Rattle.run_laws.specs.declared.around.Around.{Around}
 use Rattle.run_laws.specs.Ends.{StopsSo, IsGoodIfNoneFailed}
 use Rattle.run_laws.specs.Opening.{Opens, Opened}
-use Rattle.run_laws.specs.Sofar.{begun, BeginsPlainly}
+use Rattle.run_laws.specs.Sofar.{run_begun, BeginsPlainly}
 use Rattle.run_laws.specs.Went.{Rests, StoreGoes, AreInOrder}
 use Rattle.run_laws.proofs.Goings.{rests-settled}
 use Rattle.run_laws.proofs.RunLaws.{ends_before}
@@ -36,6 +35,7 @@ use Rattle.grid_server.specs.declared.opening.BeginError.TheVariants as opening
 use Rattle.grid_server.specs.declared.status.Status.{Status}
 use Rattle.grid_server.specs.declared.status.Status.TheVariants as status
 use Rattle.grid_model.specs.declared.grid.Side.{Side}
+use Rattle.grid_journal.specs.Journal.{ClosesAt}
 use Rattle.grid_server.proofs.AnsweredLemmas.{any_spare}
 use Rattle.grid_server.proofs.RestLemmas.{rests_same, rests_on}
 
@@ -66,7 +66,7 @@ module _ {D S K A P : Type 0} (v : Views D S K A P) (start : Around D S K A P) (
     told = subst IsTrue (sym looked.tells) plain.begin.main_tells
 
     opens_by : Goes start.outside.moments (v.disk start.outside.main) (v.disk main_new)
-        → (IsTrue (v.disk start.outside.main).tells → IsSettled (v.disk start.outside.main) → Leaves start.outside.moments (StandsEither found (begun found)) (v.disk main_new))
+        → (IsTrue (v.disk start.outside.main).tells → IsSettled (v.disk start.outside.main) → Leaves start.outside.moments (StandsEither found (run_begun found)) (v.disk main_new))
         → Opens (world_of v first) (world_of v now) found
     opens_by goes leaves = record {
       went = record {
@@ -100,12 +100,13 @@ module _ {D S K A P : Type 0} (v : Views D S K A P) (start : Around D S K A P) (
         opens = opens_by b.main b.leaves;
         stands = (let S : Cat → Type 0 = λ c. StandsFor (v.disk main_new).holds c in subst S b.ends.1 (held_stands s.store.cat (v.disk main_new) s.store b.ends.0.held (subst IsTrue (sym b.main.tells) told)));
         settled = λ settled. b.ends.3 told;
+        one = subst (λ (x : Text). HasOneMore x (v.disk main_new).holds) (looked.holds plain.begin.main_tells) (b.ends.5 told);
       };
     }
 
     -- it was not
     pub serves_not : (x : RunEnd) → Goes start.outside.moments (v.disk start.outside.main) (v.disk main_new)
-        → (IsTrue (v.disk start.outside.main).tells → IsSettled (v.disk start.outside.main) → Leaves start.outside.moments (StandsEither found (begun found)) (v.disk main_new))
+        → (IsTrue (v.disk start.outside.main).tells → IsSettled (v.disk start.outside.main) → Leaves start.outside.moments (StandsEither found (run_begun found)) (v.disk main_new))
         → StopsSo (world_of v first) (world_of v now) found (begins (grid_of found) []) [] x → IsGoodIfNoneFailed (world_of v first) (world_of v now) x → Serves (world_of v first) (world_of v now) found x
     serves_not x goes leaves stops good = ends_before plain order (opens_by goes leaves) stops good
 
@@ -177,7 +178,7 @@ module _ {D S K A P : Type 0} (v : Views D S K A P) (start : Around D S K A P) w
       subst S same (serves (subst B (sym same) plain))
 
   module _ (found : Cat) (main spare : D) (plain : BeginsPlainly (world_of v start) found) (order : AreInOrder (world_of v start)) (looked : Rests (v.disk start.outside.main) (v.disk main)) (same : spare ≡ start.outside.spare) where
-    leaves_looked : IsTrue (v.disk start.outside.main).tells → IsSettled (v.disk start.outside.main) → Leaves start.outside.moments (StandsEither found (begun found)) (v.disk main)
+    leaves_looked : IsTrue (v.disk start.outside.main).tells → IsSettled (v.disk start.outside.main) → Leaves start.outside.moments (StandsEither found (run_begun found)) (v.disk main)
     leaves_looked told settled t image late left =
         let T : Text → Type 0 = λ m. StandsFor m found in
         inl (subst T (sym (settled t image (omega (arith, late, order.main_last)) (looked.left t image left))) (any_spare plain.begin.stands))

@@ -3,13 +3,13 @@ use Rattle.std.proofs.Common.{◌≡◌, ℕ, ◌≤◌, refl, sym, subst, arith
 use Rattle.grid_outside.specs.Device.{DeviceState, Looks}
 use Rattle.grid_model.specs.Names.{Text}
 use Rattle.grid_model.specs.Rows.{Cat}
+use Rattle.cmd_run.specs.Errors.{IsOfCommit}
 use Rattle.grid_journal.specs.Journal.{Journal, Keeps}
 use Rattle.grid_journal.specs.Stands.{StandsFor}
 use Rattle.grid_journal.proofs.KeepingLemmas.{keeps_stands as journal_stands}
 use Rattle.grid_journal.specs.declared.error.JournalError.{JournalError}
 use Rattle.grid_journal.specs.declared.error.JournalError.TheVariants as journal
 use Rattle.run_laws.specs.Went.{Rests}
-use Rattle.grid_server.specs.Stopping.{IsOfCommit}
 
 pub keeps_stands : (was : Cat) (j : Journal) (main : Text) → Keeps was j main → StandsFor main was
 keeps_stands was j main k spare = journal_stands was j main spare k

@@ -12,7 +12,8 @@ use Rattle.grid_headline.specs.Reads.{EndsInput}
 use Rattle.grid_headline.specs.Served.{BeginsWithRequests}
 use Rattle.grid_headline.specs.Worlds.{World}
 use Rattle.run_laws.specs.declared.around.Around.{Around}
-use Rattle.run_laws.specs.Sofar.{begun, CallsGoOn, Sofar}
+use Rattle.run_laws.specs.Sofar.{run_begun, CallsGoOn, Sofar}
+use Rattle.run_laws.proofs.BuiltOrders.{no-sweep}
 use Rattle.run_laws.specs.Went.{AreInOrder}
 use Rattle.run_laws.proofs.RunLaws.{read_on, ends_well, ends_idle}
 use Rattle.req_lines.specs.Hearing.{Hears, HearsNone, GoesOn as GoesPast, BreaksOff, ahead}
@@ -85,7 +86,7 @@ module _ {D S K A P : Type 0} (v : Views D S K A P) (from : Server) (start mid n
     first_with asked told so true e = inr (all_heard asked told so e).are
 
     module _ (told : IsTrue (v.source start.source).tells) (asked : List Asked) (ans : HasAnswered v from start mid was asked) (order : AreInOrder (world_of v start)) (e : Earlier D) (found : Cat)
-        (began : IsBegun v (before v e start) start found) (cat : from.store.cat ≡ begun found) where
+        (began : IsBegun v (before v e start) start found) (cat : from.store.cat ≡ run_begun found) where
       so_read : Sofar (world_of v (before v e start)) (world_of v by) found was.server.store.cat (state_of was.server) asked
       so_read = read_on (v.source new.source) (ans.so e found began cat)
 
@@ -95,12 +96,14 @@ module _ {D S K A P : Type 0} (v : Views D S K A P) (from : Server) (start mid n
       order_by : AreInOrder (world_of v by)
       order_by = let o = order_of v ⊥ ⊥ start mid so_far.passes order in record { main_last = o.main_last; spare_last = o.spare_last; sink_last = o.sink_last; stores_last = o.stores_last }
 
-      goes_by : CallsGoOn (world_of v by) (world_of v new) was.server.store.cat
+      goes_by : CallsGoOn (v.source start.source).left (world_of v by) (world_of v new) was.server.store.cat
       goes_by = record {
         order = order_by;
         went = went_of v (result ≡ Some status.DiskFault) (result ≡ Some status.SinkFault) by new passes;
         whole = keeps_whole v by new (command_of was heard) r now.server main_told cmd;
-        names = λ told settled t main d late left stands. (cmd.remembers told settled t main d late left stands).1;
+        names = λ none main_tells settled t main d late left stands.
+            let no_sweep = no-sweep asks.means (none asked hears.asked (first_with asked told ans.heard heard.ends refl)) in
+            (cmd.remembers asks.request asks.asks no_sweep main_tells settled t main d late left stands).1;
       }
 
       obeyed_at : Obeys (world_of v by) (world_of v new) was.server (length asked + 1) asks.request r now.server

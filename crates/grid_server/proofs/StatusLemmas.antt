@@ -20,7 +20,7 @@ use Rattle.grid_headline.specs.Headline.{Serves}
 use Rattle.grid_headline.specs.Served.{BeginsWithRequests}
 use Rattle.grid_headline.specs.Worlds.{World}
 use Rattle.run_laws.specs.declared.around.Around.{Around}
-use Rattle.run_laws.specs.Sofar.{begun, Sofar}
+use Rattle.run_laws.specs.Sofar.{run_begun, Sofar}
 use Rattle.run_laws.specs.Went.{AreInOrder}
 use Rattle.run_laws.proofs.RunLaws.{none_yet, read_on, ends_well, ends_idle}
 use Rattle.grid_outside.specs.Source.{SourceState}
@@ -57,21 +57,21 @@ sessions_none names n [] none = refl
 sessions_none names n (x ∷ xs) none =
     ap (λ (o : Option Session). with_place names n o (sessions_from names (n + 1) xs)) (none 0) ∙ sessions_none names (n + 1) xs (λ k. none (suc k))
 
-state_none : (found : Cat) (places : Places) → ((k : ℕ) → at places k ≡ None) → state_by (begun found) places ≡ begins (grid_of found) []
+state_none : (found : Cat) (places : Places) → ((k : ℕ) → at places k ≡ None) → state_by (run_begun found) places ≡ begins (grid_of found) []
 state_none found places none = λ i. record {
-  grid = grid-same found (begun found) refl (grid_of found) refl i;
+  grid = grid-same found (run_begun found) refl (grid_of found) refl i;
   rules = [];
-  sessions = sessions_none (user_name (begun found)) 0 places none i;
+  sessions = sessions_none (user_name (run_begun found)) 0 places none i;
 }
 
 module _ {D S K A P : Type 0} (v : Views D S K A P) (server : Server) (start : Around D S K A P) (fits : FitsMain (v.disk start.outside.main) server) (nobody : (n : ℕ) → at server.sessions n ≡ None)
     (slots : server.store.cat.stores ≡ vec_len start.outside.stores) where
-  sofar_none : (e : Earlier D) (found : Cat) → IsBegun v (before v e start) start found → server.store.cat ≡ begun found
+  sofar_none : (e : Earlier D) (found : Cat) → IsBegun v (before v e start) start found → server.store.cat ≡ run_begun found
       → Sofar (world_of v (before v e start)) (world_of v start) found server.store.cat (state_of server) []
   sofar_none e found began cat =
       let C : Cat → State → Type 0 = λ c s. Sofar (world_of v (before v e start)) (world_of v start) found c s [] in
       let state : state_of server ≡ begins (grid_of found) [] = ap (λ (c : Cat). state_by c server.sessions) cat ∙ state_none found server.sessions nobody in
-      subst (λ (c : Cat). C c (state_of server)) (sym cat) (subst (C (begun found)) (sym state) (none_yet began.plain began.order began.opened))
+      subst (λ (c : Cat). C c (state_of server)) (sym cat) (subst (C (run_begun found)) (sym state) (none_yet began.plain began.order began.opened))
 
   starts_with : (s : Service) → s.server ≡ server → s.requests.unread ≡ [] → s.requests.taken ≡ 0 → s.number ≡ 0 → IsAfter v server start start s
   starts_with s is unread taken number =
@@ -99,7 +99,7 @@ module _ {D S K A P : Type 0} (v : Views D S K A P) (server : Server) (start : A
   starts = starts_with
 
   -- there was no memory for the first request
-  pub ends_first : (e : Earlier D) (found : Cat) (end : RunEnd) → IsBegun v (before v e start) start found → server.store.cat ≡ begun found → run_end_of status.Memory ≡ Some end
+  pub ends_first : (e : Earlier D) (found : Cat) (end : RunEnd) → IsBegun v (before v e start) start found → server.store.cat ≡ run_begun found → run_end_of status.Memory ≡ Some end
       → Serves (world_of v (before v e start)) (world_of v start) found end
   ends_first e found end began cat its =
       let is : no_memory ≡ end = cc in
@@ -203,7 +203,7 @@ module _ {D S K A P : Type 0} (v : Views D S K A P) (from : Server) (start mid n
 
   module _ (order : AreInOrder (world_of v start)) (untouched : (place : ℕ) → result ≡ Some (status.Worn wear.Vaults place) → (new.outside ≡ mid.outside) × (new.sink ≡ mid.sink))
       (cause : result ≡ Some status.SourceFault → Rose (v.source mid.source).faults (v.source new.source).faults)
-      (e : Earlier D) (found : Cat) (end : RunEnd) (began : IsBegun v (before v e start) start found) (cat : from.store.cat ≡ begun found) (its : run_end_of s ≡ Some end) where
+      (e : Earlier D) (found : Cat) (end : RunEnd) (began : IsBegun v (before v e start) start found) (cat : from.store.cat ≡ run_begun found) (its : run_end_of s ≡ Some end) where
     abbrev old : World P
     old = world_of v (before v e start)
 

@@ -3,11 +3,12 @@ use Rattle.std.specs.Prelude.{◌≡◌, ◌≢◌, ◌≤◌, ℕ, ◌-◌, ◌
 use Rattle.grid_outside.specs.Device.{IsSettled, Leaves}
 use Rattle.grid_outside.specs.Disk.{DiskState}
 use Rattle.grid_model.specs.Rows.{Cat}
+use Rattle.grid_journal.specs.Journal.{ClosesAt}
 use Rattle.grid_journal.specs.Stands.{StandsEither}
 use Rattle.grid_deed.specs.Frame.{Goes}
-use Rattle.grid_deed.specs.Held.{ClosesAt}
+use Rattle.grid_headline.specs.Ends.{HasOneMore}
 use Rattle.sess.specs.Places.{at}
-use Rattle.run_laws.specs.Sofar.{begun}
+use Rattle.run_laws.specs.Sofar.{run_begun}
 use Rattle.run_laws.specs.Went.{Rests}
 use Rattle.cmd_run.specs.Fits.{FitsMain}
 use Rattle.cmd_run.specs.declared.server.Server.{Server}
@@ -25,8 +26,8 @@ HasRoom found main = (found.numbers.run ≢ 2 ^ 64 - 1) × (IsTrue main.tells �
 -- a run was begun over this catalogue, or why not
 abbrev pub BeginEnds : Cat → DiskState → DiskState → Result Server BeginError → Type 0
 BeginEnds found main_old main_new (Ok s) =
-    FitsMain main_new s × (s.store.cat ≡ begun found) × ((n : ℕ) → at s.sessions n ≡ None) × (IsTrue main_old.tells → IsSettled main_new)
-    × HasRoom found main_old
+    FitsMain main_new s × (s.store.cat ≡ run_begun found) × ((n : ℕ) → at s.sessions n ≡ None) × (IsTrue main_old.tells → IsSettled main_new)
+    × HasRoom found main_old × (IsTrue main_old.tells → HasOneMore main_old.holds main_new.holds)
 BeginEnds found main_old main_new (Err opening.Disk) = HasRoom found main_old
 BeginEnds found main_old main_new (Err opening.Memory) = Rests main_old main_new
 BeginEnds found main_old main_new (Err (opening.Log place)) =
@@ -37,4 +38,4 @@ BeginEnds found main_old main_new (Err (opening.Runs place)) = Rests main_old ma
 pub record Begun (found : Cat) (since : ℕ) (main_old main_new : DiskState) (result : Result Server BeginError) : Type 0 where
   pub ends : BeginEnds found main_old main_new result
   pub main : Goes since main_old main_new
-  pub leaves : IsTrue main_old.tells → IsSettled main_old → Leaves since (StandsEither found (begun found)) main_new
+  pub leaves : IsTrue main_old.tells → IsSettled main_old → Leaves since (StandsEither found (run_begun found)) main_new

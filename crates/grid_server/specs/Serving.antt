@@ -10,7 +10,7 @@ use Rattle.grid_model.specs.Rows.{Cat}
 use Rattle.grid_headline.specs.Reads.{EndsInput}
 use Rattle.run_laws.specs.declared.around.Around.{Around}
 use Rattle.run_laws.specs.Opening.{Opened}
-use Rattle.run_laws.specs.Sofar.{begun, BeginsPlainly, Sofar}
+use Rattle.run_laws.specs.Sofar.{run_begun, BeginsPlainly, Sofar}
 use Rattle.run_laws.specs.Went.{AreInOrder}
 use Rattle.req_lines.specs.Progress.{HasHeard}
 use Rattle.cmd_run.specs.Fits.{state_of, FitsMain}
@@ -67,7 +67,7 @@ module _ {D S K A P : Type 0} (v : Views D S K A P) where
     pub heard : HasHeard (v.source start.source) (input_of s (v.source now.source)) asked
     pub many : s.number ≡ length asked
     pub none_end : AllByRecursion (λ a. ¬ EndsInput a) asked
-    pub so : (e : Earlier D) (found : Cat) → IsBegun (before e start) start found → from.store.cat ≡ begun found
+    pub so : (e : Earlier D) (found : Cat) → IsBegun (before e start) start found → from.store.cat ≡ run_begun found
         → Sofar (world_of v (before e start)) (world_of v now) found s.server.store.cat (state_of s.server) asked
 
   -- Where a service is that began so.

@@ -44,5 +44,5 @@ pub record Started (zone admin : Text) (stores : ℕ) (main_old main_new spare :
   pub main_empty : IsTrue main_old.tells → main_old.holds ≡ []
   pub spare_empty : IsTrue spare.tells → spare.holds ≡ []
   pub stands : IsTrue main_old.tells → StandsFor main_new.holds (start zone admin stores)
-  pub grid : grid_of (start zone admin stores) ≡ model.start zone admin stores
+  pub grid : grid_of (start zone admin stores) ≡ model.start_grid zone admin stores
   pub settled : IsTrue main_old.tells → IsSettled main_new

@@ -4,12 +4,6 @@ use Rattle.grid_journal.specs.declared.error.JournalError.TheVariants as journal
 use Rattle.grid_server.specs.declared.opening.BeginError.{BeginError}
 use Rattle.grid_server.specs.declared.opening.BeginError.TheVariants as opening
 
--- an error that a commit may have
-abbrev pub IsOfCommit : JournalError → Type 0
-IsOfCommit (journal.NotEmpty side len) = ⊥
-IsOfCommit (journal.NotACatalogue side place) = ⊥
-IsOfCommit other = Unit {0}
-
 -- how it ends the beginning of a run
 abbrev pub begin_error_of : JournalError → BeginError
 begin_error_of journal.Memory = opening.Memory

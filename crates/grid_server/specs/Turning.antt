@@ -4,13 +4,14 @@ use Rattle.grid_outside.specs.Source.{SourceState}
 use Rattle.grid_model.specs.Runs as runs
 use Rattle.grid_deed.specs.Safe.{KeepWhole}
 use Rattle.grid_headline.specs.Worlds.{World}
+use Rattle.run_laws.specs.Steps.{IsNoSweep}
 use Rattle.run_laws.specs.declared.around.Around.{Around}
 use Rattle.req_lines.specs.Reading.{Input, input}
 use Rattle.req_lines.specs.Hearing.{Hears, HearsNone, GoesOn, Stops, BreaksOff}
 use Rattle.req_lines.specs.declared.requests.Heard.{Heard}
 use Rattle.cmd_run.specs.Asking.{AsksForRequest, ends_input}
 use Rattle.cmd_run.specs.Fits.{state_of}
-use Rattle.cmd_run.specs.Obeys.{Obeys, IsWorn, Remembers}
+use Rattle.cmd_run.specs.Obeys.{Obeys, IsWorn, NamesItsCall, Remembers}
 use Rattle.cmd_run.specs.declared.server.Server.{Server}
 use Rattle.cmd_run.specs.declared.server.Ending.{Ending}
 use Rattle.cmd_run.specs.declared.server.Ending.TheVariants as ending
@@ -51,7 +52,9 @@ pub record Commanded {B : Type 0} (old new : World B) (c : Command) (result : Re
       → Obeys old new c.before c.number request result after
   pub worn : (request : runs.Request) → AsksForRequest (state_of c.before) c.heard.asked c.heard.body request → IsWorn new c.before request result
   pub whole : KeepWhole old.plugin old.moments c.before.store.cat old.main new.main old.stores new.stores
-  pub remembers : Remembers c.before.store.cat old.moments old.main new.main
+  pub call : NamesItsCall old.moments old.main new.main
+  pub remembers : (request : runs.Request) → AsksForRequest (state_of c.before) c.heard.asked c.heard.body request → IsNoSweep request
+      → Remembers c.before.store.cat old.moments old.main new.main
 
 -- ---- one turn
 

@@ -3,7 +3,8 @@ use Rattle.std.specs.Prelude.{◌≡◌, ◌^◌, ◌<◌, ℕ}
 use Rattle.grid_outside.specs.declared.outside.Wear.{Wear}
 use Rattle.grid_outside.specs.declared.outside.Wear.TheVariants as wear
 use Rattle.grid_model.specs.Names.{Text}
-use Rattle.grid_headline.specs.Ends.{Stand, ClosesAt}
+use Rattle.grid_journal.specs.Journal.{ClosesAt}
+use Rattle.grid_headline.specs.Ends.{Stand}
 use Rattle.grid_headline.specs.Numbers.{last_vault}
 
 -- the numbers of vault files, or the room behind the log on main, have run out at this number or place

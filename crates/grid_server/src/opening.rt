@@ -1,9 +1,10 @@
 ghost use Rattle.std.specs.Prelude.{◌≡◌, ◌+◌, ◌^◌, ◌<◌, ◌≤◌, ◌∷◌, [], None, IsTrue, IfOk, IsErrOf};
 ghost use Rattle.grid_outside.specs.Fault.{Rose};
 ghost use Rattle.grid_model.specs.Applying.{IsMade};
+ghost use Rattle.cmd_run.specs.Errors.{IsOfCommit};
 ghost use Rattle.grid_journal.specs.Journal.{Keeps};
 ghost use Rattle.grid_server.specs.Opening.{Begun};
-ghost use Rattle.grid_server.specs.Stopping.{IsOfCommit, begin_error_of};
+ghost use Rattle.grid_server.specs.Stopping.{begin_error_of};
 ghost use Rattle.grid_deed.specs.Frame.{AddsInRoom};
 
 use cmd_run::Server;

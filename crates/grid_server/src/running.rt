@@ -20,7 +20,9 @@ ghost use Rattle.cmd_run.specs.Passes.{AreReady, CallsPass};
 ghost use Rattle.grid_server.specs.Files.{HaveNoFiles};
 ghost use Rattle.grid_server.specs.Opening.{HasRoom, IsPlain};
 ghost use Rattle.grid_server.specs.RunEnds.{run_end_of};
-ghost use Rattle.grid_server.specs.Starting.{usage_line as usage_text, not_empty_line as not_empty_text, not_a_catalogue_line as not_a_catalogue_text, stores_line as stores_text, side_name as side_text};
+ghost use Rattle.grid_server.specs.Starting.{usage_line as usage_text, not_empty_line as not_empty_text};
+ghost use Rattle.grid_server.specs.Starting.{not_a_catalogue_line as not_a_catalogue_text, stores_line as stores_text};
+ghost use Rattle.grid_server.specs.Starting.{side_name as side_text};
 ghost use Rattle.grid_server.specs.Running.{SaysLine, HoldsStill, RefusesDisks, RefusesStores, Inits, IsComplete, EndsServing, IsNotBegun, IsHeldBack};
 ghost use Rattle.grid_server.specs.Serving.{SinkWent, TookFew, before};
 ghost use Rattle.run_laws.specs.declared.around.Around.{Around};
@@ -329,7 +331,7 @@ fn is_plain(tables: &Tables) -> bool
     }
 }
 
-// SaysLine that the disks hold no catalogue, which shows at this place.
+// Says that the disks hold no catalogue, which shows at this place.
 fn refuse<K: Sink>(
     alloc: Global,
     moments: &mut Moments,
@@ -350,7 +352,7 @@ fn refuse<K: Sink>(
     say(moments, sink, &line, Status::NotACatalogue { side, at })
 }
 
-// SaysLine that the catalogue is of another number of stores.
+// Says that the catalogue is of another number of stores.
 fn refuse_stores<K: Sink>(
     alloc: Global,
     moments: &mut Moments,
@@ -426,7 +428,7 @@ fn init<D: Disk, K: Sink, A: Ambient, P: Plugin>(
     }
 }
 
-// SaysLine that a disk is not empty.
+// Says that a disk is not empty.
 fn refuse_start<K: Sink>(
     alloc: Global,
     moments: &mut Moments,

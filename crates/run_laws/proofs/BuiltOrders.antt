@@ -1,6 +1,6 @@
 -- What requests ask for as long as few verbs are built: no rules are set, and no upload is opened.
 use Rattle.std.proofs.Common.{◌≡◌, ℕ, Bool, true, false, List, [], ◌∷◌, ◌++◌, Option, Some, None, Ok, Err, refl, sym, ap, ◌∙◌, subst}
-use Rattle.std.specs.Prelude.{nat_le}
+use Rattle.std.specs.Prelude.{nat_le, ⊤}
 use Rattle.std.proofs.lemmas.Bool.{both_ways}
 use Rattle.grid_model.specs.Maps.{get, remove}
 use Rattle.grid_model.specs.Names.{Text}
@@ -8,15 +8,15 @@ use Rattle.grid_model.specs.Inputs.{Asked}
 use Rattle.grid_model.specs.Meanings.{Meaning, gives}
 use Rattle.grid_model.specs.Limits.{object_size}
 use Rattle.grid_model.specs.Doing.{Course}
-use Rattle.grid_model.specs.Operations.Common.{is_person}
+use Rattle.grid_model.specs.Operations.Common.{is_person, needs_admin}
 use Rattle.grid_model.specs.Operations.Table.{Operation}
 use Rattle.grid_model.specs.Sessions.{Session, State}
-use Rattle.grid_model.specs.Orders.{Order, lists, logs_in, logs_out, quits, works}
+use Rattle.grid_model.specs.Orders.{Order, lists, logs_in, logs_out, quits, sweeps, works}
 use Rattle.grid_model.specs.Working.{Done, answered, refused_at_once, well, begun, work, running, operate}
 use Rattle.grid_model.specs.Uploading.{has_upload, with_session, log_in, log_out, is_uploading}
 use Rattle.grid_model.specs.Listings.{ls_rows}
 use Rattle.grid_model.specs.Refusing.{Or}
-use Rattle.grid_model.specs.Obeying.{do_works, listing, logged_in, not_logged_in}
+use Rattle.grid_model.specs.Obeying.{do_works, listing, logged_in, not_logged_in, sweep}
 use Rattle.grid_model.specs.Runs.{Request, does}
 use Rattle.grid_model.specs.declared.marks.Mark.{Mark}
 use Rattle.grid_model.specs.declared.requests.Verb.{Verb}
@@ -26,8 +26,9 @@ use Rattle.grid_model.proofs.MeaningLemmas.{gives_is, mapped_gives}
 use Rattle.grid_model.proofs.WithoutRules.{operate_alone, answers}
 use Rattle.cmd_read.specs.Orders.{Asks, asks_for, not_built, cut_short, wrong_words, no_words as line_refused, too_long}
 use Rattle.cmd_read.specs.Orders as orders
-use Rattle.grid_headline.specs.Reads.{MeansRequest, texts, is_built}
-use Rattle.grid_headline.specs.Draws.{AreSomeOf, skip, keep, words_of, Words, request_words}
+use Rattle.grid_headline.specs.Reads.{MeansRequest, AsksToSweep, texts, is_built}
+use Rattle.run_laws.specs.Steps.{IsNoSweep}
+use Rattle.grid_headline.specs.Draws.{AreSomeOf, skip, keep, told_words, Words, request_words}
 
 -- the order is one of those that are built
 abbrev pub IsBuilt : Order → Type 0
@@ -36,13 +37,14 @@ IsBuilt logs_out = Unit {0}
 IsBuilt quits = Unit {0}
 IsBuilt (lists path) = Unit {0}
 IsBuilt (works op count) = Unit {0}
+IsBuilt sweeps = Unit {0}
 IsBuilt other = ⊥
 
 abbrev pub IsBuiltRequest : Request → Type 0
 IsBuiltRequest (Err r) = Unit {0}
 IsBuiltRequest (Ok (session, order)) = IsBuilt order
 
-built_verb : (at : State) (v : Verb) (body : Text) (order : Order) → is_built v ≡ true → orders.Means texts at v body order → IsBuilt order
+built_verb : (at : State) (v : Verb) (body : Text) (order : Order) → is_built v ≡ true → orders.MeansOrder texts at v body order → IsBuilt order
 built_verb at (verb.Login user) body order built means = subst IsBuilt (sym means) tt
 built_verb at verb.Logout body order built means = subst IsBuilt (sym means) tt
 built_verb at verb.Quit body order built means = subst IsBuilt (sym means) tt
@@ -51,6 +53,10 @@ built_verb at (verb.MkGroup name) body order built means = subst IsBuilt (sym me
 built_verb at (verb.RmDir path) body order built means = subst IsBuilt (sym means) tt
 built_verb at (verb.AddMember group user) body order built means = subst IsBuilt (sym means) tt
 built_verb at (verb.RmMember group user) body order built means = subst IsBuilt (sym means) tt
+built_verb at (verb.MkStorage name slot) body order built means = subst IsBuilt (sym means) tt
+built_verb at (verb.MkCoordinating name kind) body order built means = subst IsBuilt (sym means) tt
+built_verb at (verb.AddChild parent child) body order built means = subst IsBuilt (sym means) tt
+built_verb at (verb.ModResc name up) body order built means = subst IsBuilt (sym means) tt
 built_verb at (verb.MkDir path) body order built means = subst IsBuilt (sym means) tt
 built_verb at (verb.Mv from to) body order built means = subst IsBuilt (sym means) tt
 built_verb at (verb.Ls path) body order built means = subst IsBuilt (sym means) tt
@@ -59,6 +65,9 @@ built_verb at (verb.Inherit path) body order built means = subst IsBuilt (sym me
 built_verb at (verb.NoInherit path) body order built means = subst IsBuilt (sym means) tt
 built_verb at (verb.Put path resource mode count) body order built means = subst IsBuilt (sym means) tt
 built_verb at (verb.Get path resource) body order built means = subst IsBuilt (sym means) tt
+built_verb at (verb.Trim path resource) body order built means = subst IsBuilt (sym means) tt
+built_verb at (verb.Rm path) body order built means = subst IsBuilt (sym means) tt
+built_verb at verb.Sweep body order built means = subst IsBuilt (sym means) tt
 built_verb at other body order built means = absurd (both_ways false refl built)
 
 pub built : {at : State} {line body : Text} {request : Request} → Asks texts at line body request → IsBuiltRequest request
@@ -68,6 +77,11 @@ built (cut_short request short spells reads less) = tt
 built (wrong_words why short spells reads is) = tt
 built (line_refused short refused) = tt
 built (too_long long) = tt
+
+-- what is no sweep by its words is none
+pub no-sweep : {at : State} {asked : Asked} {request : Request} → MeansRequest at asked request → ¬ AsksToSweep asked → IsNoSweep request
+no-sweep {at = at} {request = Ok (session, sweeps)} means none = absurd (none (record { at = at; session = session; asks = means }))
+no-sweep {request = other} means none = tt
 
 -- ---- rules
 
@@ -94,6 +108,13 @@ log_out-rules at n x s = by (is_uploading x)
 listing-rules : (at : State) (rows : Or (List (List Text))) (s : Course) → (listing at rows s).state.rules ≡ at.rules
 listing-rules at (Ok rows) s = refl
 listing-rules at (Err r) s = refl
+
+sweep-rules : (at : State) (x : Session) (s : Course) → (sweep at x s).state.rules ≡ at.rules
+sweep-rules at x s = by (needs_admin s.grid x.user)
+  where
+    by : (allowed : Or ⊤) → (let d : Done = elim allowed [ Err r ↦ refused_at_once at s r | Ok _ ↦ answered at s well ] in d.state.rules ≡ at.rules)
+    by (Ok u) = refl
+    by (Err r) = refl
 
 -- whatever is given keeps the rules
 abbrev AllKeep : State → Meaning Done → Type 0
@@ -123,6 +144,8 @@ obey-rules at n (lists path) s is none None = given-keeps at (refused_at_once at
 obey-rules at n (lists path) s is none (Some x) = given-keeps at (listing at (ls_rows s.grid x.user path) s) (listing-rules at (ls_rows s.grid x.user path) s)
 obey-rules at n (works op count) s is none None = given-keeps at (refused_at_once at s refusal.NoLogin) refl
 obey-rules at n (works op count) s is none (Some x) = works-rules at x op count s none
+obey-rules at n sweeps s is none None = given-keeps at (refused_at_once at s refusal.NoLogin) refl
+obey-rules at n sweeps s is none (Some x) = given-keeps at (sweep at x s) (sweep-rules at x s)
 obey-rules at n other s is none o = absurd is
 
 -- a request keeps the rules where there are none
@@ -141,17 +164,18 @@ some-front [] is = is
 some-front (n ∷ more) is = keep (some-front more is)
 
 words_by : (at : State) (request : Request) (marks : List Mark) (ok : Bool) (w : Words) (all : List ℕ) → IsBuiltRequest request → AreSomeOf w.words all
-    → AreSomeOf (request_words at request marks ok w).words (words_of marks ++ all)
-words_by at (Err r) marks ok w all is some = some-behind (words_of marks) some
-words_by at (Ok (n, logs_in user)) marks ok w all is some = some-front (words_of marks) some
-words_by at (Ok (n, logs_out)) marks ok w all is some = some-front (words_of marks) some
-words_by at (Ok (n, quits)) marks ok w all is some = some-front (words_of marks) some
-words_by at (Ok (n, lists path)) marks ok w all is some = some-front (words_of marks) some
-words_by at (Ok (n, works op count)) marks ok w all is some = some-front (words_of marks) some
+    → AreSomeOf (request_words at request marks ok w).words (told_words marks ++ all)
+words_by at (Err r) marks ok w all is some = some-behind (told_words marks) some
+words_by at (Ok (n, logs_in user)) marks ok w all is some = some-front (told_words marks) some
+words_by at (Ok (n, logs_out)) marks ok w all is some = some-front (told_words marks) some
+words_by at (Ok (n, quits)) marks ok w all is some = some-front (told_words marks) some
+words_by at (Ok (n, lists path)) marks ok w all is some = some-front (told_words marks) some
+words_by at (Ok (n, works op count)) marks ok w all is some = some-front (told_words marks) some
+words_by at (Ok (n, sweeps)) marks ok w all is some = some-front (told_words marks) some
 words_by at (Ok (n, other)) marks ok w all is some = absurd is
 
 -- the words of a request and of those behind it are some of those of its marks, and of all
 pub words_in : (at : State) (asked : Asked) (request : Request) (marks : List Mark) (ok : Bool) (w : Words) (all : List ℕ) → MeansRequest at asked request
     → AreSomeOf w.words all
-    → AreSomeOf (request_words at request marks ok w).words (words_of marks ++ all)
+    → AreSomeOf (request_words at request marks ok w).words (told_words marks ++ all)
 words_in at asked request marks ok w all means some = words_by at request marks ok w all (built means) some

@@ -11,7 +11,7 @@ use Rattle.grid_model.specs.Runs.{Request, Marked, After, none as nothing_done, 
 use Rattle.grid_model.specs.declared.marks.Mark.{Mark}
 use Rattle.grid_headline.specs.Reads.{MeansRequest}
 use Rattle.grid_headline.specs.Served.{marks_of}
-use Rattle.grid_headline.specs.Draws.{AreSomeOf, none, skip, keep, word_of, time_of, words_of, with_marks, Words, no_words, HaveWords, none_left, next, request_words}
+use Rattle.grid_headline.specs.Draws.{AreSomeOf, none, skip, keep, word_of, time_of, told_words, with_marks, Words, no_words, HaveWords, none_left, next, request_words}
 use Rattle.run_laws.specs.Steps.{Gave}
 use Rattle.run_laws.proofs.BuiltOrders.{words_in}
 
@@ -114,17 +114,17 @@ pub record WordsIn (at : State) (ms : List Marked) (ds : List Done) (all : List 
   pub in_all : AreSomeOf words.words all
 
 words-next : (at : State) (m : Marked) (ms : List Marked) (d : Done) (ds : List Done) (request : Request) → MeansRequest at m.asked request
-    → WordsIn d.state ms ds (words_of (marks_of ms))
-    → WordsIn at (m ∷ ms) (d ∷ ds) (words_of (marks_of (m ∷ ms)))
+    → WordsIn d.state ms ds (told_words (marks_of ms))
+    → WordsIn at (m ∷ ms) (d ∷ ds) (told_words (marks_of (m ∷ ms)))
 words-next at m ms d ds request means more = record {
   words = request_words at request m.marks (is_well d.reply.end) more.words;
   have = next request means more.have;
   in_all = subst (AreSomeOf (request_words at request m.marks (is_well d.reply.end) more.words).words) (sym (flat_map-append word_of m.marks (marks_of ms)))
-      (words_in at m.asked request m.marks (is_well d.reply.end) more.words (words_of (marks_of ms)) means more.in_all);
+      (words_in at m.asked request m.marks (is_well d.reply.end) more.words (told_words (marks_of ms)) means more.in_all);
 }
 
 pub words-shown : {at end : State} {ms : List Marked} {ds : List Done} (told : List Mark) (n : ℕ) → After MeansRequest at ms ds end → AreFirstAt told (slice_get ms n)
-    → WordsIn at (shown ms told n) ds (words_of (marks_of (shown ms told n)))
+    → WordsIn at (shown ms told n) ds (told_words (marks_of (shown ms told n)))
 words-shown told zero nothing_done first = record { words = no_words; have = none_left; in_all = none }
 words-shown told (suc n) nothing_done first = record { words = no_words; have = none_left; in_all = none }
 words-shown {at = at} told zero (next_done {m = m} {d = d} {ds = ds} request means did left more) first =

@@ -20,10 +20,10 @@ use Rattle.grid_model.specs.ReplyTexts.{SendsBytes, IsPiece, ArePieces, reply_te
 use Rattle.grid_model.specs.declared.replies.Reply.{Reply}
 use Rattle.grid_model.specs.declared.marks.Mark.{Mark}
 use Rattle.grid_journal.specs.Stands.{StandsFor}
-use Rattle.grid_headline.specs.Served.{joined, whole_in}
+use Rattle.grid_headline.specs.Served.{joined_texts, whole_in}
 use Rattle.grid_headline.specs.Numbers.{KeepsNumbers}
-use Rattle.run_laws.specs.Handled.{Handled, with_one, replies_of, first_of, told_of, reached, state_at, IsOfRun, IsBehindSome, OneOfRun, not_begun, in_run, ShowsMost}
-use Rattle.run_laws.specs.Steps.{IsLike, IsLeftBehind, ComesAfter, kept, nothing, IsUntold, OneOf, not_kept, kept_so}
+use Rattle.run_laws.specs.Handled.{Handled, with_one, replies_of, marks_within, told_of, reached, state_at, IsOfRun, IsBehindSome, OneOfRun, not_begun, in_run, ShowsMost}
+use Rattle.run_laws.specs.Steps.{IsLike, IsLeftBehind, ComesAfter, kept, unseen, IsUntold, OneOf, not_kept, kept_so}
 use Rattle.run_laws.proofs.Lists.{get-front, get-last, state-more, state-last}
 use Rattle.run_laws.proofs.Texts.{HaveBytes, joined-push, whole-none, whole-behind, whole-more, whole-most, whole-all, whole-less}
 
@@ -40,7 +40,7 @@ take_nil zero = refl
 take_nil (suc n) = refl
 
 -- of no bytes no mark is told
-first-none : (m : Option Marked) (ts : Option (List Text)) (n : ℕ) → ((us : List Text) → ts ≡ Some us → whole_in us n ≡ 0) → first_of m ts n ≡ []
+first-none : (m : Option Marked) (ts : Option (List Text)) (n : ℕ) → ((us : List Text) → ts ≡ Some us → whole_in us n ≡ 0) → marks_within m ts n ≡ []
 first-none None None n none = refl
 first-none None (Some ts) n none = refl
 first-none (Some m) None n none = refl
@@ -73,7 +73,7 @@ pub record IsOneMore (h : Handled) (m : Marked) (d : Done) (ts : List Text) (t :
   pub has_bytes : 0 < length t
   pub pieces_have : HaveBytes ts
   pub rest : Text
-  pub pieces_first : t ≡ joined ts ++ rest
+  pub pieces_first : t ≡ joined_texts ts ++ rest
 
 module _ (found : Cat) (h : Handled) (m : Marked) (d : Done) (ts : List Text) (t : Text) (one : IsOneMore h m d ts t) where
   abbrev size : ℕ
@@ -83,7 +83,7 @@ module _ (found : Cat) (h : Handled) (m : Marked) (d : Done) (ts : List Text) (t
   more = with_one h m d ts
 
   abbrev bytes : ℕ
-  bytes = length (joined (replies_of h))
+  bytes = length (joined_texts (replies_of h))
 
   -- ---- a front of the texts before it
 
@@ -99,15 +99,15 @@ module _ (found : Cat) (h : Handled) (m : Marked) (d : Done) (ts : List Text) (t
             let b : slice_get more.begun n ≡ slice_get h.begun n = get-front h.begun (m ∷ []) n (omega (arith, less, one.begun_length)) in
             let p : slice_get more.pieces n ≡ slice_get h.pieces n = get-front h.pieces (ts ∷ []) n (omega (arith, less, one.pieces_length)) in
             let f : take n (replies_of more) ≡ take n (replies_of h) = ap (take n) one.texts_are ∙ take-append-le n (replies_of h) (t ∷ []) (omega (arith, less)) in
-            ap (λ (x : Option Marked). first_of x (slice_get more.pieces n) (count - length (joined (take n (replies_of more))))) b
-            ∙ ap (λ (x : Option (List Text)). first_of (slice_get h.begun n) x (count - length (joined (take n (replies_of more))))) p
-            ∙ ap (λ (l : List Text). first_of (slice_get h.begun n) (slice_get h.pieces n) (count - length (joined l))) f ∙ told
+            ap (λ (x : Option Marked). marks_within x (slice_get more.pieces n) (count - length (joined_texts (take n (replies_of more))))) b
+            ∙ ap (λ (x : Option (List Text)). marks_within (slice_get h.begun n) x (count - length (joined_texts (take n (replies_of more))))) p
+            ∙ ap (λ (l : List Text). marks_within (slice_get h.begun n) (slice_get h.pieces n) (count - length (joined_texts l))) f ∙ told
         by (inr same) =
             let e : size ≡ n = omega (arith, same, most) in
             let f : take n (replies_of more) ≡ replies_of h = ap (take n) one.texts_are ∙ take_at (replies_of h) (t ∷ []) n e in
-            let none : count - length (joined (take n (replies_of more))) ≡ 0 = ap (λ (l : List Text). count - length (joined l)) f ∙ omega (arith, within) in
+            let none : count - length (joined_texts (take n (replies_of more))) ≡ 0 = ap (λ (l : List Text). count - length (joined_texts l)) f ∙ omega (arith, within) in
             let last : slice_get more.pieces n ≡ Some ts = ap (slice_get more.pieces) (sym (one.pieces_length ∙ e)) ∙ get-last h.pieces ts in
-            first-none (slice_get more.begun n) (slice_get more.pieces n) (count - length (joined (take n (replies_of more)))) (λ us is.
+            first-none (slice_get more.begun n) (slice_get more.pieces n) (count - length (joined_texts (take n (replies_of more)))) (λ us is.
             let same_texts : us ≡ ts = same_Some us ts (sym is ∙ last) in
             ap (whole_in us) none ∙ whole-none us (subst HaveBytes (sym same_texts) one.pieces_have))
 
@@ -131,7 +131,7 @@ module _ (found : Cat) (h : Handled) (m : Marked) (d : Done) (ts : List Text) (t
   image-more old_sink main sink (not_begun stands is) = not_begun stands is
   image-more old_sink main sink (in_run c part left stands is split behind) =
       in_run c part (left ++ t) stands is
-      (ap joined one.texts_are ∙ joined-push (replies_of h) t ∙ ap (λ (u : Text). u ++ t) split ∙ append_assoc part left t)
+      (ap joined_texts one.texts_are ∙ joined-push (replies_of h) t ∙ ap (λ (u : Text). u ++ t) split ∙ append_assoc part left t)
       (behind-more (length part) (omega (arith, ap length split, length-append part left)) c behind)
 
   -- ---- so many bytes of its own text
@@ -153,15 +153,15 @@ module _ (found : Cat) (h : Handled) (m : Marked) (d : Done) (ts : List Text) (t
         let b : slice_get more.begun size ≡ Some m = ap (slice_get more.begun) (sym one.begun_length) ∙ get-last h.begun m in
         let p : slice_get more.pieces size ≡ Some ts = ap (slice_get more.pieces) (sym one.pieces_length) ∙ get-last h.pieces ts in
         let f : take size (replies_of more) ≡ replies_of h = ap (take size) one.texts_are ∙ take_at (replies_of h) (t ∷ []) size refl in
-        let e : bytes + k - length (joined (take size (replies_of more))) ≡ k = ap (λ (l : List Text). bytes + k - length (joined l)) f ∙ omega arith in
-        ap (λ (x : Option Marked). first_of x (slice_get more.pieces size) (bytes + k - length (joined (take size (replies_of more))))) b
-        ∙ ap (λ (x : Option (List Text)). first_of (Some m) x (bytes + k - length (joined (take size (replies_of more))))) p
-        ∙ ap (first_of (Some m) (Some ts)) e
+        let e : bytes + k - length (joined_texts (take size (replies_of more))) ≡ k = ap (λ (l : List Text). bytes + k - length (joined_texts l)) f ∙ omega arith in
+        ap (λ (x : Option Marked). marks_within x (slice_get more.pieces size) (bytes + k - length (joined_texts (take size (replies_of more))))) b
+        ∙ ap (λ (x : Option (List Text)). marks_within (Some m) x (bytes + k - length (joined_texts (take size (replies_of more))))) p
+        ∙ ap (marks_within (Some m) (Some ts)) e
 
     told_past : told_of more (suc size) (bytes + k) ≡ []
     told_past =
         let b : slice_get more.begun (suc size) ≡ None = slice_get_past more.begun (suc size) (omega (arith, length-append h.begun (m ∷ []), one.begun_length)) in
-        ap (λ (x : Option Marked). first_of x (slice_get more.pieces (suc size)) (bytes + k - length (joined (take (suc size) (replies_of more))))) b
+        ap (λ (x : Option Marked). marks_within x (slice_get more.pieces (suc size)) (bytes + k - length (joined_texts (take (suc size) (replies_of more))))) b
 
   -- ---- what is left of it
 
@@ -207,34 +207,33 @@ module _ (found : Cat) (h : Handled) (m : Marked) (d : Done) (ts : List Text) (t
           behind.grid (λ l. told_past k)
 
       -- there was nothing to keep
-      no_change : (k : ℕ) → m.marks ≡ [] → d.state.grid ≡ grid_of c → (k < length t) ⊎ (length t ≡ k) → IsBehindSome found more c (bytes + k)
-      no_change k no_marks same (inl less) =
-          made c k size size its (whole_cut k less) (omega (arith, last)) (omega arith) (omega (arith, last)) at at_size none_at
-          grid (λ l. told_next k ∙ ap (take (whole_in ts k)) no_marks ∙ take_nil (whole_in ts k))
-      no_change k no_marks same (inr all) =
-          made c k (suc size) (suc size) its (whole_full k all) (omega (arith, last)) (omega arith) (omega (arith, last)) d.state at_next none_next
-          (sym same) (λ l. told_past k)
+      no_change : (e : Cat) (k : ℕ) → IsLike c e → m.marks ≡ [] → d.state.grid ≡ grid_of c → (k < length t) ⊎ (length t ≡ k) → IsBehindSome found more e (bytes + k)
+      no_change e k like no_marks same (inl less) =
+          made e k size size (like-of found c e its like) (whole_cut k less) (omega (arith, last, like.last)) (omega arith) (omega (arith, last, like.last)) at at_size none_at
+          (like.grid ∙ grid) (λ l. told_next k ∙ ap (take (whole_in ts k)) no_marks ∙ take_nil (whole_in ts k))
+      no_change e k like no_marks same (inr all) =
+          made e k (suc size) (suc size) (like-of found c e its like) (whole_full k all) (omega (arith, last, like.last)) (omega arith) (omega (arith, last, like.last)) d.state at_next none_next
+          (like.grid ∙ sym same) (λ l. told_past k)
 
       follows : (e : Cat) (k : ℕ) → ComesAfter c n d e → (k < length t) ⊎ (length t ≡ k) → IsBehindSome found more e (bytes + k)
       follows e k (kept behind) most = changed e k behind most
-      follows e k (nothing same no_marks grid_same) most =
-          subst (λ (x : Cat). IsBehindSome found more x (bytes + k)) (sym same) (no_change k (sym marks_are ∙ no_marks) grid_same most)
+      follows e k (unseen like no_marks grid_same) most = no_change e k like (sym marks_are ∙ no_marks) grid_same most
 
   -- ---- a part of its text is shown
 
-  module _ (old_sink shown sink : Text) (shown_is : shown ≡ old_sink ++ joined (replies_of h)) (adds : AddsPart t shown sink) where
+  module _ (old_sink shown sink : Text) (shown_is : shown ≡ old_sink ++ joined_texts (replies_of h)) (adds : AddsPart t shown sink) where
     abbrev part : Text
-    part = joined (replies_of h) ++ take adds.count t
+    part = joined_texts (replies_of h) ++ take adds.count t
 
     part_length : length part ≡ bytes + adds.count
-    part_length = length-append (joined (replies_of h)) (take adds.count t) ∙ ap (λ k. bytes + k) (length-take-le adds.count t adds.within)
+    part_length = length-append (joined_texts (replies_of h)) (take adds.count t) ∙ ap (λ k. bytes + k) (length-take-le adds.count t adds.within)
 
     sink_is : sink ≡ old_sink ++ part
-    sink_is = adds.is ∙ ap (λ (u : Text). u ++ take adds.count t) shown_is ∙ append_assoc old_sink (joined (replies_of h)) (take adds.count t)
+    sink_is = adds.is ∙ ap (λ (u : Text). u ++ take adds.count t) shown_is ∙ append_assoc old_sink (joined_texts (replies_of h)) (take adds.count t)
 
-    split : joined (replies_of more) ≡ part ++ drop adds.count t
-    split = ap joined one.texts_are ∙ joined-push (replies_of h) t ∙ ap (λ (u : Text). joined (replies_of h) ++ u) (sym (take-append-drop adds.count t))
-        ∙ sym (append_assoc (joined (replies_of h)) (take adds.count t) (drop adds.count t))
+    split : joined_texts (replies_of more) ≡ part ++ drop adds.count t
+    split = ap joined_texts one.texts_are ∙ joined-push (replies_of h) t ∙ ap (λ (u : Text). joined_texts (replies_of h) ++ u) (sym (take-append-drop adds.count t))
+        ∙ sym (append_assoc (joined_texts (replies_of h)) (take adds.count t) (drop adds.count t))
 
     cut_or_full : (adds.count < length t) ⊎ (length t ≡ adds.count)
     cut_or_full = elim (cases_lt adds.count (length t)) [ inl less ↦ inl less | inr all ↦ inr (omega (arith, all, adds.within)) ]
@@ -254,28 +253,28 @@ module _ (found : Cat) (h : Handled) (m : Marked) (d : Done) (ts : List Text) (t
     }
 
 -- all that was handled is shown
-pub shows-all : (h : Handled) (old_sink sink : Text) → length h.begun ≡ length (replies_of h) → sink ≡ old_sink ++ joined (replies_of h)
+pub shows-all : (h : Handled) (old_sink sink : Text) → length h.begun ≡ length (replies_of h) → sink ≡ old_sink ++ joined_texts (replies_of h)
     → ShowsMost h old_sink sink
 shows-all h old_sink sink e is = record {
-  part = joined (replies_of h);
+  part = joined_texts (replies_of h);
   more = [];
   is = is;
-  split = sym (append-nil (joined (replies_of h)));
+  split = sym (append-nil (joined_texts (replies_of h)));
   all_but_one = omega (arith, e, whole-all (replies_of h));
 }
 
 -- ---- one request
 
-untold_cut : (ts : List Text) (t rest : Text) (k : ℕ) → 0 < length t → t ≡ joined ts ++ rest → IsUntold ts k → (k < length t) × (whole_in ts k ≡ 0)
+untold_cut : (ts : List Text) (t rest : Text) (k : ℕ) → 0 < length t → t ≡ joined_texts ts ++ rest → IsUntold ts k → (k < length t) × (whole_in ts k ≡ 0)
 untold_cut [] t rest k some e untold = (omega (arith, some, untold), refl)
 untold_cut (u ∷ ts) t rest k some e untold =
-    (omega (arith, untold, ap length e, length-append (u ++ joined ts) rest, length-append u (joined ts)), whole-less u ts k untold)
+    (omega (arith, untold, ap length e, length-append (u ++ joined_texts ts) rest, length-append u (joined_texts ts)), whole-less u ts k untold)
 
 -- while a request is handled a stop leaves that nothing is seen of it, or that it is kept
 pub image-one : (found c : Cat) (h : Handled) (m : Marked) (d : Done) (ts : List Text) (n : ℕ) → IsOneMore h m d ts (reply_text n d.reply ts) → (at : State)
     → state_at found h (length (replies_of h)) ≡ at → at.rules ≡ [] → d.state.rules ≡ [] → IsOfRun found c → c.numbers.last ≤ length (replies_of h)
     → grid_of c ≡ at.grid
-    → d.reply.marks ≡ m.marks → n ≡ length (replies_of h) + 1 → (old_sink shown main sink : Text) → shown ≡ old_sink ++ joined (replies_of h)
+    → d.reply.marks ≡ m.marks → n ≡ length (replies_of h) + 1 → (old_sink shown main sink : Text) → shown ≡ old_sink ++ joined_texts (replies_of h)
     → OneOf c n d ts shown main sink → OneOfRun found (with_one h m d ts) old_sink main sink
 image-one found c h m d ts n one at at_is none_at none_next its last grid marks_are n_is old_sink shown main sink shown_is (not_kept e like stands adds untold) =
     let cut = untold_cut ts (reply_text n d.reply ts) one.rest adds.count one.has_bytes one.pieces_first untold in
@@ -317,4 +316,4 @@ rest_has n r =
     omega (arith, length-append ((a ++ b) ++ c) e, line_has n (end_words r.end))
 
 pub reply_has : (n : ℕ) (r : Reply) (ts : List Text) → 0 < length (reply_text n r ts)
-reply_has n r ts = omega (arith, length-append (joined ts) (rest_lines n r), rest_has n r)
+reply_has n r ts = omega (arith, length-append (joined_texts ts) (rest_lines n r), rest_has n r)

@@ -3,6 +3,7 @@ use Rattle.std.proofs.Common.{◌≡◌, ℕ, zero, suc, ◌+◌, ◌<◌, ◌�
 use Rattle.std.specs.List.{AllByRecursion}
 use Rattle.std.proofs.lemmas.List.{append-nil}
 use Rattle.std.proofs.lemmas.Grind.{flat_map-append}
+use Rattle.grid_model.specs.Grid.{Grid}
 use Rattle.grid_model.specs.Names.{Text}
 use Rattle.grid_model.specs.Inputs.{Asked}
 use Rattle.grid_model.specs.Meanings.{gives}
@@ -12,6 +13,7 @@ use Rattle.grid_model.specs.ReplyTexts.{ArePieces, reply_text}
 use Rattle.grid_model.specs.Runs.{Request, Marked, After, none, next, does, state_after}
 use Rattle.grid_model.specs.Completing.{AreClean, EndsByRows}
 use Rattle.grid_model.specs.declared.marks.Mark.{Mark}
+use Rattle.grid_headline.specs.Ends.{AllStill, IsStill}
 use Rattle.grid_headline.specs.Reads.{MeansRequest}
 use Rattle.grid_headline.specs.Served.{AllPieces, reply_texts, marks_of, asked_of}
 use Rattle.run_laws.specs.Sofar.{AllByRows}
@@ -64,6 +66,23 @@ pub by_rows-push : {s end : State} {ms : List Marked} {ds : List Done} (m : Mark
     → AllByRows (ms ++ m ∷ []) (ds ++ d ∷ [])
 by_rows-push m d none rows row = (row, tt)
 by_rows-push m d (next request means did left more) rows row = (rows.0, by_rows-push m d more rows.1 row)
+
+-- ---- requests that change nothing
+
+more-done : (grid : Grid) (ds : List Done) (d : Done) → ¬ AllStill grid [] (ds ++ d ∷ [])
+more-done grid [] d all = all
+more-done grid (e ∷ ds) d all = all
+
+more-begun : (grid : Grid) (ms : List Marked) (m : Marked) → ¬ AllStill grid (ms ++ m ∷ []) []
+more-begun grid [] m all = all
+more-begun grid (n ∷ ms) m all = all
+
+pub still-split : (grid : Grid) (ms : List Marked) (ds : List Done) (m : Marked) (d : Done) → AllStill grid (ms ++ m ∷ []) (ds ++ d ∷ [])
+    → AllStill grid ms ds × IsStill grid m d
+still-split grid [] [] m d all = (tt, all.0)
+still-split grid (n ∷ ms) (e ∷ ds) m d all = (let rest = still-split grid ms ds m d all.1 in ((all.0, rest.0), rest.1))
+still-split grid [] (e ∷ ds) m d all = absurd (more-done grid ds d all.1)
+still-split grid (n ∷ ms) [] m d all = absurd (more-begun grid ms m all.1)
 
 -- ---- states in between
 

@@ -5,6 +5,7 @@ use Rattle.std.proofs.lemmas.Bool.{cases_lt}
 use Rattle.grid_outside.specs.Device.{IsSettled}
 use Rattle.grid_model.specs.Names.{Text}
 use Rattle.grid_model.specs.Rows.{Cat}
+use Rattle.grid_model.specs.RowGrids.{grid_of}
 use Rattle.grid_model.specs.Inputs.{Asked}
 use Rattle.grid_model.specs.Sessions.{State}
 use Rattle.grid_model.specs.Runs.{Request, Marked}
@@ -14,22 +15,23 @@ use Rattle.grid_model.specs.Replies.{rest_lines}
 use Rattle.grid_journal.specs.Stands.{StandsFor}
 use Rattle.grid_headline.specs.Worlds.{World}
 use Rattle.grid_headline.specs.Reads.{MeansRequest, EndsInput}
-use Rattle.grid_headline.specs.Served.{joined, marks_of}
+use Rattle.grid_headline.specs.Served.{NoneSweeps, joined_texts, marks_of}
 use Rattle.grid_headline.specs.Files.{IsKnown, AreSettled, DisksAreSettled, KeepsNamed, WereWhole, AllStayWhole, StayNamed}
 use Rattle.grid_headline.specs.Causes.{AreCaused}
+use Rattle.grid_headline.specs.Ends.{AllStill, HasOneMore}
 use Rattle.grid_headline.specs.Headline.{BeginsOn}
 use Rattle.run_laws.specs.Handled.{Handled, with_one, replies_of, IsOfRun, state_at, OneOfRun}
-use Rattle.run_laws.specs.Steps.{Gave, IsToldOf, ComesAfter, kept, nothing, RequestStep, IsHandledWhole}
+use Rattle.run_laws.specs.Steps.{Gave, IsToldOf, ComesAfter, kept, unseen, RequestStep, IsHandledWhole}
 use Rattle.run_laws.specs.Sofar.{Ran, Sofar, KeepsWhole, KeepsNames}
 use Rattle.run_laws.specs.Went.{Went, AreInOrder}
 use Rattle.run_laws.proofs.Texts.{joined-push}
-use Rattle.run_laws.proofs.Lists.{all-append, all-map, marks-push, asked-push, asked-length, after-length, after-push, by_rows-push, state-all, pieces-length, pieces-push, replies-length, replies-push}
+use Rattle.run_laws.proofs.Lists.{all-append, all-map, marks-push, asked-push, asked-length, after-length, after-push, by_rows-push, state-all, pieces-length, pieces-push, replies-length, replies-push, still-split}
 use Rattle.run_laws.proofs.Known.{pieces-less, told-less}
 use Rattle.run_laws.proofs.Goings.{disks-settled, whole-now, known-now, went-then, whole-then}
 use Rattle.run_laws.proofs.Causes.{caused-then}
 use Rattle.run_laws.proofs.Draws.{gave-then}
-use Rattle.run_laws.proofs.BuiltOrders.{built, does-rules}
-use Rattle.run_laws.proofs.Images.{IsOneMore, behind-of, image-more, image-one, shows-one, pieces-have, reply_has}
+use Rattle.run_laws.proofs.BuiltOrders.{built, does-rules, no-sweep}
+use Rattle.run_laws.proofs.Images.{IsOneMore, behind-of, like-of, image-more, image-one, shows-one, pieces-have, reply_has}
 
 -- ---- what was handled so far
 
@@ -63,8 +65,9 @@ module _ {B : Type 0} (old mid : World B) (found c : Cat) (at : State) (asked : 
         (whole-now old mid so.ran.went begin.main_tells begin.spare_tells order c old.moments so.ran.went.drawn so.stands so_far))
 
     -- all stays named, where it does from here on
-    pub named-so : (new : World B) → Went mid new → KeepsNames mid new c → IsSettled old.main → StayNamed new old.moments found
-    named-so new then stay settled t main d late left stands = by (cases_lt mid.moments t)
+    pub named-so : (new : World B) → Went mid new → (NoneSweeps old.source.left → KeepsNames mid new c) → NoneSweeps old.source.left → IsSettled old.main
+        → StayNamed new old.moments found
+    named-so new then stay none settled t main d late left stands = by (cases_lt mid.moments t)
       where
         mid_tells : IsTrue mid.main.tells
         mid_tells = subst IsTrue (sym so.ran.went.main.tells) begin.main_tells
@@ -73,17 +76,17 @@ module _ {B : Type 0} (old mid : World B) (found c : Cat) (at : State) (asked : 
         u = mid.moments + 1
 
         now : KeepsNamed found c
-        now = so.ran.named settled u mid.main.holds c (omega (arith, so.ran.went.drawn)) (mid.main.now mid_tells u (omega (arith, order.main_last))) so.stands
+        now = so.ran.named none settled u mid.main.holds c (omega (arith, so.ran.went.drawn)) (mid.main.now mid_tells u (omega (arith, order.main_last))) so.stands
 
         by : (mid.moments < t) ⊎ (t ≤ mid.moments) → KeepsNamed found d
-        by (inl later) = λ slot name is. stay mid_tells (so.main_settled settled) t main d later left stands slot name (now slot name is)
-        by (inr early) = so.ran.named settled t main d late (then.main.earlier t main early left) stands
+        by (inl later) = λ slot name is. stay none mid_tells (so.main_settled settled) t main d later left stands slot name (now slot name is)
+        by (inr early) = so.ran.named none settled t main d late (then.main.earlier t main early left) stands
 
 -- ---- one more
 
 module _ {B : Type 0} (old mid new : World B) (found c : Cat) (at : State) (asked : List Asked) (begin : BeginsOn old found) (order : AreInOrder mid)
     (so : Sofar old mid found c at asked) (then : Went mid new)
-    (stay : KeepsWhole mid new c) (names : KeepsNames mid new c) (a : Asked) (request : Request) (means : MeansRequest at a request) (step : RequestStep mid new at c (length asked + 1) request) where
+    (stay : KeepsWhole mid new c) (names : NoneSweeps old.source.left → KeepsNames mid new c) (a : Asked) (request : Request) (means : MeansRequest at a request) (step : RequestStep mid new at c (length asked + 1) request) where
   abbrev h : Handled
   h = so.ran.handled
 
@@ -168,28 +171,40 @@ module _ {B : Type 0} (old mid new : World B) (found c : Cat) (at : State) (aske
 
   module _ (after : Cat) (end : State) (whole : IsHandledWhole mid new at c (length asked + 1) request step after end) where
     -- all replies are shown
-    pub text-more : IsTrue old.sink.tells → new.sink.holds ≡ old.sink.holds ++ joined (replies_of more)
+    pub text-more : IsTrue old.sink.tells → new.sink.holds ≡ old.sink.holds ++ joined_texts (replies_of more)
     text-more tells =
         whole.text (sink-mid tells) ∙ ap (λ (t : Text). t ++ reply_text (length asked + 1) step.d.reply step.pieces) (so.text tells)
-        ∙ append_assoc old.sink.holds (joined (replies_of h)) (reply_text (length asked + 1) step.d.reply step.pieces)
-        ∙ ap (λ (t : Text). old.sink.holds ++ t) (sym (ap joined texts_are ∙ joined-push (replies_of h) (reply_text (length asked + 1) step.d.reply step.pieces)))
+        ∙ append_assoc old.sink.holds (joined_texts (replies_of h)) (reply_text (length asked + 1) step.d.reply step.pieces)
+        ∙ ap (λ (t : Text). old.sink.holds ++ t) (sym (ap joined_texts texts_are ∙ joined-push (replies_of h) (reply_text (length asked + 1) step.d.reply step.pieces)))
 
     pub of-run-more : IsOfRun found after
     of-run-more = by whole.follows
       where
         by : ComesAfter c (length asked + 1) step.d after → IsOfRun found after
         by (kept behind) = behind-of found c (length asked + 1) step.d after so.of_run behind
-        by (nothing same no_marks grid) = subst (IsOfRun found) (sym same) so.of_run
+        by (unseen like no_marks grid) = like-of found c after so.of_run like
 
     last_more : after.numbers.last ≤ length (asked ++ a ∷ [])
     last_more = by whole.follows
       where
         by : ComesAfter c (length asked + 1) step.d after → after.numbers.last ≤ length (asked ++ a ∷ [])
         by (kept behind) = omega (arith, behind.last, length-append asked (a ∷ []))
-        by (nothing same no_marks grid) = omega (arith, ap (λ (x : Cat). x.numbers.last) same, so.last, length-append asked (a ∷ []))
+        by (unseen like no_marks grid) = omega (arith, like.last, so.last, length-append asked (a ∷ []))
 
     pub stands-more : StandsFor new.main.holds after
     stands-more = whole.stands (subst IsTrue (sym so.ran.went.main.tells) begin.main_tells)
+
+    -- where all left the grid as it was and told no mark, main has the run's record more
+    pub still-more : AllStill (grid_of found) more.begun more.done → HasOneMore old.main.holds new.main.holds × (grid_of after ≡ grid_of found)
+    still-more all =
+        let two = still-split (grid_of found) h.begun h.done m step.d all in
+        let so_far = so.still two.0 in
+        let main : new.main.holds ≡ mid.main.holds =
+            whole.still (no-sweep means two.1.2) two.1.0 (two.1.1 ∙ sym so_far.1) (subst IsTrue (sym so.ran.went.main.tells) begin.main_tells) in
+        (
+          subst (HasOneMore old.main.holds) (sym main) so_far.0,
+          whole.grid ∙ ap (λ (s : State). s.grid) (sym whole.state) ∙ two.1.1,
+        )
 
     -- it was handled whole, and the run goes on
     sofar_did : ¬ EndsInput a → Sofar old new found after step.d.state (asked ++ a ∷ [])
@@ -201,6 +216,7 @@ module _ {B : Type 0} (old mid new : World B) (found c : Cat) (at : State) (aske
       last = last_more;
       grid = whole.grid ∙ ap (λ (s : State). s.grid) (sym whole.state);
       no_rules = no-rules;
+      still = still-more;
       stands = stands-more;
       main_settled = λ settled. whole.main_settled (subst IsTrue (sym so.ran.went.main.tells) begin.main_tells) (so.main_settled settled);
       sink_settled = λ tells settled. whole.sink_settled (sink-mid tells) (so.sink_settled tells settled);

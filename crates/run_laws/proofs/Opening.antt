@@ -16,11 +16,12 @@ use Rattle.grid_journal.specs.Stands.{Stands, stands as made_of, StandsFor, Stan
 use Rattle.grid_headline.specs.Worlds.{World}
 use Rattle.grid_headline.specs.Files.{AllAreWhole, AreSettled, DisksAreSettled, KeepsNamed, WereWhole, AllStayWhole, StayNamed}
 use Rattle.grid_headline.specs.Numbers.{KeepsNumbers}
+use Rattle.grid_headline.specs.Served.{NoneSweeps}
 use Rattle.grid_headline.specs.Headline.{BeginsOn}
 use Rattle.grid_headline.proofs.PutStops.{the_catalogue}
 use Rattle.run_laws.specs.Handled.{none_handled, IsOfRun, OneOfRun, not_begun, in_run}
 use Rattle.run_laws.specs.Opening.{Opens, Opened}
-use Rattle.run_laws.specs.Sofar.{begun, Ran, Sofar}
+use Rattle.run_laws.specs.Sofar.{run_begun, Ran, Sofar}
 use Rattle.run_laws.specs.Steps.{Gave}
 use Rattle.run_laws.specs.Went.{Rests, AreInOrder}
 use Rattle.run_laws.proofs.Lists.{all-map}
@@ -36,34 +37,34 @@ any_spare (made_of records c head log replays zone) spare = made_of records c he
 -- ---- the catalogue of the run that is begun
 
 module _ (found : Cat) where
-  names_same : (slot name : ℕ) (row : Naming) → Names (begun found) slot name row → Names found slot name row
+  names_same : (slot name : ℕ) (row : Naming) → Names (run_begun found) slot name row → Names found slot name row
   names_same slot name (by_replica r) its = its
   names_same slot name (by_orphan o) its = its
 
-  names_begun : (slot name : ℕ) (row : Naming) → Names found slot name row → Names (begun found) slot name row
+  names_begun : (slot name : ℕ) (row : Naming) → Names found slot name row → Names (run_begun found) slot name row
   names_begun slot name (by_replica r) its = its
   names_begun slot name (by_orphan o) its = its
 
-  keeps_begun : KeepsNumbers found (begun found)
+  keeps_begun : KeepsNumbers found (run_begun found)
   keeps_begun = record { rises = omega arith; names = λ slot name row low its. (row, names_same slot name row its) }
 
-  rows_begun : HasGoodRows found → HasGoodRows (begun found)
-  rows_begun rows = all-map (λ (r : ReplicaRow). IsTrue r.good → IsLikeObject found r) (λ (r : ReplicaRow). IsTrue r.good → IsLikeObject (begun found) r)
+  rows_begun : HasGoodRows found → HasGoodRows (run_begun found)
+  rows_begun rows = all-map (λ (r : ReplicaRow). IsTrue r.good → IsLikeObject found r) (λ (r : ReplicaRow). IsTrue r.good → IsLikeObject (run_begun found) r)
       (λ r is good. let like = is good in record { row = like.row; there = like.there; size = like.size; digest = like.digest }) found.replicas rows
 
-  named_begun : KeepsNamed found (begun found)
+  named_begun : KeepsNamed found (run_begun found)
   named_begun slot name one = record { row = one.row; names = names_begun slot name one.row one.names; only = λ other its. one.only other (names_same slot name other its) }
 
-  files_begun : (slot : ℕ) (files : Files) → IsWhole found slot files → IsWhole (begun found) slot files
+  files_begun : (slot : ℕ) (files : Files) → IsWhole found slot files → IsWhole (run_begun found) slot files
   files_begun slot files whole = record {
     good = whole.good;
     accounted = λ name file is. named_begun slot name (whole.accounted name file is);
   }
 
-  grid-begun : grid_of (begun found) ≡ grid_of found
-  grid-begun = grid-same found (begun found) refl (grid_of found) refl
+  grid-begun : grid_of (run_begun found) ≡ grid_of found
+  grid-begun = grid-same found (run_begun found) refl (grid_of found) refl
 
-  of-run-begun : found.pending ≡ None → found.rules ≡ [] → IsOfRun found (begun found)
+  of-run-begun : found.pending ≡ None → found.rules ≡ [] → IsOfRun found (run_begun found)
   of-run-begun pending rules = record { number = refl; rules = rules; none = pending; keeps = keeps_begun; stores = refl }
 
 -- ---- the world
@@ -74,7 +75,7 @@ module _ {B : Type 0} (old now : World B) (found : Cat) (begin : BeginsOn old fo
   whole_found : (t : ℕ) → AllAreWhole old t found → AllAreWhole now t found
   whole_found t whole = record { rows = whole.rows; call = whole.call; files = λ slot files left. whole.files slot files (files-rest old now opens.went opens.stores t slot files left) }
 
-  whole_begun : (t : ℕ) → AllAreWhole old t found → AllAreWhole now t (begun found)
+  whole_begun : (t : ℕ) → AllAreWhole old t found → AllAreWhole now t (run_begun found)
   whole_begun t whole = record {
     rows = rows_begun found whole.rows;
     call = whole.call;
@@ -84,17 +85,17 @@ module _ {B : Type 0} (old now : World B) (found : Cat) (begin : BeginsOn old fo
   pub stay-whole : DisksAreSettled old → WereWhole old old.moments found → AllStayWhole now old.moments
   stay-whole settled whole t main spare c late left its = by (opens.images settled.of_main t main late left.of_main)
     where
-      by : StandsEither found (begun found) main → AllAreWhole now t c
+      by : StandsEither found (run_begun found) main → AllAreWhole now t c
       by (inl is) = subst (AllAreWhole now t) (sym (the_catalogue main spare found c (is spare) its)) (whole_found t (whole t late))
-      by (inr is) = subst (AllAreWhole now t) (sym (the_catalogue main spare (begun found) c (is spare) its)) (whole_begun t (whole t late))
+      by (inr is) = subst (AllAreWhole now t) (sym (the_catalogue main spare (run_begun found) c (is spare) its)) (whole_begun t (whole t late))
 
-  pub stay-named : IsSettled old.main → StayNamed now old.moments found
-  stay-named settled t main c late left stands = by (opens.images settled t main late left)
+  pub stay-named : NoneSweeps old.source.left → IsSettled old.main → StayNamed now old.moments found
+  stay-named none settled t main c late left stands = by (opens.images settled t main late left)
     where
-      by : StandsEither found (begun found) main → KeepsNamed found c
+      by : StandsEither found (run_begun found) main → KeepsNamed found c
       by (inl is) slot name one = let P : Cat → Type 0 = λ d. IsNamed d slot name in subst P (sym (the_catalogue main [] found c (is []) (stands []))) one
       by (inr is) slot name one = let P : Cat → Type 0 = λ d. IsNamed d slot name in
-          subst P (sym (the_catalogue main [] (begun found) c (is []) (stands []))) (named_begun found slot name one)
+          subst P (sym (the_catalogue main [] (run_begun found) c (is []) (stands []))) (named_begun found slot name one)
 
   pub images-none : IsTrue old.sink.tells → AreSettled old → (t : ℕ) (main sink : Text) → old.moments < t → now.main.left t main → now.sink.left t sink
       → OneOfRun found none_handled old.sink.holds main sink
@@ -103,9 +104,9 @@ module _ {B : Type 0} (old now : World B) (found : Cat) (begin : BeginsOn old fo
       same : sink ≡ old.sink.holds
       same = settled.of_sink t sink (omega (arith, order.sink_last, late)) (opens.sink.left t sink sink_left)
 
-      by : StandsEither found (begun found) main → OneOfRun found none_handled old.sink.holds main sink
+      by : StandsEither found (run_begun found) main → OneOfRun found none_handled old.sink.holds main sink
       by (inl is) = not_begun is same
-      by (inr is) = in_run (begun found) [] [] is (same ∙ sym (append-nil old.sink.holds)) refl (record {
+      by (inr is) = in_run (run_begun found) [] [] is (same ∙ sym (append-nil old.sink.holds)) refl (record {
         of_run = of-run-begun found pending rules;
         within = omega arith;
         near = omega arith;
@@ -135,7 +136,7 @@ module _ {B : Type 0} (old now : World B) (found : Cat) (begin : BeginsOn old fo
 -- it is begun
 pub sofar-none : {B : Type 0} (old now : World B) (found : Cat) → BeginsOn old found → AreInOrder old → found.pending ≡ None → found.rules ≡ []
     → Opened old now found
-    → Sofar old now found (begun found) (begins (grid_of found) []) []
+    → Sofar old now found (run_begun found) (begins (grid_of found) []) []
 sofar-none old now found begin order pending rules opened = record {
   ran = ran-none old now found begin order pending rules opened.opens;
   none_end = tt;
@@ -144,6 +145,7 @@ sofar-none old now found begin order pending rules opened = record {
   last = omega arith;
   grid = grid-begun found;
   no_rules = refl;
+  still = λ all. (opened.one, grid-begun found);
   stands = opened.stands;
   main_settled = opened.settled;
   sink_settled = λ tells settled. rests-settled old.sink now.sink tells opened.opens.sink settled;
@@ -152,7 +154,7 @@ sofar-none old now found begin order pending rules opened = record {
 -- where main was not even called a stop leaves what was found
 pub images-rest : {B : Type 0} (old now : World B) (found : Cat) → BeginsOn old found → AreInOrder old → Rests old.main now.main → IsSettled old.main
     → (t : ℕ) (main : Text)
-    → old.moments < t → now.main.left t main → StandsEither found (begun found) main
+    → old.moments < t → now.main.left t main → StandsEither found (run_begun found) main
 images-rest old now found begin order rests settled t main late left =
     let same : main ≡ old.main.holds = settled t main (omega (arith, order.main_last, late)) (rests.left t main left) in
     inl (subst (λ (m : Text). StandsFor m found) (sym same) (any_spare begin.stands))

@@ -13,9 +13,9 @@ use Rattle.grid_model.specs.Runs.{Marked}
 use Rattle.grid_model.specs.declared.marks.Mark.{Mark}
 use Rattle.grid_headline.specs.Worlds.{World}
 use Rattle.grid_headline.specs.Files.{AreSettled}
-use Rattle.grid_headline.specs.Served.{joined, whole_in, marks_of}
+use Rattle.grid_headline.specs.Served.{NoneSweeps, joined_texts, whole_in, marks_of}
 use Rattle.grid_headline.specs.Headline.{BeginsOn}
-use Rattle.run_laws.specs.Handled.{Handled, replies_of, first_of, reached, state_at, IsBehindSome, OneOfRun, in_run}
+use Rattle.run_laws.specs.Handled.{Handled, replies_of, marks_within, reached, state_at, IsBehindSome, OneOfRun, in_run}
 use Rattle.run_laws.specs.Steps.{IsLike, Gave, IsQuiet}
 use Rattle.run_laws.specs.Sofar.{Ran, Sofar, KeepsWhole, KeepsNames}
 use Rattle.run_laws.specs.Went.{Went, AreInOrder}
@@ -28,12 +28,12 @@ use Rattle.run_laws.proofs.More.{begun-many, replies-many, state-now, whole-so, 
 
 module _ {B : Type 0} (old mid new : World B) (found c : Cat) (at : State) (asked : List Asked) (begin : BeginsOn old found) (order : AreInOrder mid)
     (so : Sofar old mid found c at asked) (then : Went mid new)
-    (stay : KeepsWhole mid new c) (names : KeepsNames mid new c) (quiet : IsQuiet mid new c) where
+    (stay : KeepsWhole mid new c) (names : NoneSweeps old.source.left → KeepsNames mid new c) (quiet : IsQuiet mid new c) where
   abbrev h : Handled
   h = so.ran.handled
 
   abbrev bytes : ℕ
-  bytes = length (joined (replies_of h))
+  bytes = length (joined_texts (replies_of h))
 
   pub sink-mid : IsTrue old.sink.tells → IsTrue mid.sink.tells
   sink-mid tells = subst IsTrue (sym so.ran.went.sink.tells) tells
@@ -54,7 +54,7 @@ module _ {B : Type 0} (old mid new : World B) (found c : Cat) (at : State) (aske
         grid = like.grid ∙ so.grid ∙ ap (λ (x : State). x.grid) (sym s);
         untold = λ less.
             let past : slice_get h.begun (whole_in (replies_of h) bytes) ≡ None = slice_get_past h.begun (whole_in (replies_of h) bytes) (omega (arith, w, many, many_begun)) in
-            ap (λ (o : Option Marked). first_of o (slice_get h.pieces (whole_in (replies_of h) bytes)) (bytes - length (joined (take (whole_in (replies_of h) bytes) (replies_of h))))) past;
+            ap (λ (o : Option Marked). marks_within o (slice_get h.pieces (whole_in (replies_of h) bytes)) (bytes - length (joined_texts (take (whole_in (replies_of h) bytes) (replies_of h))))) past;
       }
 
   pub images-quiet : IsTrue old.sink.tells → AreSettled old → (t : ℕ) (main sink : Text) → old.moments < t → new.main.left t main → new.sink.left t sink
@@ -65,7 +65,7 @@ module _ {B : Type 0} (old mid new : World B) (found c : Cat) (at : State) (aske
       by (inl later) =
           let q = quiet.images (subst IsTrue (sym so.ran.went.main.tells) begin.main_tells) (sink-mid tells) (so.main_settled settled.disks.of_main)
           (so.sink_settled tells settled.of_sink) t main sink later main_left sink_left in
-          in_run q.0 (joined (replies_of h)) [] q.2 (q.3 ∙ so.text tells) (sym (append-nil (joined (replies_of h)))) (like_all q.0 q.1)
+          in_run q.0 (joined_texts (replies_of h)) [] q.2 (q.3 ∙ so.text tells) (sym (append-nil (joined_texts (replies_of h)))) (like_all q.0 q.1)
       by (inr early) = so.ran.images tells settled t main sink late (then.main.earlier t main early main_left) (then.sink.earlier t sink early sink_left)
 
   -- nothing is seen of what came behind
@@ -126,6 +126,7 @@ module _ {B : Type 0} (old now : World B) (source : SourceState) where
     last = so.last;
     grid = so.grid;
     no_rules = so.no_rules;
+    still = so.still;
     stands = so.stands;
     main_settled = so.main_settled;
     sink_settled = so.sink_settled;

@@ -15,10 +15,10 @@ use Rattle.grid_headline.specs.Ends.{RunEnd}
 use Rattle.grid_headline.specs.Headline.{Serves}
 use Rattle.run_laws.specs.Ends.{ReadsSo, StopsSo, IsGoodIfNoneFailed}
 use Rattle.run_laws.specs.Opening.{Opens, Opened}
-use Rattle.run_laws.specs.Sofar.{begun, BeginsPlainly, CallsGoOn, Sofar}
+use Rattle.run_laws.specs.Sofar.{run_begun, BeginsPlainly, CallsGoOn, Sofar}
 use Rattle.run_laws.specs.Steps.{RequestStep, IsHandledWhole, IsQuiet}
 use Rattle.run_laws.specs.Went.{AreInOrder}
-use Rattle.run_laws.proofs.More.{ran-more, no-rules, text-more, of-run-more, stands-more, sofar-more}
+use Rattle.run_laws.proofs.More.{ran-more, no-rules, text-more, of-run-more, stands-more, still-more, sofar-more}
 use Rattle.run_laws.proofs.Opening.{ran-none, sofar-none}
 use Rattle.run_laws.proofs.Quiet.{ran-quiet, sofar-read}
 use Rattle.run_laws.proofs.Runs.{serves}
@@ -27,7 +27,7 @@ use Rattle.run_laws.proofs.Runs.{serves}
 
 -- the run is begun
 pub none_yet : {B : Type 0} {old now : World B} {found : Cat} → BeginsPlainly old found → AreInOrder old → Opened old now found
-    → Sofar old now found (begun found) (begins (grid_of found) []) []
+    → Sofar old now found (run_begun found) (begins (grid_of found) []) []
 none_yet {old = old} {now = now} {found = found} plain order opened = sofar-none old now found plain.begin order plain.pending plain.rules opened
 
 -- the source alone was read
@@ -38,7 +38,7 @@ read_on {old = old} {now = now} {found = found} {c = c} {at = at} {asked = asked
 -- one more request was handled whole, which does not end the input
 pub one_more : {B : Type 0} {old mid new : World B} {found c after : Cat} {at end : State} {asked : List Asked} {a : Asked} {request : Request}
     → BeginsPlainly old found
-    → Sofar old mid found c at asked → CallsGoOn mid new c → MeansRequest at a request → ¬ EndsInput a → (step : RequestStep mid new at c (length asked + 1) request)
+    → Sofar old mid found c at asked → CallsGoOn old.source.left mid new c → MeansRequest at a request → ¬ EndsInput a → (step : RequestStep mid new at c (length asked + 1) request)
     → IsHandledWhole mid new at c (length asked + 1) request step after end → Sofar old new found after end (asked ++ a ∷ [])
 one_more {old = old} {mid = mid} {new = new} {found = found} {c = c} {after = after} {at = at} {end = end} {asked = asked} {a = a} {request = request} plain so goes means more step whole =
     sofar-more old mid new found c at asked plain.begin goes.order so goes.went goes.whole goes.names a request means step after end whole more
@@ -70,7 +70,7 @@ pub ends_well : {B : Type 0} {old now : World B} {found c : Cat} {at : State} {a
     → BeginsWithRequests old.source.left asked → ReadsSo asked old.source now.source end → IsGoodIfNoneFailed old now end → Serves old now found end
 ends_well {old = old} {now = now} {found = found} {c = c} {at = at} {asked = asked} {end = end} plain so first reads good =
     serves old now found at asked plain.pending plain.rules so.ran first (end-last asked so.none_end) end
-    (inl (record { text = so.text; cat = c; stands = so.stands; of_run = so.of_run; grid = so.grid; no_rules = so.no_rules }, reads)) good
+    (inl (record { text = so.text; cat = c; stands = so.stands; of_run = so.of_run; grid = so.grid; no_rules = so.no_rules; still = λ all. (so.still all).0 }, reads)) good
 
 -- something ran out before anything was done for another request
 pub ends_idle : {B : Type 0} {old now : World B} {found c : Cat} {at : State} {asked : List Asked} {end : RunEnd} → BeginsPlainly old found
@@ -80,7 +80,7 @@ ends_idle {old = old} {now = now} {found = found} {at = at} {asked = asked} {end
 
 -- something ran out or failed, and nothing is seen of what was done for it
 pub ends_quiet : {B : Type 0} {old mid new : World B} {found c : Cat} {at : State} {asked : List Asked} {end : RunEnd} → BeginsPlainly old found
-    → Sofar old mid found c at asked → CallsGoOn mid new c → IsQuiet mid new c → BeginsWithRequests old.source.left asked → StopsSo old new found at asked end
+    → Sofar old mid found c at asked → CallsGoOn old.source.left mid new c → IsQuiet mid new c → BeginsWithRequests old.source.left asked → StopsSo old new found at asked end
     → IsGoodIfNoneFailed old new end → Serves old new found end
 ends_quiet {old = old} {mid = mid} {new = new} {found = found} {c = c} {at = at} {asked = asked} {end = end} plain so goes quiet first stops good =
     serves old new found at asked plain.pending plain.rules (ran-quiet old mid new found c at asked plain.begin goes.order so goes.went goes.whole goes.names quiet) first
@@ -88,7 +88,7 @@ ends_quiet {old = old} {mid = mid} {new = new} {found = found} {c = c} {at = at}
 
 module _ {B : Type 0} {old mid new : World B} {found c : Cat} {at : State} {asked : List Asked} {a : Asked} {request : Request} {end : RunEnd}
     (plain : BeginsPlainly old found)
-    (so : Sofar old mid found c at asked) (goes : CallsGoOn mid new c) (means : MeansRequest at a request) (step : RequestStep mid new at c (length asked + 1) request)
+    (so : Sofar old mid found c at asked) (goes : CallsGoOn old.source.left mid new c) (means : MeansRequest at a request) (step : RequestStep mid new at c (length asked + 1) request)
     (first : BeginsWithRequests old.source.left (asked ++ a ∷ [])) where
   -- something ran out or failed in a request, which was begun and may not be shown whole
   pub ends_within : StopsSo old new found step.d.state (asked ++ a ∷ []) end → IsGoodIfNoneFailed old new end → Serves old new found end
@@ -111,6 +111,7 @@ module _ {B : Type 0} {old mid new : World B} {found c : Cat} {at : State} {aske
           of_run = of-run-more old mid new found c at asked plain.begin goes.order so goes.went goes.whole goes.names a request means step after left whole;
           grid = whole.grid ∙ ap (λ (s : State). s.grid) (sym whole.state);
           no_rules = no-rules old mid new found c at asked plain.begin goes.order so goes.went goes.whole goes.names a request means step;
+          still = λ all. (still-more old mid new found c at asked plain.begin goes.order so goes.went goes.whole goes.names a request means step after left whole all).0;
         },
         reads,
       )) good

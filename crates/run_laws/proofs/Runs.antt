@@ -17,7 +17,7 @@ use Rattle.grid_model.specs.declared.marks.Mark.TheVariants.{Stop}
 use Rattle.rule_parse.specs.Printed.{print_rules}
 use Rattle.grid_headline.specs.Worlds.{World, DevicesImage}
 use Rattle.grid_headline.specs.Reads.{MeansRequest, EndsInputLast}
-use Rattle.grid_headline.specs.Served.{Run, BeginsWithRequests, joined, asked_of, marks_of, whole_in, text_of, acknowledged, told_marks, first_marks, state_at}
+use Rattle.grid_headline.specs.Served.{Run, BeginsWithRequests, joined_texts, asked_of, marks_of, whole_in, text_of, acknowledged, told_marks, first_marks, state_at}
 use Rattle.grid_headline.specs.Served as served
 use Rattle.grid_headline.specs.Stops.{OneImage, IsAtState, KeepsTold, KeepsReport}
 use Rattle.grid_headline.specs.Files.{IsKnown, DisksAreSettled, WereWhole}
@@ -136,7 +136,7 @@ module _ {B : Type 0} (old new : World B) (base : Cat) (at : State) (asked : Lis
 
     -- ---- images
 
-    same_first : (m : Option Marked) (ts : Option (List Text)) (count : ℕ) → first_marks run m ts count ≡ handled.first_of m ts count
+    same_first : (m : Option Marked) (ts : Option (List Text)) (count : ℕ) → first_marks run m ts count ≡ handled.marks_within m ts count
     same_first None None count = refl
     same_first None (Some ts) count = refl
     same_first (Some m) None count = refl
@@ -196,6 +196,7 @@ module _ {B : Type 0} (old new : World B) (base : Cat) (at : State) (asked : Lis
         stands = all.stands new.spare.holds;
         holds = record { number = all.of_run.number; grid = all.grid; rules = all.of_run.rules ∙ sym (ap print_rules all.no_rules); none = all.of_run.none };
       };
+      still = λ none. all.still;
     }
 
     needs : (what : Wear) → NeedsSo old.source.left at asked what → Needs run old new what

@@ -14,9 +14,9 @@ use Rattle.grid_journal.specs.Stands.{StandsFor}
 use Rattle.grid_headline.specs.Worlds.{World}
 use Rattle.grid_headline.specs.Reads.{MeansRequest}
 use Rattle.grid_headline.specs.Causes.{NoneFailed}
-use Rattle.grid_headline.specs.Served.{BeginsWithRequests, joined}
+use Rattle.grid_headline.specs.Served.{BeginsWithRequests, joined_texts}
 use Rattle.grid_headline.specs.Ends.{RunEnd, read_all, source_failed, too_long, worn, no_memory, disk_failed, sink_failed}
-use Rattle.grid_headline.specs.Ends.{EndsInRequest, EndsAtEnd, ReadsPart, ReadsMost, HasRunOut}
+use Rattle.grid_headline.specs.Ends.{EndsInRequest, EndsAtEnd, ReadsEnded, ReadsMost, HasRunOut, AllStill, HasOneMore}
 use Rattle.grid_headline.specs.Headline.{IsGoodEnd}
 use Rattle.run_laws.specs.Handled.{Handled, replies_of, IsOfRun}
 
@@ -25,18 +25,19 @@ use Rattle.run_laws.specs.Handled.{Handled, replies_of, IsOfRun}
 -- how far it was read where all that was asked is answered
 abbrev pub ReadsSo : List Asked → SourceState → SourceState → RunEnd → Type 0
 ReadsSo asked from to read_all = EndsAtEnd asked from to ⊎ EndsInRequest asked from to
-ReadsSo asked from to source_failed = ReadsPart asked from to
+ReadsSo asked from to source_failed = ReadsEnded asked from to
 ReadsSo asked from to (too_long taken) = ReadsMost asked from to × (taken ≡ 2 ^ 48 + 1)
 ReadsSo asked from to other = ⊥
 
 -- All replies are shown, and main stands for what the requests left.
 pub record IsAnswered {B : Type 0} (old new : World B) (found : Cat) (at : State) (h : Handled) : Type 0 where
-  pub text : IsTrue old.sink.tells → new.sink.holds ≡ old.sink.holds ++ joined (replies_of h)
+  pub text : IsTrue old.sink.tells → new.sink.holds ≡ old.sink.holds ++ joined_texts (replies_of h)
   pub cat : Cat
   pub stands : StandsFor new.main.holds cat
   pub of_run : IsOfRun found cat
   pub grid : grid_of cat ≡ at.grid
   pub no_rules : at.rules ≡ []
+  pub still : AllStill (grid_of found) h.begun h.done → HasOneMore old.main.holds new.main.holds
 
 -- ---- something ran out or failed
 

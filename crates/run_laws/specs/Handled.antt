@@ -9,7 +9,7 @@ use Rattle.grid_model.specs.Working.{Done}
 use Rattle.grid_model.specs.Runs.{Marked, state_after}
 use Rattle.grid_model.specs.declared.marks.Mark.{Mark}
 use Rattle.grid_journal.specs.Stands.{StandsFor}
-use Rattle.grid_headline.specs.Served.{joined, reply_texts, whole_in}
+use Rattle.grid_headline.specs.Served.{joined_texts, reply_texts, whole_in}
 use Rattle.grid_headline.specs.Numbers.{KeepsNumbers}
 
 -- requests with their marks, what each did, and the texts of its marks
@@ -31,13 +31,13 @@ abbrev pub replies_of : Handled → List Text
 replies_of h = reply_texts 1 h.done h.pieces
 
 -- of the marks of a request those whose texts stand whole in so many bytes
-abbrev pub first_of : Option Marked → Option (List Text) → ℕ → List Mark
-first_of (Some m) (Some ts) count = take (whole_in ts count) m.marks
-first_of m ts count = []
+abbrev pub marks_within : Option Marked → Option (List Text) → ℕ → List Mark
+marks_within (Some m) (Some ts) count = take (whole_in ts count) m.marks
+marks_within m ts count = []
 
 -- those of the request behind the first n ones, where so many bytes were written
 abbrev pub told_of : Handled → ℕ → ℕ → List Mark
-told_of h n count = first_of (slice_get h.begun n) (slice_get h.pieces n) (count - length (joined (take n (replies_of h))))
+told_of h n count = marks_within (slice_get h.begun n) (slice_get h.pieces n) (count - length (joined_texts (take n (replies_of h))))
 
 -- what the catalogues of a run that was begun have in common
 pub record IsOfRun (found c : Cat) : Type 0 where
@@ -70,7 +70,8 @@ module _ (found : Cat) (h : Handled) where
   -- stands for a catalogue of the run and a front of the replies is shown.
   pub data OneOfRun (old_sink main sink : Text) : Type 0 where
     not_begun : StandsFor main found → sink ≡ old_sink → OneOfRun old_sink main sink
-    in_run : (c : Cat) (part more : Text) → StandsFor main c → sink ≡ old_sink ++ part → joined (replies_of h) ≡ part ++ more → IsBehindSome c (length part)
+    in_run : (c : Cat) (part more : Text) → StandsFor main c → sink ≡ old_sink ++ part → joined_texts (replies_of h) ≡ part ++ more
+      → IsBehindSome c (length part)
         → OneOfRun old_sink main sink
 
 -- A front of the replies is shown, with at least all but the last one.
@@ -78,5 +79,5 @@ pub record ShowsMost (h : Handled) (old_sink sink : Text) : Type 0 where
   pub part : Text
   pub more : Text
   pub is : sink ≡ old_sink ++ part
-  pub split : joined (replies_of h) ≡ part ++ more
+  pub split : joined_texts (replies_of h) ≡ part ++ more
   pub all_but_one : length h.begun ≤ whole_in (replies_of h) (length part) + 1

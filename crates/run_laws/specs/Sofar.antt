@@ -14,17 +14,18 @@ use Rattle.grid_model.specs.Completing.{AreClean, EndsByRows}
 use Rattle.grid_journal.specs.Stands.{StandsFor}
 use Rattle.grid_headline.specs.Worlds.{World}
 use Rattle.grid_headline.specs.Reads.{MeansRequest, EndsInput}
-use Rattle.grid_headline.specs.Served.{AllPieces, joined, marks_of, asked_of}
+use Rattle.grid_headline.specs.Served.{AllPieces, NoneSweeps, joined_texts, marks_of, asked_of}
 use Rattle.grid_headline.specs.Files.{IsKnown, AreSettled, DisksAreSettled, WereWhole, AllStayWhole, StayNamed}
 use Rattle.grid_headline.specs.Causes.{AreCaused}
+use Rattle.grid_headline.specs.Ends.{AllStill, HasOneMore}
 use Rattle.grid_headline.specs.Headline.{BeginsOn}
 use Rattle.run_laws.specs.Handled.{Handled, replies_of, IsOfRun, OneOfRun, ShowsMost}
 use Rattle.run_laws.specs.Steps.{Gave, IsToldOf}
 use Rattle.run_laws.specs.Went.{Went, AreInOrder}
 
 -- the catalogue of the next run, of which no command has changed anything
-abbrev pub begun : Cat → Cat
-begun c = record c { numbers = record { next_vault = c.numbers.next_vault; run = c.numbers.run + 1; last = 0 } }
+abbrev pub run_begun : Cat → Cat
+run_begun c = record c { numbers = record { next_vault = c.numbers.next_vault; run = c.numbers.run + 1; last = 0 } }
 
 -- each of them ends by rows where its marks are clean
 abbrev pub AllByRows : List Marked → List Done → Type 0
@@ -39,12 +40,13 @@ KeepsWhole mid new c = DisksAreSettled mid → WereWhole mid mid.moments c → A
 abbrev pub KeepsNames : {B : Type 0} → World B → World B → Cat → Type 0
 KeepsNames mid new c = IsTrue mid.main.tells → IsSettled mid.main → StayNamed new mid.moments c
 
--- Calls go on from a world in order, and the files that were whole by this catalogue stay so, and those that were named.
-pub record CallsGoOn {B : Type 0} (mid new : World B) (c : Cat) : Type 0 where
+-- Calls go on from a world in order, and the files that were whole by this catalogue stay so, and those that were named where no request
+-- of the input asks for a sweep.
+pub record CallsGoOn {B : Type 0} (input : Text) (mid new : World B) (c : Cat) : Type 0 where
   pub order : AreInOrder mid
   pub went : Went mid new
   pub whole : KeepsWhole mid new c
-  pub names : KeepsNames mid new c
+  pub names : NoneSweeps input → KeepsNames mid new c
 
 -- The run begins on a catalogue without a pending command or rules.
 pub record BeginsPlainly {B : Type 0} (old : World B) (found : Cat) : Type 0 where
@@ -66,7 +68,7 @@ pub record Ran {B : Type 0} (old now : World B) (found : Cat) (at : State) (aske
   pub caused : AreCaused old now (marks_of handled.begun)
   pub gave : IsTrue now.ambient.tells → Gave (marks_of handled.begun) old.ambient now.ambient
   pub whole : DisksAreSettled old → WereWhole old old.moments found → AllStayWhole now old.moments
-  pub named : IsSettled old.main → StayNamed now old.moments found
+  pub named : NoneSweeps old.source.left → IsSettled old.main → StayNamed now old.moments found
   pub images : IsTrue old.sink.tells → AreSettled old → (t : ℕ) (main sink : Text) → old.moments < t → now.main.left t main → now.sink.left t sink
       → OneOfRun found handled old.sink.holds main sink
 
@@ -74,12 +76,14 @@ pub record Ran {B : Type 0} (old now : World B) (found : Cat) (at : State) (aske
 pub record Sofar {B : Type 0} (old now : World B) (found c : Cat) (at : State) (asked : List Asked) : Type 0 where
   pub ran : Ran old now found at asked
   pub none_end : AllByRecursion (λ a. ¬ EndsInput a) asked
-  pub text : IsTrue old.sink.tells → now.sink.holds ≡ old.sink.holds ++ joined (replies_of ran.handled)
+  pub text : IsTrue old.sink.tells → now.sink.holds ≡ old.sink.holds ++ joined_texts (replies_of ran.handled)
   -- the catalogue
   pub of_run : IsOfRun found c
   pub last : c.numbers.last ≤ length asked
   pub grid : grid_of c ≡ at.grid
   pub no_rules : at.rules ≡ []
+  -- where all left the grid as it was and told no mark, main has the record with which the run was begun more
+  pub still : AllStill (grid_of found) ran.handled.begun ran.handled.done → HasOneMore old.main.holds now.main.holds × (grid_of c ≡ grid_of found)
   -- the disks and the sink
   pub stands : StandsFor now.main.holds c
   pub main_settled : IsSettled old.main → IsSettled now.main

@@ -1,5 +1,5 @@
 -- One request of a run: what it did, what it wrote, and what a stop at any moment of it leaves.
-use Rattle.std.specs.Prelude.{◌≡◌, ℕ, ◌<◌, List, [], ◌∷◌, ◌++◌, length, IsTrue}
+use Rattle.std.specs.Prelude.{◌≡◌, ℕ, ◌<◌, List, [], ◌∷◌, ◌++◌, Ok, length, IsTrue}
 use Rattle.std.specs.List.{AllByRecursion}
 use Rattle.grid_outside.specs.Device.{IsSettled}
 use Rattle.grid_outside.specs.Ambient.{AmbientState}
@@ -11,6 +11,7 @@ use Rattle.grid_model.specs.Meanings.{gives}
 use Rattle.grid_model.specs.Sessions.{State}
 use Rattle.grid_model.specs.Working.{Done}
 use Rattle.grid_model.specs.ReplyTexts.{ArePieces, reply_text}
+use Rattle.grid_model.specs.Orders.{sweeps}
 use Rattle.grid_model.specs.Runs.{Request, does}
 use Rattle.grid_model.specs.Completing.{AreClean, EndsByRows}
 use Rattle.grid_model.specs.declared.marks.Mark.{Mark}
@@ -20,7 +21,7 @@ use Rattle.grid_headline.specs.Worlds.{World}
 use Rattle.grid_headline.specs.Files.{IsKnown}
 use Rattle.grid_headline.specs.Numbers.{KeepsNumbers}
 use Rattle.grid_headline.specs.Causes.{AreCaused}
-use Rattle.grid_headline.specs.Draws.{AreSomeOf, words_of, times_of}
+use Rattle.grid_headline.specs.Draws.{AreSomeOf, told_words, times_of}
 
 -- ---- the catalogue
 
@@ -44,10 +45,10 @@ pub record IsLeftBehind (before : Cat) (n : ℕ) (d : Done) (c : Cat) : Type 0 w
   pub pending : c.pending ≡ before.pending
   pub keeps : KeepsNumbers before c
 
--- the request was kept, or there was nothing to keep: it told no mark and changed nothing
+-- the request was kept, or there was nothing to keep: it told no mark, and nothing is seen of it
 pub data ComesAfter (before : Cat) (n : ℕ) (d : Done) : Cat → Type 0 where
   kept : {c : Cat} → IsLeftBehind before n d c → ComesAfter before n d c
-  nothing : {c : Cat} → c ≡ before → d.reply.marks ≡ [] → d.state.grid ≡ grid_of before → ComesAfter before n d c
+  unseen : {c : Cat} → IsLike before c → d.reply.marks ≡ [] → d.state.grid ≡ grid_of before → ComesAfter before n d c
 
 -- ---- images
 
@@ -79,7 +80,7 @@ pub record Gave (marks : List Mark) (old new : AmbientState) : Type 0 where
   pub told : IsTrue old.tells
   pub words : List ℕ
   pub words_are : new.words ≡ old.words ++ words
-  pub words_told : AreSomeOf (words_of marks) words
+  pub words_told : AreSomeOf (told_words marks) words
   pub times : List ℕ
   pub times_are : new.times ≡ old.times ++ times
   pub times_told : AreSomeOf (times_of marks) times
@@ -103,6 +104,11 @@ pub record RequestStep {B : Type 0} (old new : World B) (at : State) (before : C
   pub images : IsTrue old.main.tells → IsTrue old.sink.tells → IsSettled old.main → IsSettled old.sink → (t : ℕ) (main sink : Text)
       → old.moments < t → new.main.left t main → new.sink.left t sink → OneOf before n d pieces old.sink.holds main sink
 
+-- the request asks for no sweep
+abbrev pub IsNoSweep : Request → Type 0
+IsNoSweep (Ok (session, sweeps)) = ⊥
+IsNoSweep other = Unit {0}
+
 -- It was handled whole: this is the catalogue behind it, and this the state.
 pub record IsHandledWhole {B : Type 0} (old new : World B) (at : State) (before : Cat) (n : ℕ) (request : Request)
     (step : RequestStep old new at before n request)
@@ -112,6 +118,8 @@ pub record IsHandledWhole {B : Type 0} (old new : World B) (at : State) (before 
   pub follows : ComesAfter before n step.d after
   pub stands : IsTrue old.main.tells → StandsFor new.main.holds after
   pub text : IsTrue old.sink.tells → new.sink.holds ≡ old.sink.holds ++ reply_text n step.d.reply step.pieces
+  -- where it told no mark, left the grid as it was and was no sweep, main is as it was
+  pub still : IsNoSweep request → step.marks ≡ [] → step.d.state.grid ≡ grid_of before → IsTrue old.main.tells → new.main.holds ≡ old.main.holds
   pub main_settled : IsTrue old.main.tells → IsSettled old.main → IsSettled new.main
   pub sink_settled : IsTrue old.sink.tells → IsSettled old.sink → IsSettled new.sink
 

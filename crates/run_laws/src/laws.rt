@@ -11,7 +11,7 @@ ghost use Rattle.grid_headline.specs.Reads.{EndsInput, MeansRequest};
 ghost use Rattle.grid_headline.specs.Served.{BeginsWithRequests};
 ghost use Rattle.run_laws.specs.Ends.{IsGoodIfNoneFailed, ReadsSo, StopsSo};
 ghost use Rattle.run_laws.specs.Opening.{Opened};
-ghost use Rattle.run_laws.specs.Sofar.{BeginsPlainly, CallsGoOn, Sofar, begun};
+ghost use Rattle.run_laws.specs.Sofar.{BeginsPlainly, CallsGoOn, Sofar, run_begun};
 ghost use Rattle.run_laws.specs.Steps.{IsQuiet, IsHandledWhole, RequestStep};
 ghost use Rattle.run_laws.specs.Surrounding.{world};
 ghost use Rattle.run_laws.specs.Went.{AreInOrder};
@@ -26,7 +26,7 @@ pub fn a_run_is_begun<D: Disk, S: Source, K: Sink, A: Ambient, P: Plugin>(
 )
     ensures { let from = world D.disk S.source K.sink A.ambient P.plugin old.now in let to = world D.disk S.source K.sink A.ambient P.plugin now.now in
         (found : Cat) → BeginsPlainly from found → AreInOrder from → Opened from to found →
-        Sofar from to found (begun found) (begins (grid_of found) []) [] }
+        Sofar from to found (run_begun found) (begins (grid_of found) []) [] }
 {}
 
 /// Behind the requests that were handled comes one more, which is handled whole and does not end the input.
@@ -38,7 +38,7 @@ pub fn a_run_goes_on<D: Disk, S: Source, K: Sink, A: Ambient, P: Plugin>(
     ensures { let from = world D.disk S.source K.sink A.ambient P.plugin old.now in let by = world D.disk S.source K.sink A.ambient P.plugin mid.now in
         let to = world D.disk S.source K.sink A.ambient P.plugin new.now in
         (found c after : Cat) (at end : State) (asked : List Asked) (a : Asked) (request : Request) → BeginsPlainly from found →
-        Sofar from by found c at asked → CallsGoOn by to c → MeansRequest at a request → ¬ EndsInput a
+        Sofar from by found c at asked → CallsGoOn from.source.left by to c → MeansRequest at a request → ¬ EndsInput a
         → (step : RequestStep by to at c (length asked + 1) request) →
         IsHandledWhole by to at c (length asked + 1) request step after end → Sofar from to found after end (asked ++ a ∷ []) }
 {}
@@ -61,7 +61,7 @@ pub fn a_run_ends_early<D: Disk, S: Source, K: Sink, A: Ambient, P: Plugin>(
 )
     ensures { let from = world D.disk S.source K.sink A.ambient P.plugin old.now in let by = world D.disk S.source K.sink A.ambient P.plugin mid.now in
         let to = world D.disk S.source K.sink A.ambient P.plugin new.now in
-        (found c : Cat) (at : State) (asked : List Asked) (end : RunEnd) → BeginsPlainly from found → Sofar from by found c at asked → CallsGoOn by to c →
+        (found c : Cat) (at : State) (asked : List Asked) (end : RunEnd) → BeginsPlainly from found → Sofar from by found c at asked → CallsGoOn from.source.left by to c →
         IsQuiet by to c → BeginsWithRequests from.source.left asked → StopsSo from to found at asked end → IsGoodIfNoneFailed from to end →
         Serves from to found end }
 {}

@@ -15,3 +15,6 @@ mod runs;
 mod sinks;
 mod sources;
 mod stops;
+mod stores;
+mod targets;
+mod trees;

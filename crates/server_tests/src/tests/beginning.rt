@@ -86,9 +86,9 @@ fn a_grid_is_begun_once(rt: HostRuntime) -> Result<(), Fail> {
     assert_eq!(rt; main.as_slice(), begun(alloc)?.as_slice());
     let status = Status::NotEmpty {
         side: Side::Main,
-        len: 313,
+        len: 287,
     };
-    let line = b"err NotEmpty main 313\n";
+    let line = b"err NotEmpty main 287\n";
     refuses(&rt, alloc, INIT, &main, PLAIN, status, line)?;
     Ok(())
 }

@@ -43,7 +43,7 @@ const PASSED_OVER: [(&[u8], &[u8]); 31] = [
     ),
     (
         b"0 put /f d0 over 3\nabc0 login rods\n",
-        b"1 err UnknownCommand\n2 ok\n",
+        b"1 err NoLogin\n2 ok\n",
     ),
     (
         b"0 put /f d0 new 3\nabc0 login rods\n",
@@ -51,7 +51,7 @@ const PASSED_OVER: [(&[u8], &[u8]); 31] = [
     ),
     (
         b"0 login rods\n0 put /tempZone d0 new 3\nabc0 put /x/f d0 new 3\nabc0 put / d0 new 3\nabc0 login rods\n",
-        b"1 ok\n2 err Exists\n3 err NoCollection\n4 err Exists\n5 ok\n",
+        b"1 ok\n2 err NoResource\n3 err NoCollection\n4 err Exists\n5 ok\n",
     ),
     // No number, another verb, no verb, no words.
     (b"0 part +3\n0 login rods\n", b"1 err BadWord 2\n2 ok\n"),

@@ -22,20 +22,18 @@ const ACCESS: &[u8] = b"\x0D\x02\0\0\0\0\0\0\0\0\0\0\0\x02\x01\
 \x0D\x02\0\0\0\0\0\0\0\x02\0\0\0\x02\x01\
 \x0D\x02\0\0\0\0\0\0\0\x03\0\0\0\x01\x03";
 
-const RESOURCE: &[u8] = b"\x0F\0\0\0\x01\0\0\0\0\0\0\0\x02d0\x01\0\x01\0\0\0\0\0\0\0\0";
-
 const NO_RUN: &[u8] = b"\x13\0\0\0\0\0\0\0\x01\0\0\0\0\0\0\0\0\0\0\0\0\0\0\0\0";
 
 // The records of the first run, and of one that makes `/tempZone/home/rods/a` as its third command: the collection, own for
 // its maker, and the numbers.
-pub(crate) const RUN_1: &[u8] = b"\x13\0\0\0\0\0\0\0\x01\0\0\0\0\0\0\0\x01\0\0\0\0\0\0\0\0";
+const RUN_1: &[u8] = b"\x13\0\0\0\0\0\0\0\x01\0\0\0\0\0\0\0\x01\0\0\0\0\0\0\0\0";
 
 const MADE_A: &[u8] = b"\x05\0\0\0\0\0\0\0\x04\0\0\0\0\0\0\0\x03\0\0\0\0\0\0\0\x01a\0\
 \x0D\x02\0\0\0\0\0\0\0\x04\0\0\0\x01\x03\
 \x13\0\0\0\0\0\0\0\x01\0\0\0\0\0\0\0\x01\0\0\0\0\0\0\0\x03";
 
 // The same of a second run, which makes `/tempZone/home/rods/a/bc` as its second command, and `/d` as its fourth.
-const RUN_2: &[u8] = b"\x13\0\0\0\0\0\0\0\x01\0\0\0\0\0\0\0\x02\0\0\0\0\0\0\0\0";
+pub(crate) const RUN_2: &[u8] = b"\x13\0\0\0\0\0\0\0\x01\0\0\0\0\0\0\0\x02\0\0\0\0\0\0\0\0";
 
 const MADE_BC: &[u8] = b"\x05\0\0\0\0\0\0\0\x05\0\0\0\0\0\0\0\x04\0\0\0\0\0\0\0\x02bc\0\
 \x0D\x02\0\0\0\0\0\0\0\x05\0\0\0\x01\x03\
@@ -48,7 +46,7 @@ const MADE_D: &[u8] = b"\x05\0\0\0\0\0\0\0\x06\0\0\0\0\0\0\0\0\0\0\0\0\0\0\0\x01
 // The body of the first record.
 fn start(alloc: Global) -> Result<Vec<u8>, AllocError> {
     let mut body = Vec::new(alloc);
-    for part in [ZONE, USERS, COLLECTIONS, ACCESS, RESOURCE, NO_RUN] {
+    for part in [ZONE, USERS, COLLECTIONS, ACCESS, NO_RUN] {
         body.extend_from_slice(part)?;
     }
     Ok(body)

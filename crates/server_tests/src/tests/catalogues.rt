@@ -16,12 +16,12 @@ fn refuses_at(rt: &impl Abort, alloc: Global, main: &[u8], at: u64) -> Result<()
     refuses(rt, alloc, SERVE, main, PLAIN, status, line.as_bytes())
 }
 
-// Main of a new grid after a run that made a collection: 313 bytes, a record of 34 and one of 76.
+// Main of a new grid after a run that made a collection: 287 bytes, a record of 34 and one of 76.
 fn with_a(rt: &impl Abort, alloc: Global) -> Result<Vec<u8>, Fail> {
     let input = b"0 login rods\n0 mkdir /tempZone/home/rods/a\n";
     let served = done(1, b"1 ok\n2 ok\n", 2, b"/tempZone/home/rods/a\n");
     let main = serves(rt, alloc, &begun(alloc)?, input, served)?;
-    assert_eq!(rt; main.len(), 423);
+    assert_eq!(rt; main.len(), 397);
     Ok(main)
 }
 
@@ -53,18 +53,18 @@ fn a_head_at_fault_is_refused_at_its_byte(rt: HostRuntime) -> Result<(), Fail> {
 fn a_log_that_is_cut_off_is_refused_where_it_does_not_go_on(rt: HostRuntime) -> Result<(), Fail> {
     let alloc = rt.alloc();
     let main = with_a(&rt, alloc)?;
-    // A record's length stands at 17, at 313 and at 347, and the closing gate at 422.
+    // A record's length stands at 17, at 287 and at 321, and the closing gate at 396.
     for (len, at) in [
-        (422, 422),
-        (421, 347),
-        (348, 347),
-        (347, 347),
-        (346, 346),
-        (345, 313),
-        (314, 313),
-        (313, 313),
-        (312, 312),
-        (311, 17),
+        (396, 396),
+        (395, 321),
+        (322, 321),
+        (321, 321),
+        (320, 320),
+        (319, 287),
+        (288, 287),
+        (287, 287),
+        (286, 286),
+        (285, 17),
         (18, 17),
         (17, 17),
     ] {
@@ -131,9 +131,9 @@ fn a_record_at_fault_is_refused_at_its_place(rt: HostRuntime) -> Result<(), Fail
     let made = with_a(&rt, alloc)?;
     for (body, place) in AT_FAULT {
         let main = with_record(alloc, &new, body)?;
-        refuses_at(&rt, alloc, &main, place.saturating_add(321))?;
+        refuses_at(&rt, alloc, &main, place.saturating_add(295))?;
         let main = with_record(alloc, &made, body)?;
-        refuses_at(&rt, alloc, &main, place.saturating_add(431))?;
+        refuses_at(&rt, alloc, &main, place.saturating_add(405))?;
     }
     Ok(())
 }

@@ -1,5 +1,7 @@
 // Disks that fail.
-use super::playing::{Outcome, PLAIN, SERVE, Setting, begun, compare, done, goes_on, play};
+use super::playing::{
+    Outcome, PLAIN, SERVE, Setting, begun, begun_with_leaf, compare, done, goes_on, play,
+};
 use grid_server::Status;
 use std::alloc::Global;
 use std::process::Abort;
@@ -97,7 +99,7 @@ fn a_disk_may_fail_at_each_call(rt: HostRuntime) -> Result<(), Fail> {
 #[test]
 fn a_disk_may_fail_at_each_call_of_a_put_and_a_get(rt: HostRuntime) -> Result<(), Fail> {
     let alloc = rt.alloc();
-    let new = begun(alloc)?;
+    let new = begun_with_leaf(&rt, alloc)?;
     // A put adds a record before its file is made and one behind that, and a get one behind its data.
     for (call, replies, last, paths) in [
         (8, FIRST, 0, b"".as_slice()),
@@ -119,10 +121,10 @@ fn a_disk_may_fail_at_each_call_of_a_put_and_a_get(rt: HostRuntime) -> Result<()
             &new,
             PUT_AND_GET,
             call,
-            fails(replies, 1, last, paths),
+            fails(replies, 2, last, paths),
         )?;
     }
-    serves_again(&rt, alloc, &new, PUT_AND_GET, 20, done(1, GOT, 3, F))
+    serves_again(&rt, alloc, &new, PUT_AND_GET, 20, done(2, GOT, 3, F))
 }
 
 #[test]

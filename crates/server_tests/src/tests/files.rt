@@ -3,7 +3,8 @@ ghost use Rattle.std.specs.Prelude.{◌≡◌, IfOk};
 ghost use Rattle.grid_mem.specs.MemStore.{store_of};
 
 use super::playing::{
-    Outcome, PLAIN, Played, SERVE, begun, compare, done, outside_of, run_over, with_record,
+    Outcome, PLAIN, Played, SERVE, begun_with_leaf, compare, done, outside_of, run_over,
+    with_record,
 };
 use grid_mem::{Lies, MemFile, MemFiles, MemSource, MemStore};
 use grid_outside::{Plugin, Wear, add_store};
@@ -30,12 +31,12 @@ const DAMAGED: &[u8] = b"1 ok\n2 mark ran 0 1000\n2 ok\n\
 // The path of that object.
 const O: &[u8] = b"/tempZone/home/rods/o\n";
 
-// The greatest number for a vault file that is begun, and the next one: the numbers, no run and no command.
-const LAST_VAULT: &[u8] = b"\x13\xFF\xFF\xFF\xFE\0\0\0\0\0\0\0\0\0\0\0\0\0\0\0\0\0\0\0\0";
+// The greatest number for a vault file that is begun, and the next one: the numbers, the first run, and no command.
+const LAST_VAULT: &[u8] = b"\x13\xFF\xFF\xFF\xFE\0\0\0\0\0\0\0\0\0\0\0\x01\0\0\0\0\0\0\0\0";
 
-const WORN_VAULT: &[u8] = b"\x13\xFF\xFF\xFF\xFE\0\0\0\x01\0\0\0\0\0\0\0\0\0\0\0\0\0\0\0\0";
+const WORN_VAULT: &[u8] = b"\x13\xFF\xFF\xFF\xFE\0\0\0\x01\0\0\0\0\0\0\0\x01\0\0\0\0\0\0\0\0";
 
-const NO_VAULT: &[u8] = b"\x13\xFF\xFF\xFF\xFF\xFF\xFF\xFF\xFF\0\0\0\0\0\0\0\0\0\0\0\0\0\0\0\0";
+const NO_VAULT: &[u8] = b"\x13\xFF\xFF\xFF\xFF\xFF\xFF\xFF\xFF\0\0\0\0\0\0\0\x01\0\0\0\0\0\0\0\0";
 
 // The number of the second of these.
 const PAST_LAST: u64 = 18_446_744_065_119_617_025;
@@ -91,7 +92,7 @@ fn serves_on(
 #[test]
 fn a_file_is_sent_as_it_was_put(rt: HostRuntime) -> Result<(), Fail> {
     let alloc = rt.alloc();
-    let new = begun(alloc)?;
+    let new = begun_with_leaf(&rt, alloc)?;
     // The store is asked to create, append and finish, and then twice to read. The last command is also one that failed there.
     for (call, replies, last, paths) in [
         (0, ABC_GOT, 3, O),
@@ -102,7 +103,7 @@ fn a_file_is_sent_as_it_was_put(rt: HostRuntime) -> Result<(), Fail> {
         (5, NOT_GOT, 3, O),
         (6, ABC_GOT, 3, O),
     ] {
-        serves_on(&rt, alloc, &new, ABC, call, done(1, replies, last, paths))?;
+        serves_on(&rt, alloc, &new, ABC, call, done(2, replies, last, paths))?;
     }
     Ok(())
 }
@@ -110,22 +111,22 @@ fn a_file_is_sent_as_it_was_put(rt: HostRuntime) -> Result<(), Fail> {
 #[test]
 fn a_file_that_is_another_is_damaged(rt: HostRuntime) -> Result<(), Fail> {
     let alloc = rt.alloc();
-    let new = begun(alloc)?;
+    let new = begun_with_leaf(&rt, alloc)?;
     let lies = Lies {
         names: vec![in alloc; 1]?,
         from: 4,
     };
     let store = failing(alloc, 0)?.lying(lies);
     let played = play_on(alloc, &new, ABC, store, 0)?;
-    compare(&rt, alloc, played, done(1, DAMAGED, 3, O))?;
+    compare(&rt, alloc, played, done(2, DAMAGED, 3, O))?;
     Ok(())
 }
 
 #[test]
 fn a_later_run_has_the_file(rt: HostRuntime) -> Result<(), Fail> {
     let alloc = rt.alloc();
-    let new = begun(alloc)?;
-    let main = serves_on(&rt, alloc, &new, ABC, 0, done(1, ABC_GOT, 3, O))?;
+    let new = begun_with_leaf(&rt, alloc)?;
+    let main = serves_on(&rt, alloc, &new, ABC, 0, done(2, ABC_GOT, 3, O))?;
     let file = MemFile {
         name: 1,
         bytes: b"abc".to_vec(alloc)?,
@@ -140,14 +141,14 @@ fn a_later_run_has_the_file(rt: HostRuntime) -> Result<(), Fail> {
     let replies =
         b"1 ok\n2 mark ran 0 1000\n2 ok\n3 data 3\nabc\n3 mark ran 0 1000\n3 ok 0\n4 mark ran 0 1000\n4 ok 0\n";
     let paths = b"/tempZone/home/rods/o\n/tempZone/home/rods/p\n";
-    compare(&rt, alloc, played, done(2, replies, 4, paths))?;
+    compare(&rt, alloc, played, done(3, replies, 4, paths))?;
     Ok(())
 }
 
 #[test]
 fn what_is_not_put_or_sent(rt: HostRuntime) -> Result<(), Fail> {
     let alloc = rt.alloc();
-    let new = begun(alloc)?;
+    let new = begun_with_leaf(&rt, alloc)?;
     for (input, replies, last, paths) in [
         (
             b"0 put /f d0 new 1\nx0 get /f -\n".as_slice(),
@@ -175,8 +176,8 @@ fn what_is_not_put_or_sent(rt: HostRuntime) -> Result<(), Fail> {
         ),
         (
             b"0 login rods\n0 put /f d1 new 1\nx0 put /f d0 over 1\nx0 get /f d0\n0 put /f d0 new 1\nx0 put /f d0 over 1\ny0 get /f d1\n0 get /f -\n",
-            b"1 ok\n2 err NoResource\n3 err UnknownCommand\n4 err NoObject\n5 mark ran 0 1000\n5 ok\n6 err UnknownCommand\n\
-7 err NoResource\n8 data 1\nx\n8 mark ran 0 1000\n8 ok 0\n",
+            b"1 ok\n2 err NoResource\n3 mark ran 0 1000\n3 ok\n4 data 1\nx\n4 mark ran 0 1000\n4 ok 0\n5 err Exists\n\
+6 mark ran 0 1000\n6 ok\n7 err NoResource\n8 data 1\ny\n8 mark ran 0 1000\n8 ok 0\n",
             8,
             b"/f\n",
         ),
@@ -193,7 +194,7 @@ fn what_is_not_put_or_sent(rt: HostRuntime) -> Result<(), Fail> {
             b"",
         ),
     ] {
-        serves_on(&rt, alloc, &new, input, 0, done(1, replies, last, paths))?;
+        serves_on(&rt, alloc, &new, input, 0, done(2, replies, last, paths))?;
     }
     Ok(())
 }
@@ -209,7 +210,7 @@ fn add_bytes(text: &mut Vec<u8>, count: usize) -> Result<(), AllocError> {
 #[test]
 fn a_large_body_is_sent_in_parts(rt: HostRuntime) -> Result<(), Fail> {
     let alloc = rt.alloc();
-    let new = begun(alloc)?;
+    let new = begun_with_leaf(&rt, alloc)?;
     let mut input = b"0 login rods\n0 put /f d0 new 131073\n".to_vec(alloc)?;
     add_bytes(&mut input, 131_073)?;
     input.extend_from_slice(b"0 get /f -\n")?;
@@ -222,38 +223,38 @@ fn a_large_body_is_sent_in_parts(rt: HostRuntime) -> Result<(), Fail> {
         replies.push(b'\n')?;
     }
     replies.extend_from_slice(b"3 mark ran 0 1000\n3 ok 0\n")?;
-    serves_on(&rt, alloc, &new, &input, 0, done(1, &replies, 3, b"/f\n"))?;
+    serves_on(&rt, alloc, &new, &input, 0, done(2, &replies, 3, b"/f\n"))?;
     Ok(())
 }
 
 #[test]
 fn the_largest_body_is_put(rt: HostRuntime) -> Result<(), Fail> {
     let alloc = rt.alloc();
-    let new = begun(alloc)?;
+    let new = begun_with_leaf(&rt, alloc)?;
     let mut input = b"0 login rods\n0 put /f d0 new 16777216\n".to_vec(alloc)?;
     add_bytes(&mut input, 16_777_216)?;
     input.extend_from_slice(b"0 put /f d0 new 0\n")?;
     let replies = b"1 ok\n2 mark ran 0 1000\n2 ok\n3 err Exists\n";
-    serves_on(&rt, alloc, &new, &input, 0, done(1, replies, 2, b"/f\n"))?;
+    serves_on(&rt, alloc, &new, &input, 0, done(2, replies, 2, b"/f\n"))?;
     Ok(())
 }
 
 #[test]
 fn a_body_that_is_too_large_is_passed_over(rt: HostRuntime) -> Result<(), Fail> {
     let alloc = rt.alloc();
-    let new = begun(alloc)?;
+    let new = begun_with_leaf(&rt, alloc)?;
     let mut input = b"0 login rods\n0 put /f d0 new 16777217\n".to_vec(alloc)?;
     add_bytes(&mut input, 16_777_217)?;
     input.extend_from_slice(b"0 get /f -\n")?;
     let replies = b"1 ok\n2 err TooLarge 16777216\n3 err NoObject\n";
-    serves_on(&rt, alloc, &new, &input, 0, done(1, replies, 0, b""))?;
+    serves_on(&rt, alloc, &new, &input, 0, done(2, replies, 0, b""))?;
     Ok(())
 }
 
 #[test]
 fn a_sink_may_fail_within_a_get(rt: HostRuntime) -> Result<(), Fail> {
     let alloc = rt.alloc();
-    let new = begun(alloc)?;
+    let new = begun_with_leaf(&rt, alloc)?;
     for (call, replies, last, paths) in [
         (1, b"1 ".as_slice(), 0, b"".as_slice()),
         (2, b"1 ok\n2 mark ran ", 2, O),
@@ -268,7 +269,7 @@ fn a_sink_may_fail_within_a_get(rt: HostRuntime) -> Result<(), Fail> {
         let played = play_on(alloc, &new, ABC, failing(alloc, 0)?, call)?;
         let wanted = Outcome {
             status: Status::SinkFault,
-            ..done(1, replies, last, paths)
+            ..done(2, replies, last, paths)
         };
         compare(&rt, alloc, played, wanted)?;
     }
@@ -289,7 +290,7 @@ fn worn_at(at: u64) -> Status {
 #[test]
 fn the_numbers_of_vault_files_run_out(rt: HostRuntime) -> Result<(), Fail> {
     let alloc = rt.alloc();
-    let new = begun(alloc)?;
+    let new = begun_with_leaf(&rt, alloc)?;
     for (numbers, input, at, replies, last, paths) in [
         (LAST_VAULT, ABC, 0, ABC_GOT, 3, O),
         // The second body has no number.
@@ -310,7 +311,7 @@ fn the_numbers_of_vault_files_run_out(rt: HostRuntime) -> Result<(), Fail> {
         let main = with_record(alloc, &new, numbers)?;
         let wanted = Outcome {
             status: worn_at(at),
-            ..done(1, replies, last, paths)
+            ..done(2, replies, last, paths)
         };
         serves_on(&rt, alloc, &main, input, 0, wanted)?;
     }

@@ -1,7 +1,7 @@
 // Who is logged in where, and who may make, put and get what.
-use super::playing::{begun, follows, with_record};
-use grid_journal::JournalError;
+use super::playing::{begun_with_leaf, follows, with_record};
 use std::alloc::Global;
+use std::process::Abort;
 use std::test::Fail;
 
 // The users `alice`, `bob` and `carol`, and the group `lab`, whose members are the first and the last of them.
@@ -128,9 +128,9 @@ const OF_COLLECTIONS: [(&[u8], &[u8]); 14] = [
     (b"0 mkdir /a/p/q\n", b"14 ok\n"),
 ];
 
-// Main of a new grid with these users and collections.
-pub(crate) fn with_folk(alloc: Global) -> Result<Vec<u8>, JournalError> {
-    let main = with_record(alloc, &begun(alloc)?, FOLK)?;
+// Main of a grid with a leaf, and with these users and collections.
+pub(crate) fn with_folk(rt: &impl Abort, alloc: Global) -> Result<Vec<u8>, Fail> {
+    let main = with_record(alloc, &begun_with_leaf(rt, alloc)?, FOLK)?;
     Ok(with_record(alloc, &main, PLACES_OF_FOLK)?)
 }
 
@@ -140,7 +140,7 @@ fn each_session_has_a_user_of_its_own(rt: HostRuntime) -> Result<(), Fail> {
     follows(
         &rt,
         alloc,
-        &with_folk(alloc)?,
+        &with_folk(&rt, alloc)?,
         &SESSIONS,
         18,
         b"/a\n/b\n/l\n/a/x\n/a/z\n/b/v\n/b/u\n/b/t\n",
@@ -150,7 +150,14 @@ fn each_session_has_a_user_of_its_own(rt: HostRuntime) -> Result<(), Fail> {
 #[test]
 fn nobody_makes_puts_and_gets_nothing(rt: HostRuntime) -> Result<(), Fail> {
     let alloc = rt.alloc();
-    follows(&rt, alloc, &with_folk(alloc)?, &NOBODY, 0, b"/a\n/b\n/l\n")
+    follows(
+        &rt,
+        alloc,
+        &with_folk(&rt, alloc)?,
+        &NOBODY,
+        0,
+        b"/a\n/b\n/l\n",
+    )
 }
 
 #[test]
@@ -159,7 +166,7 @@ fn refusals_come_in_order(rt: HostRuntime) -> Result<(), Fail> {
     follows(
         &rt,
         alloc,
-        &with_folk(alloc)?,
+        &with_folk(&rt, alloc)?,
         &IN_ORDER,
         12,
         b"/a\n/b\n/l\n/b/f\n",
@@ -172,7 +179,7 @@ fn an_object_is_its_makers_own(rt: HostRuntime) -> Result<(), Fail> {
     follows(
         &rt,
         alloc,
-        &with_folk(alloc)?,
+        &with_folk(&rt, alloc)?,
         &OF_OBJECTS,
         15,
         b"/a/f\n/l/f\n/a/g\n/a\n/b\n/l\n",
@@ -185,7 +192,7 @@ fn a_collection_hands_on_what_it_has(rt: HostRuntime) -> Result<(), Fail> {
     follows(
         &rt,
         alloc,
-        &with_folk(alloc)?,
+        &with_folk(&rt, alloc)?,
         &OF_COLLECTIONS,
         14,
         b"/l/c/d/f\n/a\n/b\n/l\n/l/c\n/l/c/d\n/l/c/d/e\n/a/p\n/a/p/q\n",

@@ -193,7 +193,7 @@ pub(crate) fn serves(
     compare(rt, alloc, played, wanted)
 }
 
-// Serves these requests, each with its body, over main: each has its reply.
+// Serves these requests, each with its body, over main, which one run was served over: each has its reply.
 pub(crate) fn follows(
     rt: &impl Abort,
     alloc: Global,
@@ -208,7 +208,7 @@ pub(crate) fn follows(
         input.extend_from_slice(request)?;
         replies.extend_from_slice(reply)?;
     }
-    serves(rt, alloc, main, &input, done(1, &replies, last, paths))?;
+    serves(rt, alloc, main, &input, done(2, &replies, last, paths))?;
     Ok(())
 }
 
@@ -334,6 +334,18 @@ pub(crate) fn begun_of(alloc: Global, stores: u8) -> Result<Vec<u8>, JournalErro
 // Main of a new grid with one store.
 pub(crate) fn begun(alloc: Global) -> Result<Vec<u8>, JournalError> {
     begun_of(alloc, 1)
+}
+
+// The same behind a first run, which made the leaf `d0` on that store.
+pub(crate) fn begun_with_leaf(rt: &impl Abort, alloc: Global) -> Result<Vec<u8>, Fail> {
+    let input = b"0 login rods\n0 mkresc d0 unixfilesystem 0\n";
+    serves(
+        rt,
+        alloc,
+        &begun(alloc)?,
+        input,
+        done(1, b"1 ok\n2 ok\n", 2, b""),
+    )
 }
 
 // The bytes with one more record behind their last gate.

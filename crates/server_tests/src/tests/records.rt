@@ -1,5 +1,5 @@
 // Which records a run adds to main: one for each change that is kept, and none for what is refused.
-use super::bytes_of_main::RUN_1;
+use super::bytes_of_main::RUN_2;
 use super::files::{failing, play_on};
 use super::levels::with_folk;
 use super::playing::with_record;
@@ -11,8 +11,8 @@ use std::test::Fail;
 // Requests that are refused, and such as change nothing.
 const REFUSED: &[u8] =
     b"0 login nobody\n0 logout\n0 mkdir /x\n0 get /x -\n0 put /x d0 new 1\nx0 login rods\n1 login alice\n2 login bob\n\
-0 mkdir /\n0 mkdir /none/x\n0 mkdir x\n0 foo\n0 ls /\n\n\x000\n0 put /tempZone d0 new 1\nx0 put /f d9 new 0\n0 put /f d0 over 1\nx\
-0 get /none -\n1 mkdir /b/x\n1 put /b/x d0 new 0\n2 mkdir /l/x\n0 logout\n9 quit\n";
+0 mkdir /\n0 mkdir /none/x\n0 mkdir x\n0 foo\n0 ls /\n\n\x000\n0 put /tempZone d0 new 1\nx0 put /f d9 new 0\n0 put / d0 over 1\nx\
+0 trim /none d0\n0 rm /none\n0 sweep\n0 get /none -\n1 mkdir /b/x\n1 put /b/x d0 new 0\n2 mkdir /l/x\n0 logout\n9 quit\n";
 
 // Two collections where access is handed on: each has what the one above it has, and own for its maker.
 const MAKES: &[u8] = b"0 login alice\n0 mkdir /l/c\n0 mkdir /l/c/d\n";
@@ -21,19 +21,19 @@ const MADE_C: &[u8] = b"\x05\0\0\0\0\0\0\0\x07\0\0\0\0\0\0\0\x06\0\0\0\0\0\0\0\x
 \x0D\x02\0\0\0\0\0\0\0\x07\0\0\0\x02\x01\
 \x0D\x02\0\0\0\0\0\0\0\x07\0\0\0\x08\x02\
 \x0D\x02\0\0\0\0\0\0\0\x07\0\0\0\x07\x03\
-\x13\0\0\0\0\0\0\0\x01\0\0\0\0\0\0\0\x01\0\0\0\0\0\0\0\x02";
+\x13\0\0\0\0\0\0\0\x01\0\0\0\0\0\0\0\x02\0\0\0\0\0\0\0\x02";
 
 const MADE_D: &[u8] = b"\x05\0\0\0\0\0\0\0\x08\0\0\0\0\0\0\0\x07\0\0\0\0\0\0\0\x01d\x01\
 \x0D\x02\0\0\0\0\0\0\0\x08\0\0\0\x02\x01\
 \x0D\x02\0\0\0\0\0\0\0\x08\0\0\0\x08\x02\
 \x0D\x02\0\0\0\0\0\0\0\x08\0\0\0\x07\x03\
-\x13\0\0\0\0\0\0\0\x01\0\0\0\0\0\0\0\x01\0\0\0\0\0\0\0\x03";
+\x13\0\0\0\0\0\0\0\x01\0\0\0\0\0\0\0\x02\0\0\0\0\0\0\0\x03";
 
 // A body that is put and sent: the file is an orphan before it is made, and then an object's. The get keeps its number.
 const PUTS: &[u8] =
     b"0 login rods\n0 put /tempZone/home/rods/o d0 new 3\nabc0 get /tempZone/home/rods/o d0\n";
 
-const ORPHAN: &[u8] = b"\x13\0\0\0\0\0\0\0\x02\0\0\0\0\0\0\0\x01\0\0\0\0\0\0\0\0\
+const ORPHAN: &[u8] = b"\x13\0\0\0\0\0\0\0\x02\0\0\0\0\0\0\0\x02\0\0\0\0\0\0\0\0\
 \x11\0\0\0\0\0\0\0\x01\0";
 
 const OBJECT: &[u8] =
@@ -45,12 +45,12 @@ const OBJECT: &[u8] =
 \x09\0\0\0\0\0\0\0\x01\0\0\0\0\0\0\0\x01\x01\0\0\0\0\0\0\0\x03\
 \xBA\x78\x16\xBF\x8F\x01\xCF\xEA\x41\x41\x40\xDE\x5D\xAE\x22\x23\xB0\x03\x61\xA3\x96\x17\x7A\x9C\xB4\x10\xFF\x61\xF2\x00\x15\xAD\
 \0\0\0\0\0\0\0\x01\
-\x13\0\0\0\0\0\0\0\x02\0\0\0\0\0\0\0\x01\0\0\0\0\0\0\0\x02";
+\x13\0\0\0\0\0\0\0\x02\0\0\0\0\0\0\0\x02\0\0\0\0\0\0\0\x02";
 
-const KEPT_GET: &[u8] = b"\x13\0\0\0\0\0\0\0\x02\0\0\0\0\0\0\0\x01\0\0\0\0\0\0\0\x03";
+const KEPT_GET: &[u8] = b"\x13\0\0\0\0\0\0\0\x02\0\0\0\0\0\0\0\x02\0\0\0\0\0\0\0\x03";
 
 // The put alone keeps its number where its store failed, and the file stays an orphan.
-const KEPT_FAULT: &[u8] = b"\x13\0\0\0\0\0\0\0\x02\0\0\0\0\0\0\0\x01\0\0\0\0\0\0\0\x02";
+const KEPT_FAULT: &[u8] = b"\x13\0\0\0\0\0\0\0\x02\0\0\0\0\0\0\0\x02\0\0\0\0\0\0\0\x02";
 
 // A body that is put where access is handed on.
 const PUTS_IN_L: &[u8] = b"0 login alice\n0 put /l/f d0 new 3\nabc";
@@ -66,7 +66,7 @@ const OBJECT_IN_L: &[u8] =
 \x09\0\0\0\0\0\0\0\x01\0\0\0\0\0\0\0\x01\x01\0\0\0\0\0\0\0\x03\
 \xBA\x78\x16\xBF\x8F\x01\xCF\xEA\x41\x41\x40\xDE\x5D\xAE\x22\x23\xB0\x03\x61\xA3\x96\x17\x7A\x9C\xB4\x10\xFF\x61\xF2\x00\x15\xAD\
 \0\0\0\0\0\0\0\x01\
-\x13\0\0\0\0\0\0\0\x02\0\0\0\0\0\0\0\x01\0\0\0\0\0\0\0\x02";
+\x13\0\0\0\0\0\0\0\x02\0\0\0\0\0\0\0\x02\0\0\0\0\0\0\0\x02";
 
 // Serves the input over this grid and a store of which the call of this number fails. The run adds these records.
 fn adds(
@@ -79,7 +79,7 @@ fn adds(
 ) -> Result<(), Fail> {
     let played = play_on(alloc, main, input, failing(alloc, call)?, 0)?;
     assert_eq!(rt; played.status, Status::Done);
-    let mut wanted = with_record(alloc, main, RUN_1)?;
+    let mut wanted = with_record(alloc, main, RUN_2)?;
     for record in records {
         wanted = with_record(alloc, &wanted, record)?;
     }
@@ -90,7 +90,7 @@ fn adds(
 #[test]
 fn a_run_adds_a_record_for_each_change(rt: HostRuntime) -> Result<(), Fail> {
     let alloc = rt.alloc();
-    let main = with_folk(alloc)?;
+    let main = with_folk(&rt, alloc)?;
     let none: &[&[u8]] = &[];
     let made: &[&[u8]] = &[MADE_C, MADE_D];
     let put: &[&[u8]] = &[ORPHAN, OBJECT, KEPT_GET];

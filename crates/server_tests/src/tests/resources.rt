@@ -1,5 +1,5 @@
 // Where a put goes, and from where a get comes.
-use super::playing::{begun, follows, with_record};
+use super::playing::{begun, begun_with_leaf, done, follows, serves, with_record};
 use std::test::Fail;
 
 // The replication `r` over the leaves `d1`, `d2`, which is down, and `d3`; the passthru `p` over nothing; and the leaf `d4`.
@@ -56,6 +56,29 @@ const PUTS_AND_GETS: [(&[u8], &[u8]); 18] = [
 #[test]
 fn a_put_goes_to_the_leaves_of_its_resource(rt: HostRuntime) -> Result<(), Fail> {
     let alloc = rt.alloc();
-    let main = with_record(alloc, &begun(alloc)?, TREE)?;
+    let main = with_record(alloc, &begun_with_leaf(&rt, alloc)?, TREE)?;
     follows(&rt, alloc, &main, &PUTS_AND_GETS, 18, b"/f\n/g\n")
+}
+
+// A new grid has no resource, so that nothing is put until one is made.
+const FIRST: (&[u8], &[u8]) = (
+    b"0 login rods\n0 put /f d0 new 1\nx0 addchild d0 d0\n0 modresc d0 up\n0 ls /\n\
+0 mkresc d0 unixfilesystem 0\n0 put /f d0 new 1\nx0 ls /f\n",
+    b"1 ok\n2 err NoResource\n3 err NoResource\n4 err NoResource\n5 row C /tempZone\n5 ok\n\
+6 ok\n7 mark ran 0 1000\n7 ok\n\
+8 row D /f 0 d0 1 & sha2:LXEWQrcmsEQBYnyp+6wy9chTD7GQPMTbAiWHF5IaSIE=\n8 ok\n",
+);
+
+#[test]
+fn a_new_grid_has_no_resource(rt: HostRuntime) -> Result<(), Fail> {
+    let alloc = rt.alloc();
+    let (input, replies) = FIRST;
+    serves(
+        &rt,
+        alloc,
+        &begun(alloc)?,
+        input,
+        done(1, replies, 7, b"/f\n"),
+    )?;
+    Ok(())
 }

@@ -3,7 +3,7 @@ ghost use Rattle.std.specs.Prelude.{◌≡◌, ◌<◌, ◌≤◌, vec_len};
 ghost use Rattle.grid_outside.specs.Device.{EachMember};
 ghost use Rattle.grid_mem.specs.MemDisk.{disk_of};
 
-use super::playing::{PLAIN, SERVE, begun, copy_words, goes_on, kept_on, outside_of};
+use super::playing::{PLAIN, SERVE, begun_with_leaf, copy_words, goes_on, kept_on, outside_of};
 use grid_mem::{Call, DiskDeed, MemAmbient, MemDisk, MemFiles, MemSink, MemSource, MemStore};
 use grid_outside::{Outside, Plugin, add_store};
 use grid_server::{Status, run};
@@ -37,39 +37,39 @@ struct Step {
 }
 
 const NEW: Stand = Stand {
-    run: 0,
-    last: 0,
+    run: 1,
+    last: 2,
     paths: b"",
 };
 
 const BEGUN: Stand = Stand {
-    run: 1,
+    run: 2,
     last: 0,
     paths: b"",
 };
 
 const WITH_A: Stand = Stand {
-    run: 1,
+    run: 2,
     last: 2,
     paths: A,
 };
 
 // The orphan of a put changes none of these.
 const WITH_F: Stand = Stand {
-    run: 1,
+    run: 2,
     last: 4,
     paths: F_AND_A,
 };
 
 // The get keeps its number alone.
 const WITH_GET: Stand = Stand {
-    run: 1,
+    run: 2,
     last: 5,
     paths: F_AND_A,
 };
 
 const WITH_B: Stand = Stand {
-    run: 1,
+    run: 2,
     last: 6,
     paths: ALL,
 };
@@ -311,7 +311,7 @@ fn images_of_all(rt: &impl Abort, alloc: Global, new: &[u8], main: &MemDisk) -> 
 #[test]
 fn a_stop_at_any_byte_leaves_what_was_told(rt: HostRuntime) -> Result<(), Fail> {
     let alloc = rt.alloc();
-    let new = begun(alloc)?;
+    let new = begun_with_leaf(&rt, alloc)?;
     let store = MemStore::new(alloc, MemFiles::new(Vec::new(alloc)), Vec::new(alloc))?;
     let mut stores: Vec<Box<dyn Plugin>> = Vec::new(alloc);
     add_store(&mut stores, Box::new(alloc, store)?)?;

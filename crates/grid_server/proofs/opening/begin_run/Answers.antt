@@ -6,10 +6,10 @@ use Rattle.grid_model.specs.declared.deltas.Numbers.{Numbers}
 use Rattle.grid_journal.specs.Stands.{StandsEither}
 use Rattle.grid_server.specs.declared.opening.BeginError.{BeginError}
 use Rattle.grid_server.specs.Opening.{BeginEnds}
-use Rattle.run_laws.specs.Sofar.{begun}
+use Rattle.run_laws.specs.Sofar.{run_begun}
 use Rattle.grid_deed.proofs.Frames.{goes_nowhere, goes_between, room_committed, room_same, small_gate}
 use Rattle.grid_server.proofs.RestLemmas.{keeps_stands, rests_same, rests_where, of_commit}
-use Rattle.grid_server.proofs.OpeningLemmas.{is_begun, begun_well, begun_in_vain, room_of}
+use Rattle.grid_server.proofs.OpeningLemmas.{is_begun, begun_well, begun_in_vain, one_record, room_of}
 use Rattle.grid_server.specs.Stopping.{begin_error_of}
 use Rattle.grid_journal.specs.declared.error.JournalError.TheVariants as journal
 use Rattle.grid_outside.specs.declared.outside.Wear.TheVariants.{Log}
@@ -23,7 +23,7 @@ returns-then-last-clause-begins g c =
     record {
       ends = (rests_same main, ap (λ (n : Numbers). n.run) last, c.if-last.true);
       main = goes_nowhere c.args.moments.now main;
-      leaves = λ told settled. leaves_start c.args.moments.now (StandsEither found (begun found)) main c.requires.main_last settled (inl (keeps_stands found c.args.store main.holds (c.requires.keeps told)));
+      leaves = λ told settled. leaves_start c.args.moments.now (StandsEither found (run_begun found)) main c.requires.main_last settled (inl (keeps_stands found c.args.store main.holds (c.requires.keeps told)));
     }
 
 pub returns-in_default-clause-begins : goal.returns-in_default-clause-begins
@@ -33,7 +33,7 @@ returns-in_default-clause-begins g c =
     record {
       ends = rests_same main;
       main = goes_nowhere c.args.moments.now main;
-      leaves = λ told settled. leaves_start c.args.moments.now (StandsEither found (begun found)) main c.requires.main_last settled (inl (keeps_stands found c.args.store main.holds (c.requires.keeps told)));
+      leaves = λ told settled. leaves_start c.args.moments.now (StandsEither found (run_begun found)) main c.requires.main_last settled (inl (keeps_stands found c.args.store main.holds (c.requires.keeps told)));
     }
 
 pub returns-in_default-one-clause-begins : goal.returns-in_default-one-clause-begins
@@ -43,7 +43,7 @@ returns-in_default-one-clause-begins g c =
     record {
       ends = rests_same main;
       main = goes_nowhere c.args.moments.now main;
-      leaves = λ told settled. leaves_start c.args.moments.now (StandsEither found (begun found)) main c.requires.main_last settled (inl (keeps_stands found c.args.store main.holds (c.requires.keeps told)));
+      leaves = λ told settled. leaves_start c.args.moments.now (StandsEither found (run_begun found)) main c.requires.main_last settled (inl (keeps_stands found c.args.store main.holds (c.requires.keeps told)));
     }
 
 pub begin_error_of-requires : goal.begin_error_of-requires
@@ -59,9 +59,13 @@ returns-in-Ok-commit-clause-begins g c =
     record {
       ends =
           begun_well store c.commit.new.self c.in-Ok-one.deltas main_old main_new c.in-Ok.sessions c.requires.made c.requires.pending c.requires.rules c.in-Ok.ensures is done.commits (λ told. done.keeps told store.cat (c.requires.keeps told)) done.span.tells done.settled
-          (room_of store main_old (λ e. c.if-last.false (ap (λ (n : Numbers). n.run) (c.numbers-last.ensures ∙ ap (λ (c : Cat). c.numbers) c.tables.ensures) ∙ e)) (λ far. (let worn = (done.worn Log store.log.gate).1 (refl, refl, far) in cc)) c.requires.keeps);
+          (room_of store main_old (λ e. c.if-last.false (ap (λ (n : Numbers). n.run) (c.numbers-last.ensures ∙ ap (λ (c : Cat). c.numbers) c.tables.ensures) ∙ e)) (λ far. (let worn = (done.worn Log store.log.gate).1 (refl, refl, far) in cc)) c.requires.keeps)
+          (λ told. (
+              let k = c.requires.keeps told in
+              one_record store c.commit.new.self c.in-Ok-one.deltas main_old.holds main_new.holds k (done.keeps told store.cat k) (done.added told store.cat k)
+              ));
       main = goes_between c.args.moments.now _ _ main_old main_new done.span;
-      leaves = λ told settled. done.any_moment told settled store.cat (begun store.cat) (c.requires.keeps told) is;
+      leaves = λ told settled. done.any_moment told settled store.cat (run_begun store.cat) (c.requires.keeps told) is;
     }
 
 pub returns-in-Err-clause-begins : goal.returns-in-Err-clause-begins
@@ -80,7 +84,7 @@ returns-in-Err-clause-begins g c =
           (λ e. c.if-last.false (ap (λ (n : Numbers). n.run) (c.numbers-last.ensures ∙ ap (λ (c : Cat). c.numbers) c.tables.ensures) ∙ e)) (λ disk far. (let worn = (done.worn Log store.log.gate).1 (refl, refl, far) in cc))
           (λ what at e. (((done.worn what at).0 (ap Err e)).1, omega (arith, ((done.worn what at).0 (ap Err e)).1, ((done.worn what at).0 (ap Err e)).2))) c.requires.keeps);
       main = goes_between c.args.moments.now _ _ main_old main_new done.span;
-      leaves = λ told settled. done.any_moment told settled store.cat (begun store.cat) (c.requires.keeps told) is;
+      leaves = λ told settled. done.any_moment told settled store.cat (run_begun store.cat) (c.requires.keeps told) is;
     }
 
 pub commit-requires-clause-apply : goal.commit-requires-clause-apply

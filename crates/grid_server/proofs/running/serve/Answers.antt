@@ -3,7 +3,7 @@ use Rattle.grid_model.specs.Names.{Text}
 use Rattle.grid_model.specs.Rows.{Cat}
 use Rattle.grid_outside.specs.declared.outside.Wear.TheVariants.{Log}
 use Rattle.grid_model.specs.declared.grid.Side.TheVariants.{Main}
-use Rattle.grid_deed.specs.Held.{ClosesAt}
+use Rattle.grid_journal.specs.Journal.{ClosesAt}
 use Rattle.grid_headline.specs.Ends.{HasRunOut, RunEnd}
 use Rattle.grid_headline.specs.Headline.{Serves}
 use Rattle.run_laws.specs.declared.around.Around.{Around}

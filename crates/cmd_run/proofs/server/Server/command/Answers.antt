@@ -9,8 +9,8 @@ use Rattle.grid_model.specs.Runs.{Request}
 use Rattle.grid_model.specs.Working.{well}
 use Rattle.grid_model.specs.declared.replies.End.TheVariants as end
 use Rattle.grid_model.specs.declared.refusal.Refusal.TheVariants as refusal
-use Rattle.grid_model.specs.declared.grid.Mode.TheVariants.{New, Over}
 use Rattle.grid_model.specs.declared.requests.Verb.TheVariants as verb
+use Rattle.run_laws.specs.Steps.{IsNoSweep}
 use Rattle.cmd_run.specs.Asking.{AsksForRequest, IsForm}
 use Rattle.cmd_run.specs.Fits.{state_of}
 use Rattle.cmd_run.specs.Obeys.{SaysOnly}
@@ -45,26 +45,16 @@ returns-in-Quit-clause-obeys g c = λ source request asks.
     let E : _ → Type 0 = λ e. SaysOnly (state_of s) request e (state_of s) in
     c.say-in-Quit.ensures.obeys source request s refl (subst E (sym c.well.ensures.is) (subst Q (sym (its.1 ∙ ap (λ (o : Order). Ok (c.in-Ok.request.session, o)) its.2.1)) (says_quit s c.in-Ok.request.session)))
 
-pub returns-in-New-clause-obeys : goal.returns-in-New-clause-obeys
-returns-in-New-clause-obeys g c = λ source request asks.
+pub returns-in-Put-clause-obeys : goal.returns-in-Put-clause-obeys
+returns-in-Put-clause-obeys g c = λ source request asks.
     let p = c.in-Put in
-    let is = p.is ∙ ap (λ m. verb.Put p.path p.resource m p.count) (sym p.mode-is ∙ c.in-New.is) in
-    let its = verb_asks (state_of c.args.self.now) c.args.asked c.args.body request c.in-Ok.request (verb.Put p.path p.resource New p.count) c.in-Ok.is is asks in
+    let its = verb_asks (state_of c.args.self.now) c.args.asked c.args.body request c.in-Ok.request (verb.Put p.path p.resource p.mode p.count) c.in-Ok.is p.is asks in
     c.put_line.ensures.obeys source request (
       its.2.0,
       its.1 ∙ ap (λ (o : Order). Ok (c.in-Ok.request.session, o)) its.2.1
-          ∙ (λ i. Ok (c.in-Ok.request.session, works (put (sym p.path-is i) (sym p.resource-is i) New its.2.0) (sym p.count-is i))),
+          ∙ (λ i. Ok (c.in-Ok.request.session, works (put (sym p.path-is i) (sym p.resource-is i) (sym p.mode-is i) its.2.0) (sym p.count-is i))),
       λ small. its.2.2 (subst (λ n. nat_le n object_size ≡ true) p.count-is small),
     )
-
-pub returns-in-Over-clause-obeys : goal.returns-in-Over-clause-obeys
-returns-in-Over-clause-obeys g c = λ source request asks.
-    let s = c.args.self.now in
-    let p = c.in-Put in
-    let is = p.is ∙ ap (λ m. verb.Put p.path p.resource m p.count) (sym p.mode-is ∙ c.in-Over.is) in
-    let its = verb_asks (state_of c.args.self.now) c.args.asked c.args.body request c.in-Ok.request (verb.Put p.path p.resource Over p.count) c.in-Ok.is is asks in
-    let Q : Request → Type 0 = λ x. SaysOnly (state_of s) x (end.Refused refusal.UnknownCommand) (state_of s) in
-    c.say-in-Over.ensures.obeys source request s refl (subst Q (sym its) (says_refused s 0 refusal.UnknownCommand tt))
 
 pub returns-in-Get-clause-obeys : goal.returns-in-Get-clause-obeys
 returns-in-Get-clause-obeys g c = λ source request asks.
@@ -88,9 +78,6 @@ returns-in-Logout-clause-untouched g c place is = absurd ((c.logout.ensures.worn
 pub returns-in-Quit-clause-untouched : goal.returns-in-Quit-clause-untouched
 returns-in-Quit-clause-untouched g c place is = absurd ((c.say-in-Quit.ensures.worn no_source (Ok (0, logs_out)) c.args.self.now Vaults place is).3)
 
-pub returns-in-Over-clause-untouched : goal.returns-in-Over-clause-untouched
-returns-in-Over-clause-untouched g c place is = absurd ((c.say-in-Over.ensures.worn no_source (Ok (0, logs_out)) c.args.self.now Vaults place is).3)
-
 pub returns-in-Get-clause-untouched : goal.returns-in-Get-clause-untouched
 returns-in-Get-clause-untouched g c place is = absurd ((c.get_for.ensures.worn no_source (Ok (0, logs_out)) Vaults place is).3)
 
@@ -106,18 +93,14 @@ returns-in-Logout-clause-idle g c = λ request asks refused. (c.logout.ensures.r
 pub returns-in-Quit-clause-idle : goal.returns-in-Quit-clause-idle
 returns-in-Quit-clause-idle g c = λ request asks refused. (c.say-in-Quit.ensures.rows, c.say-in-Quit.ensures.stores)
 
-pub returns-in-Over-clause-idle : goal.returns-in-Over-clause-idle
-returns-in-Over-clause-idle g c = λ request asks refused. (c.say-in-Over.ensures.rows, c.say-in-Over.ensures.stores)
-
-pub returns-in-New-clause-idle : goal.returns-in-New-clause-idle
-returns-in-New-clause-idle g c = λ request asks.
+pub returns-in-Put-clause-idle : goal.returns-in-Put-clause-idle
+returns-in-Put-clause-idle g c = λ request asks.
     let p = c.in-Put in
-    let is = p.is ∙ ap (λ m. verb.Put p.path p.resource m p.count) (sym p.mode-is ∙ c.in-New.is) in
-    let its = verb_asks (state_of c.args.self.now) c.args.asked c.args.body request c.in-Ok.request (verb.Put p.path p.resource New p.count) c.in-Ok.is is asks in
+    let its = verb_asks (state_of c.args.self.now) c.args.asked c.args.body request c.in-Ok.request (verb.Put p.path p.resource p.mode p.count) c.in-Ok.is p.is asks in
     c.put_line.ensures.idle request (
       its.2.0,
       its.1 ∙ ap (λ (o : Order). Ok (c.in-Ok.request.session, o)) its.2.1
-          ∙ (λ i. Ok (c.in-Ok.request.session, works (put (sym p.path-is i) (sym p.resource-is i) New its.2.0) (sym p.count-is i))),
+          ∙ (λ i. Ok (c.in-Ok.request.session, works (put (sym p.path-is i) (sym p.resource-is i) (sym p.mode-is i) its.2.0) (sym p.count-is i))),
       λ small. its.2.2 (subst (λ n. nat_le n object_size ≡ true) p.count-is small),
     )
 
@@ -142,6 +125,66 @@ returns-in-Ls-clause-idle g c = λ request asks refused. (c.list.ensures.rows, c
 pub returns-in-Ls-clause-untouched : goal.returns-in-Ls-clause-untouched
 returns-in-Ls-clause-untouched g c place is = absurd ((c.list.ensures.worn no_source (Ok (0, logs_out)) Vaults place is).3)
 
+pub returns-in-Err-clause-call : goal.returns-in-Err-clause-call
+returns-in-Err-clause-call g c = λ told settled t main d late left stands. (c.say.ensures.remembers told settled t main d late left stands).0
+
+pub returns-in-Err-clause-remembers : goal.returns-in-Err-clause-remembers
+returns-in-Err-clause-remembers g c = λ request asks no_sweep. c.say.ensures.remembers
+
+pub returns-in-Login-clause-call : goal.returns-in-Login-clause-call
+returns-in-Login-clause-call g c = λ told settled t main d late left stands. (c.login.ensures.remembers told settled t main d late left stands).0
+
+pub returns-in-Login-clause-remembers : goal.returns-in-Login-clause-remembers
+returns-in-Login-clause-remembers g c = λ request asks no_sweep. c.login.ensures.remembers
+
+pub returns-in-Logout-clause-call : goal.returns-in-Logout-clause-call
+returns-in-Logout-clause-call g c = λ told settled t main d late left stands. (c.logout.ensures.remembers told settled t main d late left stands).0
+
+pub returns-in-Logout-clause-remembers : goal.returns-in-Logout-clause-remembers
+returns-in-Logout-clause-remembers g c = λ request asks no_sweep. c.logout.ensures.remembers
+
+pub returns-in-Quit-clause-call : goal.returns-in-Quit-clause-call
+returns-in-Quit-clause-call g c = λ told settled t main d late left stands. (c.say-in-Quit.ensures.remembers told settled t main d late left stands).0
+
+pub returns-in-Quit-clause-remembers : goal.returns-in-Quit-clause-remembers
+returns-in-Quit-clause-remembers g c = λ request asks no_sweep. c.say-in-Quit.ensures.remembers
+
+pub returns-in-Put-clause-call : goal.returns-in-Put-clause-call
+returns-in-Put-clause-call g c = λ told settled t main d late left stands. (c.put_line.ensures.remembers told settled t main d late left stands).0
+
+pub returns-in-Put-clause-remembers : goal.returns-in-Put-clause-remembers
+returns-in-Put-clause-remembers g c = λ request asks no_sweep. c.put_line.ensures.remembers
+
+pub returns-in-Ls-clause-call : goal.returns-in-Ls-clause-call
+returns-in-Ls-clause-call g c = λ told settled t main d late left stands. (c.list.ensures.remembers told settled t main d late left stands).0
+
+pub returns-in-Ls-clause-remembers : goal.returns-in-Ls-clause-remembers
+returns-in-Ls-clause-remembers g c = λ request asks no_sweep. c.list.ensures.remembers
+
+pub returns-in-Get-clause-call : goal.returns-in-Get-clause-call
+returns-in-Get-clause-call g c = λ told settled t main d late left stands. (c.get_for.ensures.remembers told settled t main d late left stands).0
+
+pub returns-in-Get-clause-remembers : goal.returns-in-Get-clause-remembers
+returns-in-Get-clause-remembers g c = λ request asks no_sweep. c.get_for.ensures.remembers
+
+pub returns-in-Sweep-clause-obeys : goal.returns-in-Sweep-clause-obeys
+returns-in-Sweep-clause-obeys g c = λ source request asks.
+    let its = verb_asks (state_of c.args.self.now) c.args.asked c.args.body request c.in-Ok.request verb.Sweep c.in-Ok.is c.in-Sweep.is asks in
+    c.sweep.ensures.obeys source request (its.1 ∙ ap (λ (o : Order). Ok (c.in-Ok.request.session, o)) its.2.1)
+
+pub returns-in-Sweep-clause-remembers : goal.returns-in-Sweep-clause-remembers
+returns-in-Sweep-clause-remembers g c = λ request asks no_sweep.
+    let its = verb_asks (state_of c.args.self.now) c.args.asked c.args.body request c.in-Ok.request verb.Sweep c.in-Ok.is c.in-Sweep.is asks in
+    absurd (subst IsNoSweep (its.1 ∙ ap (λ (o : Order). Ok (c.in-Ok.request.session, o)) its.2.1) no_sweep)
+
+pub returns-in-Sweep-clause-idle : goal.returns-in-Sweep-clause-idle
+returns-in-Sweep-clause-idle g c = λ request asks.
+    let its = verb_asks (state_of c.args.self.now) c.args.asked c.args.body request c.in-Ok.request verb.Sweep c.in-Ok.is c.in-Sweep.is asks in
+    c.sweep.ensures.idle request (its.1 ∙ ap (λ (o : Order). Ok (c.in-Ok.request.session, o)) its.2.1)
+
+pub returns-in-Sweep-clause-untouched : goal.returns-in-Sweep-clause-untouched
+returns-in-Sweep-clause-untouched g c place is = absurd ((c.sweep.ensures.worn no_source (Ok (0, logs_out)) Vaults place is).3)
+
 pub returns-in_default : goal.returns-in_default
 returns-in_default g c =
     let n = c.in_default in
@@ -149,13 +192,14 @@ returns-in_default g c =
     let other = asks_other (state_of c.args.self.now) c.args.asked c.args.body in
     record {
       obeys = λ source request asks. w.obeys source request
-          (other request c.in-Ok.request c.in-Ok.is n.not-Login n.not-Logout n.not-Quit n.not-Ls n.not-Put n.not-Get asks);
+          (other request c.in-Ok.request c.in-Ok.is n.not-Login n.not-Logout n.not-Quit n.not-Sweep n.not-Ls n.not-Put n.not-Get asks);
       worn = λ source request asks. w.worn source request;
-      remembers = w.remembers;
+      call = λ told settled t main d late left stands. (w.remembers told settled t main d late left stands).0;
+      remembers = λ request asks no_sweep. w.remembers;
       whole = w.whole;
       passes = w.passes;
       idle = λ request asks. w.idle request
-          (other request c.in-Ok.request c.in-Ok.is n.not-Login n.not-Logout n.not-Quit n.not-Ls n.not-Put n.not-Get asks);
+          (other request c.in-Ok.request c.in-Ok.is n.not-Login n.not-Logout n.not-Quit n.not-Sweep n.not-Ls n.not-Put n.not-Get asks);
       untouched = λ place is. absurd ((w.worn no_source (Ok (0, logs_out)) Vaults place is).3);
       drawn = omega (arith, w.drawn);
     }

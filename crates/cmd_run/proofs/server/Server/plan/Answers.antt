@@ -1,14 +1,13 @@
-use Rattle.std.proofs.Common.{◌≡◌, ◌+◌, ℕ, None, Ok, Err, length, refl, sym, ap, ◌∙◌, subst, arith}
+use Rattle.std.proofs.Common.{◌≡◌, ◌+◌, ℕ, Ok, Err, length, refl, sym, ap, ◌∙◌, subst, arith}
 use Rattle.sha2.specs.Sha256.{sha256}
 use Rattle.grid_model.specs.Digests.{HasDigest}
-use Rattle.grid_model.specs.RowPaths.{object_at}
 use Rattle.grid_model.specs.Rows.{Cat}
 use Rattle.grid_model.specs.RowGrids.{user_name}
 use Rattle.grid_model.specs.declared.deltas.Numbers.{Numbers}
 use Rattle.plan_object.specs.Writing.{FindsTargets, GoesOnlyTo, PlansWriting}
 use Rattle.plan_object.proofs.PutDeeds.{writes_put}
 use Rattle.cmd_run.specs.Puts.{wanted}
-use Rattle.cmd_run.proofs.PutLemmas.{new_is_free, plans_of}
+use Rattle.cmd_run.proofs.PutLemmas.{plans_of}
 use Rattle.cmd_run.proofs.server.Server.plan.Goals as goal
 
 pub unreachable-requires : goal.unreachable-requires
@@ -19,14 +18,6 @@ unreachable-requires c =
     let refused = subst F (c.in-Err-Refused.is ∙ ap Err c.in-Err-Refused.field-0-is) c.targets.ensures in
     let both = sym (refused p.body refl) ∙ c.requires.goes.1.row_is p.body refl in
     cc
-
-pub plan_put-requires-clause-new : goal.plan_put-requires-clause-new
-plan_put-requires-clause-new c =
-    let cat = c.args.self.now.store.cat in
-    let p = c.args.putting.now in
-    let F : Cat → Type 0 = λ x. object_at x p.path ≡ None in
-    let goes = c.requires.goes.1 in
-    subst F (sym c.tables.ensures) (new_is_free cat c.requires.made (user_name cat p.user) p.path p.resource p.body _ (goes.row_is p.body refl))
 
 pub returns : goal.returns
 returns c =

@@ -7,7 +7,6 @@ use Rattle.grid_model.specs.Names.{Text}
 use Rattle.grid_model.specs.Operations.Table.{put}
 use Rattle.grid_model.specs.Orders.{logs_out, works}
 use Rattle.grid_model.specs.Runs.{Request}
-use Rattle.grid_model.specs.declared.grid.Mode.TheVariants.{New}
 use Rattle.grid_model.specs.declared.replies.End.TheVariants as end
 use Rattle.grid_model.specs.declared.refusal.Refusal.TheVariants as refusal
 use Rattle.cmd_run.specs.Fits.{state_of}
@@ -22,7 +21,7 @@ returns-in_default-clause-obeys g c = λ source request asks.
     let s = c.args.self.now in
     let l = c.args.line in
     let Q : Request → Type 0 = λ r. SaysOnly (state_of s) r (end.Refused refusal.NoLogin) (state_of s) in
-    c.say.ensures.obeys source request s refl (subst Q (sym asks.1) (says_no_login s c.args.session (works (put l.path l.resource New asks.0) l.count) (sym c.in_default.ensures) refl))
+    c.say.ensures.obeys source request s refl (subst Q (sym asks.1) (says_no_login s c.args.session (works (put l.path l.resource l.mode asks.0) l.count) (sym c.in_default.ensures) refl))
 
 pub returns-then-line-gt-OBJECT_SIZE-clause-obeys : goal.returns-then-line-gt-OBJECT_SIZE-clause-obeys
 returns-then-line-gt-OBJECT_SIZE-clause-obeys g c = λ source request asks.
@@ -30,7 +29,7 @@ returns-then-line-gt-OBJECT_SIZE-clause-obeys g c = λ source request asks.
     let l = c.args.line in
     let Q : Request → Type 0 = λ r. SaysOnly (state_of s) r (end.Refused (refusal.TooLarge object_size)) (state_of s) in
     c.say-then-line-gt-OBJECT_SIZE.ensures.obeys source request s refl
-    (subst Q (sym asks.1) (says_too_large s c.args.session c.in-Some.user (sym c.in-Some.ensures) (put l.path l.resource New asks.0) l.count (not_le l.count object_size (omega (arith, c.if-line-gt-OBJECT_SIZE.true)))))
+    (subst Q (sym asks.1) (says_too_large s c.args.session c.in-Some.user (sym c.in-Some.ensures) (put l.path l.resource l.mode asks.0) l.count (not_le l.count object_size (omega (arith, c.if-line-gt-OBJECT_SIZE.true)))))
 
 pub returns-clause-obeys : goal.returns-clause-obeys
 returns-clause-obeys g c = λ source request asks.

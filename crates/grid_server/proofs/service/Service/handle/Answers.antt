@@ -13,6 +13,7 @@ returns-clause-commands g c = (
     obeys = c.command-answered.ensures.obeys source;
     worn = c.command-answered.ensures.worn source;
     whole = c.command-answered.ensures.whole;
+    call = c.command-answered.ensures.call;
     remembers = c.command-answered.ensures.remembers;
   },
 )

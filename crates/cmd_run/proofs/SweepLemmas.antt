@@ -1,0 +1,161 @@
+-- Rows of orphans, of which nothing is seen.
+use Rattle.std.proofs.Common.{◌≡◌, ◌≢◌, inl, inr, ℕ, zero, suc, ◌<◌, List, [], ◌∷◌, length, Ok, Err, IsTrue, refl, sym, ap, ◌∙◌, subst, arith}
+use Rattle.std.specs.Prelude.{◌==◌, not, filter, map, All}
+use Rattle.std.specs.List.{AllByRecursion, Contains}
+use Rattle.std.specs.List.Sorted.{IsStrictlySortedBy}
+use Rattle.std.specs.Ordering.{nat_cmp}
+use Rattle.std.specs.declared.cmp.Ordering.{Ordering}
+use Rattle.std.specs.declared.cmp.Ordering.TheVariants.{Less}
+use Rattle.std.specs.Cmp.{ranked}
+use Rattle.grid_model.specs.Rows.{Cat, orphan_cmp}
+use Rattle.grid_model.specs.Applying.{IsMade, apply, apply_all, has_orphan}
+use Rattle.grid_model.specs.Whole.{Naming, by_replica, by_orphan, Names}
+use Rattle.grid_model.specs.declared.deltas.Delta.TheVariants as delta
+use Rattle.grid_model.specs.declared.deltas.OrphanRow.{OrphanRow}
+use Rattle.grid_model.specs.declared.plans.NewFile.{NewFile}
+use Rattle.tables_laws.proofs.Grids.{grid-unseen}
+use Rattle.tables_laws.proofs.Rows.{IsIn, in_from_filter}
+use Rattle.tables_laws.proofs.Sound.{fits_so, ok-same, after_first}
+use Rattle.file_laws.specs.Sweeps.{AreOrphans, HaveOwnNames, no_orphans}
+use Rattle.file_laws.proofs.Members.{in_of, contains_of}
+use Rattle.plan_base.proofs.AtPaths.{sound_of}
+use Rattle.run_laws.specs.Steps.{IsLike}
+use Rattle.run_laws.proofs.Images.{keeps-then}
+use Rattle.grid_outside.specs.Device.{IsSettled}
+use Rattle.grid_outside.specs.Disk.{DiskState}
+use Rattle.grid_outside.specs.Files.{StoreState}
+use Rattle.grid_journal.specs.Journal.{Journal}
+use Rattle.grid_journal.specs.declared.error.JournalError.{JournalError}
+use Rattle.grid_deed.specs.Deeds.{IsSwept}
+use Rattle.grid_deed.specs.Held.{IsHeld, CommitEnds}
+use Rattle.cmd_run.specs.declared.server.Server.{Server}
+use Rattle.cmd_run.specs.declared.server.Ending.{Ending}
+use Rattle.cmd_run.specs.Errors.{ending_of}
+use Rattle.cmd_run.specs.Keeps.{KeepEnds}
+use Rattle.cmd_run.specs.Sweeping.{ForgetsOrphans, orphan_files}
+use Rattle.cmd_run.proofs.KeepLemmas.{ends_err}
+use Rattle.cmd_run.proofs.Resting.{like_self}
+
+-- ---- rows that go
+
+like_then : (a b c : Cat) → IsLike a b → IsLike b c → IsLike a c
+like_then a b c one two = record {
+  grid = two.grid ∙ one.grid;
+  run = two.run ∙ one.run;
+  last = two.last ∙ one.last;
+  rules = two.rules ∙ one.rules;
+  stores = two.stores ∙ one.stores;
+  pending = two.pending ∙ one.pending;
+  keeps = keeps-then a b c one.keeps two.keeps;
+}
+
+-- one is taken away
+gone_one : (c d : Cat) (vault : ℕ) → apply c (delta.NoOrphan vault) ≡ Ok d → IsLike c d
+gone_one c d vault e =
+    let is = (fits_so (has_orphan c vault) 18 (record c { orphans = filter (λ o. not (o.vault == vault)) c.orphans }) d e).1 in
+    record {
+      grid = grid-unseen c d (delta.NoOrphan vault) refl e;
+      run = ap (λ (x : Cat). x.numbers.run) (sym is);
+      last = ap (λ (x : Cat). x.numbers.last) (sym is);
+      rules = ap (λ (x : Cat). x.rules) (sym is);
+      stores = ap (λ (x : Cat). x.stores) (sym is);
+      pending = ap (λ (x : Cat). x.pending) (sym is);
+      keeps = record {
+        rises = omega (arith, ap (λ (x : Cat). x.numbers.next_vault) (sym is));
+        names = λ slot name row low its. (row, back slot name row (let P : Cat → Type 0 = λ x. Names x slot name row in subst P (sym is) its));
+      };
+    }
+  where
+    back : (slot name : ℕ) (x : Naming) → Names (record c { orphans = filter (λ o. not (o.vault == vault)) c.orphans }) slot name x → Names c slot name x
+    back slot name (by_replica r) n = n
+    back slot name (by_orphan o) n = (contains_of c.orphans o (in_from_filter (λ (o : OrphanRow). not (o.vault == vault)) c.orphans o (in_of _ o n.0)).0, n.1, n.2)
+
+-- some are taken away
+pub gone_like : (gone : List NewFile) (c d : Cat) → apply_all c (no_orphans gone) ≡ Ok d → IsLike c d
+gone_like [] c d e = let P : Cat → Type 0 = λ x. IsLike c x in subst P (ok-same c d (apply_all c []) refl e) (like_self c)
+gone_like (f ∷ gone) c d e =
+    let step = after_first (apply c (delta.NoOrphan f.name)) (no_orphans gone) d e in
+    like_then c step.0 d (gone_one c step.0 f.name step.1) (gone_like gone step.0 d step.2)
+
+-- ---- how their removal ended
+
+module _ {D B : Type 0} (disk : D → DiskState) (plugin : B → StoreState) (old : Journal) (files : List NewFile) (from : ℕ) (main_old main_new : D) (stores_old stores_new : List B) where
+  -- what is left was answered
+  pub forgot : (left : List NewFile) (new : Journal) → old.staged ≡ [] → (server : Server) → server.store ≡ new
+      → IsSwept disk plugin old.cat files from main_old main_new stores_old stores_new old (Ok left) new
+      → ForgetsOrphans old.cat from (disk main_old) (disk main_new) (Ok tt) server
+  forgot left new staged server same swept = record {
+    gone = swept.gone;
+    after = swept.after;
+    applied = swept.applied;
+    ends = (let P : Journal → Type 0 = λ j. Ends j in subst P (sym same) (elim swept.ends.2 [ inl none ↦ unchanged none.0 none.1 none.2 none.3 | inr kept ↦ (kept.held, kept.cat, kept.staged, λ told settled. kept.settled told) ]));
+    leaves = swept.leaves;
+  }
+    where
+      Ends : Journal → Type 0
+      Ends j = IsHeld swept.after (disk main_new) j × (j.cat ≡ swept.after) × (j.staged ≡ []) × (IsTrue (disk main_old).tells → IsSettled (disk main_old) → IsSettled (disk main_new))
+
+      unchanged : swept.gone ≡ [] → new ≡ old → IsHeld old.cat (disk main_new) new → main_new ≡ main_old → Ends new
+      unchanged none as_old held main_same =
+          let nothing : apply_all old.cat (no_orphans swept.gone) ≡ apply_all old.cat [] = ap (λ g. apply_all old.cat (no_orphans g)) none in
+          let is : old.cat ≡ swept.after = ok-same old.cat swept.after (apply_all old.cat []) refl (sym nothing ∙ swept.applied) in
+          let H : Cat → Type 0 = λ x. IsHeld x (disk main_new) new in
+          let S : D → Type 0 = λ m. IsSettled (disk m) in
+          (subst H is held, ap (λ (j : Journal). j.cat) as_old ∙ is, ap (λ (j : Journal). j.staged) as_old ∙ staged, λ told settled. subst S (sym main_same) settled)
+
+  -- it failed
+  pub forgot_err : (e : JournalError) (ending : Ending) (new : Journal) (server : Server) → ending ≡ ending_of e
+      → IsSwept disk plugin old.cat files from main_old main_new stores_old stores_new old (Err e) new
+      → ForgetsOrphans old.cat from (disk main_old) (disk main_new) (Err ending) server
+  forgot_err e ending new server is swept =
+      let R : Ending → Type 0 = λ x. KeepEnds swept.after swept.after (disk main_old) (disk main_new) (Err x) server in
+      record {
+        gone = swept.gone;
+        after = swept.after;
+        applied = swept.applied;
+        ends = subst R (sym is) (errors e swept.ends);
+        leaves = swept.leaves;
+      }
+    where
+      errors : (x : JournalError) → CommitEnds old.cat swept.after old (disk main_old) (disk main_new) (Err x) new → KeepEnds swept.after swept.after (disk main_old) (disk main_new) (Err (ending_of x)) server
+      errors x ends = ends_err old.cat swept.after from old (disk main_old) (disk main_new) x new server ends
+
+-- ---- all orphans
+
+abbrev file_of : OrphanRow → NewFile
+file_of o = record { slot = o.slot; name = o.vault }
+
+are_all : (all rows : List OrphanRow) → ((o : OrphanRow) → IsIn rows o → IsIn all o)
+    → AllByRecursion (λ (f : NewFile). Contains all (record { vault = f.name; slot = f.slot })) (map file_of rows)
+are_all all [] within = tt
+are_all all (o ∷ rows) within = (contains_of all o (within o (inl refl)), are_all all rows (λ x here. within x (inr here)))
+
+-- they are orphans
+pub are_orphans : (c : Cat) → AreOrphans c (orphan_files c)
+are_orphans c = are_all c.orphans c.orphans (λ o here. here)
+
+apart : (a b : ℕ) → nat_cmp a b ≡ Less → b ≢ a
+apart a b less same = let low : a < b = ranked a b Less (sym less) in absurd (omega (arith, low, same))
+
+others_apart : (o : OrphanRow) (rows : List OrphanRow) → AllByRecursion (λ (y : OrphanRow). orphan_cmp o y ≡ Less) rows
+    → AllByRecursion (λ (g : NewFile). g.name ≢ o.vault) (map file_of rows)
+others_apart o [] all = tt
+others_apart o (y ∷ rows) all = (apart o.vault y.vault all.0, others_apart o rows all.1)
+
+own_names : (rows : List OrphanRow) → IsStrictlySortedBy orphan_cmp rows → HaveOwnNames (map file_of rows)
+unfolding IsStrictlySortedBy
+own_names [] sorted = tt
+own_names (o ∷ rows) sorted = (others_apart o rows sorted.0, own_names rows sorted.1)
+
+-- no two have one name
+pub have_own_names : (c : Cat) → IsMade c → HaveOwnNames (orphan_files c)
+have_own_names c made = own_names c.orphans (sound_of c made).cat.orphans.ordered
+
+slots_small : (stores : ℕ) (rows : List OrphanRow) → ((o : OrphanRow) → IsIn rows o → o.slot < stores) → All (λ (f : NewFile). f.slot < stores) (map file_of rows)
+slots_small stores [] small k d less = absurd (omega (arith, less))
+slots_small stores (o ∷ rows) small zero d less = small o (inl refl)
+slots_small stores (o ∷ rows) small (suc k) d less = slots_small stores rows (λ x here. small x (inr here)) k d (omega (arith, less))
+
+-- they are in the slots of stores
+pub in_slots : (c : Cat) → IsMade c → All (λ (f : NewFile). f.slot < c.stores) (orphan_files c)
+in_slots c made = slots_small c.stores c.orphans (λ o here. ((sound_of c made).vaults.orphans o here).2)
