@@ -62,7 +62,13 @@ impl Server {
             return self.say(alloc, outside, sink, number, End::Refused(Refusal::NoLogin));
         };
         if !is_admin(self.store.tables(), user) {
-            return self.say(alloc, outside, sink, number, End::Refused(Refusal::NotAdmin));
+            return self.say(
+                alloc,
+                outside,
+                sink,
+                number,
+                End::Refused(Refusal::NotAdmin),
+            );
         }
         self.sweep_all(alloc, outside, sink, number)
     }

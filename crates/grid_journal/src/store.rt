@@ -85,13 +85,9 @@ impl Store {
         requires stores { (0 < stores) × (stores ≤ 16) }
 
         // Both disks were empty. Main stands for the catalogue of a new grid, byte by byte, and nothing is pending.
-        ensures was_empty {
-            OnOk result ((IsTrue (D.disk main.old).tells → (D.disk main.old).holds ≡ []) × (IsTrue (D.disk spare.old).tells → (D.disk spare.old).holds ≡ []))
-        }
+        ensures was_empty { OnOk result ((IsTrue (D.disk main.old).tells → (D.disk main.old).holds ≡ []) × (IsTrue (D.disk spare.old).tells → (D.disk spare.old).holds ≡ [])) }
         ensures written { OnOk result (IsTrue (D.disk main.old).tells → (D.disk main.new).holds ≡ start_main zone.now admin.now stores) }
-        ensures stands {
-            OnOk result (IsTrue (D.disk main.old).tells → (other : TextOf) → Stands (D.disk main.new).holds other (Ok (start zone.now admin.now stores)))
-        }
+        ensures stands { OnOk result (IsTrue (D.disk main.old).tells → (other : TextOf) → Stands (D.disk main.new).holds other (Ok (start zone.now admin.now stores))) }
         ensures settled { OnOk result (IsTrue (D.disk main.old).tells → IsSettled (D.disk main.new)) }
 
         // Spare is only looked at. Before the write main is too, which stays as it was if it was not empty.
@@ -100,21 +96,13 @@ impl Store {
         ensures span { Between moments.old moments.new (Torn 0 (length (start_main zone.now admin.now stores))) (D.disk main.old) (D.disk main.new) }
 
         // The first disk that is not empty is named. A fault comes only of a disk whose count rose.
-        ensures not_empty {
-            (side : SideOf) (len : ℕ) → IsErrOf result (JournalError.NotEmpty side len) → IsNotEmpty (D.disk main.old) (D.disk spare.old) len side
-        }
-        ensures cause {
-            IsErrOf result JournalError.DiskFault
-            → Rose (D.disk main.old).faults (D.disk main.new).faults ⊎ Rose (D.disk spare.old).faults (D.disk spare.new).faults
-        }
+        ensures not_empty { (side : SideOf) (len : ℕ) → IsErrOf result (JournalError.NotEmpty side len) → IsNotEmpty (D.disk main.old) (D.disk spare.old) len side }
+        ensures cause { IsErrOf result JournalError.DiskFault
+            → Rose (D.disk main.old).faults (D.disk main.new).faults ⊎ Rose (D.disk spare.old).faults (D.disk spare.new).faults }
         ensures main_later { (D.disk main.old).faults ≤ (D.disk main.new).faults }
         ensures spare_later { (D.disk spare.old).faults ≤ (D.disk spare.new).faults }
-        ensures unchanged {
-            (e : JournalError) → IsErrOf result e → e ≢ JournalError.DiskFault → Looks (D.disk main.old) (D.disk main.new) × (moments.new ≡ moments.old)
-        }
-        ensures no_other {
-            (side : SideOf) (what : Wear) (at : ℕ) → (¬ IsErrOf result (JournalError.NotACatalogue side at)) × (¬ IsErrOf result (JournalError.Worn what at))
-        }
+        ensures unchanged { (e : JournalError) → IsErrOf result e → e ≢ JournalError.DiskFault → Looks (D.disk main.old) (D.disk main.new) × (moments.new ≡ moments.old) }
+        ensures no_other { (side : SideOf) (what : Wear) (at : ℕ) → (¬ IsErrOf result (JournalError.NotACatalogue side at)) × (¬ IsErrOf result (JournalError.Worn what at)) }
         ensures drawn_from { moments.old ≤ moments.new }
         ensures drawn { moments.new ≤ moments.old + 2 }
     {
@@ -160,9 +148,7 @@ impl Store {
         ensures spare { spare.new ≡ spare.old }
         ensures later { (D.disk main.old).faults ≤ (D.disk main.new).faults }
         ensures cause { IsErrOf result JournalError.DiskFault → Rose (D.disk main.old).faults (D.disk main.new).faults }
-        ensures no_other {
-            (side : SideOf) (what : Wear) (at : ℕ) → (¬ IsErrOf result (JournalError.NotEmpty side at)) × (¬ IsErrOf result (JournalError.Worn what at))
-        }
+        ensures no_other { (side : SideOf) (what : Wear) (at : ℕ) → (¬ IsErrOf result (JournalError.NotEmpty side at)) × (¬ IsErrOf result (JournalError.Worn what at)) }
     {
         let mut head = [0; READ];
         let count = main.read(0, &mut head)?;
@@ -271,23 +257,17 @@ impl Store {
         ensures afterwards { IsTrue (D.disk main.old).tells →
             (kept after : Cat) → Keeps kept self.old (D.disk main.old).holds → apply_all self.old.cat deltas ≡ Ok after →
             StandsEither kept after (D.disk main.new).holds }
-        ensures span {
-            Between moments.old moments.new (Torn self.old.log.gate (length (flat_map spelling (self.old.staged ++ deltas)) + 10)) (D.disk main.old)
-            (D.disk main.new)
-        }
+        ensures span { Between moments.old moments.new (Torn self.old.log.gate (length (flat_map spelling (self.old.staged ++ deltas)) + 10)) (D.disk main.old)
+            (D.disk main.new) }
         ensures last { (D.disk main.new).last ≤ moments.new }
         ensures spare { spare.new ≡ spare.old }
 
-        ensures worn {
-            (what : Wear) (at : ℕ) → IsErrOf result (JournalError.Worn what at) ↔ ((what ≡ Wear.Log) × (at ≡ self.old.log.gate) × (2 ^ 62 < self.old.log.gate))
-        }
+        ensures worn { (what : Wear) (at : ℕ) → IsErrOf result (JournalError.Worn what at) ↔ ((what ≡ Wear.Log) × (at ≡ self.old.log.gate) × (2 ^ 62 < self.old.log.gate)) }
         ensures worn_same { (what : Wear) (at : ℕ) → IsErrOf result (JournalError.Worn what at) → self.new ≡ self.old }
         ensures unsound { (e : JournalError) → IsErrOf result e → ((e ≡ JournalError.Memory) ⊎ (e ≡ JournalError.DiskFault)) → self.new.sound ≡ false }
         ensures cause { IsErrOf result JournalError.DiskFault → Rose (D.disk main.old).faults (D.disk main.new).faults }
         ensures unchanged { (e : JournalError) → IsErrOf result e → e ≢ JournalError.DiskFault → (main.new ≡ main.old) × (moments.new ≡ moments.old) }
-        ensures no_other {
-            (side : SideOf) (at : ℕ) → (¬ IsErrOf result (JournalError.NotEmpty side at)) × (¬ IsErrOf result (JournalError.NotACatalogue side at))
-        }
+        ensures no_other { (side : SideOf) (at : ℕ) → (¬ IsErrOf result (JournalError.NotEmpty side at)) × (¬ IsErrOf result (JournalError.NotACatalogue side at)) }
         ensures drawn_from { moments.old ≤ moments.new }
         ensures drawn { moments.new ≤ moments.old + 4 }
     {

@@ -44,7 +44,7 @@ module _ {Deed C : Type 0} (kind : Kind Deed C) where
     pub others : is_record kind call.moment last (held_after kind c call) calls ≡ true
 
   pub first_of_all : (before last : ℕ) (c : C) (call : Call Deed) (calls : List (Call Deed)) → is_record kind before last c (call ∷ calls) ≡ true
-    → First before last c call calls
+      → First before last c call calls
   first_of_all before last c call calls is =
       let parts = both _ _ is in
       let own = both _ _ parts.0 in
@@ -52,28 +52,29 @@ module _ {Deed C : Type 0} (kind : Kind Deed C) where
       record { above = lt_of _ _ times.0; within = le_of _ _ times.1; fits = own.1; others = parts.1 }
 
   record_from : (before last : ℕ) (c : C) (call : Call Deed) (calls : List (Call Deed)) → First before last c call calls
-    → is_record kind before last c (call ∷ calls) ≡ true
+      → is_record kind before last c (call ∷ calls) ≡ true
   record_from before last c call calls parts =
       ap (λ (b : Bool). ((b && nat_le call.moment last) && call_fits kind c call) && is_record kind call.moment last (held_after kind c call) calls)
-        (lt_is before call.moment parts.above)
+      (lt_is before call.moment parts.above)
       ∙ ap (λ (b : Bool). (b && call_fits kind c call) && is_record kind call.moment last (held_after kind c call) calls) (le_is call.moment last parts.within)
       ∙ ap (λ (b : Bool). b && is_record kind call.moment last (held_after kind c call) calls) parts.fits ∙ parts.others
 
   pub steady_from : (s t before last : ℕ) (P Q : C → Type 0) (c : C) (calls : List (Call Deed)) → last < s → last < t
-    → is_record kind before last c calls ≡ true → ((x : C) → P x → Q x)
+      → is_record kind before last c calls ≡ true → ((x : C) → P x → Q x)
       → (image : C) → Left kind s P c calls image → Left kind t Q c calls image
   steady_from s t before last P Q c [] after_s after_t is more image left = more image left
   steady_from s t before last P Q c (call ∷ calls) after_s after_t is more image left =
       let one = first_of_all before last c call calls is in
       let step : (x : C) → LeftAfter kind s P c call x → LeftAfter kind t Q c call x = λ x l.
-      let was = l.1 (omega (arith, one.within, after_s)) in
-      ((λ early. absurd (omega (arith, one.within, after_t, early))),
-        (λ late. (was.0, more was.0 was.1, was.2, λ later. was.3 (omega (arith, one.within, after_s))))) in
+      let was = l.1 (omega (arith, one.within, after_s)) in (
+        (λ early. absurd (omega (arith, one.within, after_t, early))),
+        (λ late. (was.0, more was.0 was.1, was.2, λ later. was.3 (omega (arith, one.within, after_s)))),
+      ) in
       steady_from s t call.moment last (LeftAfter kind s P c call) (LeftAfter kind t Q c call)
-        (held_after kind c call) calls after_s after_t one.others step image left
+      (held_after kind c call) calls after_s after_t one.others step image left
 
   pub now_from : Laws kind → (t before last : ℕ) (P : C → Type 0) (c : C) (calls : List (Call Deed)) → last < t → is_record kind before last c calls ≡ true
-    → P c → Left kind t P c calls (held kind c calls)
+      → P c → Left kind t P c calls (held kind c calls)
   now_from laws t before last P c [] after is here = here
   now_from laws t before last P c (call ∷ calls) after is here =
       let one = first_of_all before last c call calls is in
@@ -91,10 +92,10 @@ module _ {Deed C : Type 0} (kind : Kind Deed C) where
   held-push c (other ∷ calls) call = held-push (held_after kind c other) calls call
 
   pub is_record-push : (before old last : ℕ) (c : C) (calls : List (Call Deed)) (call : Call Deed) → is_record kind before old c calls ≡ true
-    → before < call.moment → old < call.moment → call.moment ≤ last
+      → before < call.moment → old < call.moment → call.moment ≤ last
       → call_fits kind (held kind c calls) call ≡ true → is_record kind before last c (calls ++ call ∷ []) ≡ true
   is_record-push before old last c [] call is above later within fits =
-    record_from before last c call [] (record { above = above; within = within; fits = fits; others = refl })
+      record_from before last c call [] (record { above = above; within = within; fits = fits; others = refl })
   is_record-push before old last c (other ∷ calls) call is above later within fits =
       let parts = first_of_all before old c other calls is in
       record_from before last c other (calls ++ call ∷ []) (record {
@@ -105,7 +106,7 @@ module _ {Deed C : Type 0} (kind : Kind Deed C) where
       })
 
   pub is_record-later : (before old last : ℕ) (c : C) (calls : List (Call Deed)) → old ≤ last → is_record kind before old c calls ≡ true
-    → is_record kind before last c calls ≡ true
+      → is_record kind before last c calls ≡ true
   is_record-later before old last c [] later is = refl
   is_record-later before old last c (other ∷ calls) later is =
       let parts = first_of_all before old c other calls is in
@@ -117,6 +118,6 @@ module _ {Deed C : Type 0} (kind : Kind Deed C) where
       })
 
   pub Left-push : (t : ℕ) (P : C → Type 0) (c : C) (calls : List (Call Deed)) (call : Call Deed) (image : C)
-    → Left kind t P c (calls ++ call ∷ []) image ↔ LeftAfter kind t (Left kind t P c calls) (held kind c calls) call image
+      → Left kind t P c (calls ++ call ∷ []) image ↔ LeftAfter kind t (Left kind t P c calls) (held kind c calls) call image
   Left-push t P c [] call image = ((λ x. x), (λ x. x))
   Left-push t P c (other ∷ calls) call image = Left-push t (LeftAfter kind t P c other) (held_after kind c other) calls call image

@@ -46,7 +46,7 @@ module _ {Deed C : Type 0} (kind : Kind Deed C) where
   LeftAfter moment Before c call image =
       (moment < call.moment → Before image)
       × (call.moment ≤ moment → (before : C) × Before before × kind.May call.deed before image ×
-        (call.moment < moment → kind.Sure call.deed call.done (held_after c call) image))
+      (call.moment < moment → kind.Sure call.deed call.done (held_after c call) image))
 
   -- What a stop at the moment may leave after all of them.
   abbrev pub Left : ℕ → (C → Type 0) → C → List (Call Deed) → C → Type 0
@@ -61,7 +61,7 @@ module _ {Deed C : Type 0} (kind : Kind Deed C) where
   abbrev pub is_record : ℕ → ℕ → C → List (Call Deed) → Bool
   is_record first last c [] = true
   is_record first last c (call ∷ calls) =
-    (nat_lt first call.moment && nat_le call.moment last && call_fits c call) && is_record call.moment last (held_after c call) calls
+      (nat_lt first call.moment && nat_le call.moment last && call_fits c call) && is_record call.moment last (held_after c call) calls
 
   -- what is held after a history
   abbrev pub held_since : History Deed C → C

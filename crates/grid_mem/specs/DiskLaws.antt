@@ -23,8 +23,8 @@ torn_all at bytes written le =
     let rest = length-drop (at + length written) bytes in
     record {
       before =
-        ap (take at) (append_assoc (take at bytes) written (drop (at + length written) bytes))
-        ∙ take_at (take at bytes) (written ++ drop (at + length written) bytes) at (omega (arith, front, le));
+          ap (take at) (append_assoc (take at bytes) written (drop (at + length written) bytes))
+          ∙ take_at (take at bytes) (written ++ drop (at + length written) bytes) at (omega (arith, front, le));
       after = drop_at (take at bytes ++ written) (drop (at + length written) bytes) (at + length written) (omega (arith, front, front_size, le));
       no_shorter = omega (arith, front, size, front_size, rest, le);
       no_longer = omega (arith, front, size, front_size, rest, le);
@@ -35,7 +35,7 @@ cut_nothing n bytes = record { no_shorter = omega arith; front = take-length byt
 
 cut_all : (n : ℕ) (bytes : List ℕ) → n ≤ length bytes → Cut n bytes (take n bytes)
 cut_all n bytes le =
-  record { no_shorter = omega (arith, length-take n bytes, le); front = ap (λ (k : ℕ). take k bytes) (omega (arith, length-take n bytes, le)) }
+    record { no_shorter = omega (arith, length-take n bytes, le); front = ap (λ (k : ℕ). take k bytes) (omega (arith, length-take n bytes, le)) }
 
 pub may_nothing : (deed : DiskDeed) (bytes : List ℕ) → MayDo deed bytes bytes
 may_nothing (Write at written) bytes = torn_nothing at (length written.items) bytes

@@ -17,7 +17,7 @@ at_same files name f = get-insert nat_cmp_total files name f name ∙ ap (λ (b 
 
 pub at_other : (files : Files) (name other : ℕ) (f : File) → other ≢ name → file_at (insert files name f) other ≡ file_at files other
 at_other files name other f not_same =
-  get-insert nat_cmp_total files name f other ∙ ap (λ (b : Bool). cond b (Some f) (get files other)) (other_key other name not_same)
+    get-insert nat_cmp_total files name f other ∙ ap (λ (b : Bool). cond b (Some f) (get files other)) (other_key other name not_same)
 
 pub at_removed : (files : Files) (name : ℕ) → file_at (remove files name) name ≡ None
 at_removed files name = get-remove nat_cmp_total files name name ∙ ap (λ (b : Bool). cond b None (get files name)) (same_key name)

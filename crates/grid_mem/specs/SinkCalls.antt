@@ -41,4 +41,4 @@ putting_after false bytes put done u = record { held = bytes; bytes = put.items 
 abbrev pub putting_at : ℕ → History (Vec ℕ Global) (List ℕ) → Putting
 putting_at moment history =
     known_at sink_kind (λ over bytes call. putting_after over bytes call.deed call.done) moment history.start history.calls
-      (record { held = history.start; bytes = [] })
+    (record { held = history.start; bytes = [] })

@@ -103,7 +103,7 @@ known_files_after over files deed done known name =
 abbrev pub known_files_at : ℕ → History StoreDeed Files → ℕ → Known
 known_files_at moment history =
     known_at store_kind (λ over files call. known_files_after over files call.deed call.done) moment history.start history.calls
-      (λ name. exactly (file_at history.start name))
+    (λ name. exactly (file_at history.start name))
 
 -- a stop may leave of each file what is known of it
 abbrev pub MayBeFiles : (ℕ → Known) → Files → Type 0

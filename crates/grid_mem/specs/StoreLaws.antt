@@ -17,7 +17,7 @@ not_finished o bytes (inl none) is = absurd (cc (sym none ∙ ap is_none is))
 not_finished o bytes (inr some) is = absurd (cc (sym some ∙ ap is_begun is))
 
 writes_one : (name : ℕ) (files : Files) (f : File) → (is_none (file_at files name) ≡ true) ⊎ (is_begun (file_at files name) ≡ true)
-  → (IsHashable (file_at files name) → IsHashable (Some f)) → Writes name files (insert files name f)
+    → (IsHashable (file_at files name) → IsHashable (Some f)) → Writes name files (insert files name f)
 writes_one name files f open_file short = record {
   others = λ other not_same. at_other files name other f not_same;
   stable = λ bytes is. not_finished (file_at files name) bytes open_file is;
@@ -33,10 +33,14 @@ done_may (Create name) files fits = writes_one name files (record { bytes = []; 
 done_may (Append name written) files fits =
     let parts = both _ _ fits in
     writes_one name files (record { bytes = bytes_of (file_at files name) ++ written.items; finished = false }) (inr parts.0)
-    (λ was. omega (arith, length-append (bytes_of (file_at files name)) written.items, lt_of (length (bytes_of (file_at files name)) + length written.items)
-      (2 ^ 61) parts.1))
+    (λ was. omega (
+      arith,
+      length-append (bytes_of (file_at files name)) written.items,
+      lt_of (length (bytes_of (file_at files name)) + length written.items)
+          (2 ^ 61) parts.1,
+    ))
 done_may (Finish name) files fits =
-  writes_one name files (record { bytes = bytes_of (file_at files name); finished = true }) (inr fits) (short_bytes (file_at files name))
+    writes_one name files (record { bytes = bytes_of (file_at files name); finished = true }) (inr fits) (short_bytes (file_at files name))
 done_may (Remove name) files fits = record { others = λ other not_same. at_kept files name other not_same; there_or_not = inr (at_removed files name) }
 
 pub nothing_may : (deed : StoreDeed) (files : Files) → StoreMay deed files files

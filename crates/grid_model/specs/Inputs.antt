@@ -36,10 +36,10 @@ pub record Asked : Type 0 where
 pub data Takes : Text → List Asked → Text → Type 0 where
   none_taken : {input : Text} → Takes input [] input
   takes_one : {input rest left : Text} {more : List Asked} (line body : Text) → input ≡ line ++ 0x0A ∷ body ++ rest → IsLine line → IsTrue (is_request line)
-    → HasBody line (length body)
+      → HasBody line (length body)
       → Takes rest more left → Takes input (record { line = line; body = body } ∷ more) left
   takes_blank : {input rest left : Text} {more : List Asked} (line : Text) → input ≡ line ++ 0x0A ∷ rest → IsLine line → is_request line ≡ false
-    → Takes rest more left → Takes input more left
+      → Takes rest more left → Takes input more left
 
 -- What the end of an input makes of what is left: the last line needs no newline, and a body may have fewer bytes than
 -- were promised.
@@ -47,7 +47,7 @@ pub data EndsWith : Text → List Asked → Type 0 where
   ends_blank : {line : Text} → IsLine line → is_request line ≡ false → EndsWith line []
   ends_in_line : {line : Text} → IsLine line → IsTrue (is_request line) → EndsWith line (record { line = line; body = [] } ∷ [])
   ends_in_body : {left : Text} {count : ℕ} (line body : Text) → left ≡ line ++ 0x0A ∷ body → IsLine line → IsTrue (is_request line) → HasBody line count
-    → length body < count
+      → length body < count
       → EndsWith left (record { line = line; body = body } ∷ [])
 
 -- all requests of an input
@@ -63,4 +63,4 @@ pub record AreRequests (input : Text) (asked : List Asked) : Type 0 where
 pub data IsPart : Text → Type 0 where
   of_line : {part : Text} → IsLine part → IsPart part
   of_body : {part : Text} {count : ℕ} (line body : Text) → part ≡ line ++ 0x0A ∷ body → IsLine line → IsTrue (is_request line) → HasBody line count
-    → length body < count → IsPart part
+      → length body < count → IsPart part

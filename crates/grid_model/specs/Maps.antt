@@ -37,7 +37,7 @@ module _ {K X : Type 0} {R : K → K → Ordering} where
   -- m without what it has at the key
   abbrev pub remove : Map R X → K → Map R X
   remove m k =
-    record { entries = filter (λ e. not (eq_by_cmp R k e.0)) m.entries; sorted = is_sorted-where_key R (λ q. not (eq_by_cmp R k q)) m.entries m.sorted }
+      record { entries = filter (λ e. not (eq_by_cmp R k e.0)) m.entries; sorted = is_sorted-where_key R (λ q. not (eq_by_cmp R k q)) m.entries m.sorted }
 
   -- the map of a list, in which the first value of a key counts
   abbrev pub from_list : List (K × X) → Map R X

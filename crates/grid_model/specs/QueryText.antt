@@ -45,20 +45,20 @@ Fits c o inner = IsTrue (is_number c) → IsTrue (is_comparison o) → IsDecimal
 -- a column, an operator and a literal
 pub data SpellsCond : List Token → Cond → Type 0 where
   a_cond : {ts os : List Token} {c : Column} {o : Op} {inner : Text} → ts ≡ column c ∷ os ++ literal inner ∷ [] → SpellsOp os o → Fits c o inner
-    → SpellsCond ts (record { column = c; op = o; literal = inner })
+      → SpellsCond ts (record { column = c; op = o; literal = inner })
 
 -- conditions with AND between them
 pub data SpellsConds : List Token → List Cond → Type 0 where
   last_cond : {ts : List Token} {d : Cond} → SpellsCond ts d → SpellsConds ts (d ∷ [])
   next_cond : {all ts us : List Token} {d : Cond} {ds : List Cond} → all ≡ ts ++ keyword and_word ∷ us → SpellsCond ts d → SpellsConds us ds
-    → SpellsConds all (d ∷ ds)
+      → SpellsConds all (d ∷ ds)
 
 -- SELECT and columns, with WHERE and conditions behind them or without
 pub data SpellsQuery : List Token → Query → Type 0 where
   without_conds : {all ts : List Token} {cs : List Column} → all ≡ keyword select_word ∷ ts → SpellsColumns ts cs
-    → SpellsQuery all (record { columns = cs; conds = [] })
+      → SpellsQuery all (record { columns = cs; conds = [] })
   with_conds : {all ts us : List Token} {cs : List Column} {ds : List Cond} → all ≡ keyword select_word ∷ ts ++ keyword where_word ∷ us → SpellsColumns ts cs
-    → SpellsConds us ds
+      → SpellsConds us ds
       → SpellsQuery all (record { columns = cs; conds = ds })
 
 -- the tokens without their places

@@ -108,7 +108,7 @@ pub data Closes : Text → Text → Text → Type 0 where
 -- longer is taken.
 pub data Front (text : Text) : Token → Text → Type 0 where
   a_word : {t : Token} {rest : Text} (word : Text) → text ≡ word ++ rest → 0 < length word → IsTrue (list_all is_identifier_byte word)
-    → goes_on is_identifier_byte rest ≡ false → SpellsQueryWord word t → Front text t rest
+      → goes_on is_identifier_byte rest ≡ false → SpellsQueryWord word t → Front text t rest
   a_literal : {inner rest : Text} (behind : Text) → text ≡ 0x27 ∷ behind → Closes behind inner rest → Front text (literal inner) rest
   a_comma : {rest : Text} → text ≡ 0x2C ∷ rest → Front text comma rest
   a_sign : {rest : Text} (s : Sign) → text ≡ sign_text s ++ rest → goes_on (makes_longer s) rest ≡ false → Front text (sign s) rest
@@ -118,6 +118,6 @@ pub data SpellsTokens (end : ℕ) : Text → List Placed → Type 0 where
   nothing : SpellsTokens end [] []
   space : {text rest : Text} {ts : List Placed} → text ≡ 0x20 ∷ rest → SpellsTokens end rest ts → SpellsTokens end text ts
   token : {text rest : Text} {ts : List Placed} (t : Token) → Front text t rest → SpellsTokens end rest ts
-    → SpellsTokens end text (record { at = end - length text; token = t } ∷ ts)
+      → SpellsTokens end text (record { at = end - length text; token = t } ∷ ts)
   no_token : {text rest : Text} (b : ℕ) → text ≡ b ∷ rest → b ≢ 0x20 → ((t : Token) (left : Text) → ¬ Front text t left)
-    → SpellsTokens end text (record { at = end - length text; token = wrong } ∷ [])
+      → SpellsTokens end text (record { at = end - length text; token = wrong } ∷ [])

@@ -64,7 +64,7 @@ FitsMark mark.Stop = Unit {0}
 pub data SpellsMarks (n : ℕ) : Text → List Mark → Type 0 where
   no_marks : SpellsMarks n [] []
   next_mark : {text after : Text} {m : Mark} {ms : List Mark} (bytes : List ℕ) → text ≡ data_lines n bytes ++ mark_line n m ++ after → FitsMark m
-    → SpellsMarks n after ms → SpellsMarks n text (m ∷ ms)
+      → SpellsMarks n after ms → SpellsMarks n text (m ∷ ms)
 
 -- The text is the reply to the request of this number, with any data lines before its marks. Data lines that no mark
 -- follows are what is shown.

@@ -43,9 +43,7 @@ pub fn has_targets(alloc: Global, tables: &Tables, resource: u32) -> Result<bool
 fn all_below(alloc: Global, tables: &Tables, level: &[u32]) -> Result<Vec<u32>, AllocError>
     requires made { IsMade tables.now }
     requires there { AllByRecursion (λ id. IsTrue (has_resource tables.now id)) level.now }
-    ensures {
-        IfOk result (λ next. AreNamed tables.now next.items (flat_map (below (grid_of tables.now).resources) (map (resource_name tables.now) level.now)))
-    }
+    ensures { IfOk result (λ next. AreNamed tables.now next.items (flat_map (below (grid_of tables.now).resources) (map (resource_name tables.now) level.now))) }
 {
     let mut next = Vec::new(alloc);
     for id in level {
@@ -88,10 +86,8 @@ pub(crate) fn open_leaves(
 ) -> Result<Vec<u32>, AllocError>
     requires made { IsMade tables.now }
     requires there { AllByRecursion (λ id. IsTrue (has_resource tables.now id)) level.now }
-    ensures names {
-        IfOk result
-        (λ ids. AreNamed tables.now ids.items (flat_map (possible_from 1 (grid_of tables.now).resources) (map (resource_name tables.now) level.now)))
-    }
+    ensures names { IfOk result
+        (λ ids. AreNamed tables.now ids.items (flat_map (possible_from 1 (grid_of tables.now).resources) (map (resource_name tables.now) level.now))) }
     ensures leaves { IfOk result (λ ids. AllByRecursion (λ id. IsTrue (is_leaf tables.now id)) ids.items) }
 {
     let mut leaves = Vec::new(alloc);

@@ -23,7 +23,7 @@ pub fn first_candidate<'a>(
     requires asked { IfSome asked (λ id. IsTrue (has_resource tables.now id)) }
     ensures { (o : ObjectRow) → object_row tables.now object ≡ Some o →
         FirstOf tables.now object (candidates (grid_of tables.now).resources (object_of tables.now o) (option_map (resource_name tables.now) asked))
-            (option_copied result) }
+        (option_copied result) }
 {
     match first_read(tables, object, asked) {
         Some(row) => Some(row),

@@ -17,7 +17,7 @@ module _ {B : Type 0} (state : B → StoreState) where
   -- the file was begun in its store, if that tells, and has these bytes so far
   abbrev pub IsBegunAt : List B → List ℕ → NewFile → Type 0
   IsBegunAt stores bytes file =
-    (store : B) → slice_get stores file.slot ≡ Some store → IsTrue (state store).tells → file_at (state store).holds file.name ≡ unfinished bytes
+      (store : B) → slice_get stores file.slot ≡ Some store → IsTrue (state store).tells → file_at (state store).holds file.name ≡ unfinished bytes
 
   -- Between these two counts of moments each store has at each moment what it had, but for the files that are made; only the store in
   -- this slot and those of the files were called.

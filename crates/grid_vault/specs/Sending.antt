@@ -122,4 +122,4 @@ abbrev pub SaysOf : OldFile → List ℕ → ℕ → Sent → Type 0
 SaysOf recorded read parts Whole = IsAsRecorded recorded read
 SaysOf recorded read parts (Fault slot count) = ⊥
 SaysOf recorded read parts (Bad slot len found count) =
-  (slot ≡ recorded.slot) × (len ≡ length read) × (found ≡ sha256 read) × (count ≡ parts) × (¬ IsAsRecorded recorded read)
+    (slot ≡ recorded.slot) × (len ≡ length read) × (found ≡ sha256 read) × (count ≡ parts) × (¬ IsAsRecorded recorded read)

@@ -40,7 +40,7 @@ module _ {B : Type 0} (state : B → StoreState) where
   -- the count of the store in this slot rose; of a slot without a store this says nothing
   abbrev pub RoseAt : ℕ → List B → List B → Type 0
   RoseAt slot old new =
-    (before after : B) → slice_get old slot ≡ Some before → slice_get new slot ≡ Some after → Rose (state before).faults (state after).faults
+      (before after : B) → slice_get old slot ≡ Some before → slice_get new slot ≡ Some after → Rose (state before).faults (state after).faults
 
   -- the file stands with these bytes in its store, if that tells, and no stop takes it away
   abbrev pub IsStableAt : List B → List ℕ → NewFile → Type 0

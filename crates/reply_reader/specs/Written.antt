@@ -18,5 +18,5 @@ written_mark n w = data_lines n w.0 ++ mark_line n w.1
 abbrev pub WrittenIsSpelled : Type 0
 WrittenIsSpelled =
     (n : ℕ) (written : List (Text × Mark)) (r : Reply) → n < 2 ^ 64 → r.marks ≡ map (λ w. w.1) written → All (λ w. FitsMark w.1) written
-      → IsTrue (is_writable r) → FitsEnd r.end
+    → IsTrue (is_writable r) → FitsEnd r.end
     → SpellsReply (flat_map (written_mark n) written ++ rest_lines n r) (n, r)

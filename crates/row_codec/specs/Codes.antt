@@ -97,8 +97,8 @@ tag_number tag.NoPending = 21
 
 abbrev pub all_tags : List Tag
 all_tags =
-  tag.Zone ∷ tag.User ∷ tag.Member ∷ tag.NoMember ∷ tag.Collection ∷ tag.NoCollection ∷ tag.Object ∷ tag.NoObject ∷ tag.Replica ∷ tag.NoReplica ∷ tag.Triple
-  ∷ tag.NoTriple ∷ tag.Entry ∷ tag.NoEntry ∷ tag.Resource ∷ tag.Rules ∷ tag.Orphan ∷ tag.NoOrphan ∷ tag.Numbers ∷ tag.Pending ∷ tag.NoPending ∷ []
+    tag.Zone ∷ tag.User ∷ tag.Member ∷ tag.NoMember ∷ tag.Collection ∷ tag.NoCollection ∷ tag.Object ∷ tag.NoObject ∷ tag.Replica ∷ tag.NoReplica ∷ tag.Triple
+    ∷ tag.NoTriple ∷ tag.Entry ∷ tag.NoEntry ∷ tag.Resource ∷ tag.Rules ∷ tag.Orphan ∷ tag.NoOrphan ∷ tag.Numbers ∷ tag.Pending ∷ tag.NoPending ∷ []
 
 abbrev pub known_tag : ℕ → Option Tag
 known_tag = value_numbered tag_number all_tags

@@ -96,10 +96,8 @@ fn check_recovery(
     known: &Known,
     recovery: &Option<Call0>,
 )
-    ensures {
-        fault_so_far findings.new
-        ≡ keep (fault_so_far findings.old) (recovery_faults (named_rules names.now) (known_of known.now) (option_map call_of recovery.now))
-    }
+    ensures { fault_so_far findings.new
+        ≡ keep (fault_so_far findings.old) (recovery_faults (named_rules names.now) (known_of known.now) (option_map call_of recovery.now)) }
 {
     match recovery {
         None => {}
@@ -121,10 +119,8 @@ fn check_step(findings: &mut Findings, names: &RuleNames, known: &Known, step: &
 
 /// Looks at steps.
 pub fn check_steps(findings: &mut Findings, names: &RuleNames, known: &Known, steps: &[Step])
-    ensures {
-        fault_so_far findings.new
-        ≡ keep (fault_so_far findings.old) (flat_map (step_faults (named_rules names.now) (known_of known.now)) (map step_of steps.now))
-    }
+    ensures { fault_so_far findings.new
+        ≡ keep (fault_so_far findings.old) (flat_map (step_faults (named_rules names.now) (known_of known.now)) (map step_of steps.now)) }
 {
     for step in steps {
         check_step(findings, names, known, step);

@@ -73,9 +73,7 @@ fn check_each(
     names: &RuleNames,
     rules: &[Rule],
 ) -> Result<(), AllocError>
-    ensures {
-        OnOk result (fault_so_far findings.new ≡ keep (fault_so_far findings.old) (flat_map (rule_faults (named_rules names.now)) (map rule_of rules.now)))
-    }
+    ensures { OnOk result (fault_so_far findings.new ≡ keep (fault_so_far findings.old) (flat_map (rule_faults (named_rules names.now)) (map rule_of rules.now))) }
 {
     for rule in rules {
         check_rule(alloc, findings, names, rule)?;

@@ -8,7 +8,7 @@ pub data SkipsBlanks : ℕ → SourceText → ℕ → SourceText → Type 0 wher
   none : {place : ℕ} {all : SourceText} → SkipsBlanks place all place all
   space : {place b to : ℕ} {rest left : SourceText} → IsTrue (is_space b) → SkipsBlanks (place + 1) rest to left → SkipsBlanks place (b ∷ rest) to left
   comment : {place to : ℕ} {all rest left : SourceText} (line : SourceText) → IsComment all line rest → SkipsBlanks (place + (length line + 1)) rest to left
-    → SkipsBlanks place all to left
+      → SkipsBlanks place all to left
 
 -- a space, or what begins a comment
 abbrev pub is_skipped : ℕ → Bool

@@ -8,4 +8,4 @@ abbrev pub StandInOrder : SourceText → ℕ → List PlacedToken → Type 0
 StandInOrder text from [] = Unit {0}
 StandInOrder text from (t ∷ ts) =
     (from ≤ t.at) × (0 < length t.spelled) × (t.at + length t.spelled ≤ length text) × (slice_range text t.at (t.at + length t.spelled) ≡ t.spelled)
-      × StandInOrder text (t.at + length t.spelled) ts
+    × StandInOrder text (t.at + length t.spelled) ts

@@ -54,7 +54,7 @@ minus (suc n) = negsuc n
 pub data SpellsNumber : SourceText → ℤ → Type 0 where
   from_zero : {s : SourceText} → IsPlainDecimal s → number_from 0 s < 2 ^ 63 → SpellsNumber s (pos (number_from 0 s))
   below_zero : {s : SourceText} (digits : SourceText) → s ≡ 0x2D ∷ digits → IsPlainDecimal digits → 0 < number_from 0 digits → number_from 0 digits ≤ 2 ^ 63
-    → SpellsNumber s (minus (number_from 0 digits))
+      → SpellsNumber s (minus (number_from 0 digits))
 
 -- what stands between quotes, with its `\`, and what it means
 pub data SpellsQuoted : SourceText → SourceText → Type 0 where
@@ -69,7 +69,7 @@ pub data SpellsToken : SourceText → RuleToken → Type 0 where
   a_session : {s : SourceText} (name : SourceText) → s ≡ 0x24 ∷ name → IsName name → SpellsToken s (session name)
   a_number : {s : SourceText} {n : ℤ} → SpellsNumber s n → SpellsToken s (number n)
   a_text : {s t : SourceText} (quote : ℕ) (inner : SourceText) → IsTrue (is_quote quote) → SpellsQuoted inner t → s ≡ quote ∷ inner ++ quote ∷ []
-    → SpellsToken s (text t)
+      → SpellsToken s (text t)
   a_symbol : {s : SourceText} (x : Symbol) → s ≡ symbol_text x → SpellsToken s (symbol x)
 
 -- The text begins with these bytes of a token, and with no longer ones of any.
@@ -97,9 +97,9 @@ pub record IsComment (all line rest : SourceText) : Type 0 where
 pub data SpellsRuleTokens : ℕ → SourceText → List PlacedToken → Type 0 where
   at_end : {place : ℕ} → SpellsRuleTokens place [] []
   space : {place b : ℕ} {rest : SourceText} {ts : List PlacedToken} → IsTrue (is_space b) → SpellsRuleTokens (place + 1) rest ts
-    → SpellsRuleTokens place (b ∷ rest) ts
+      → SpellsRuleTokens place (b ∷ rest) ts
   comment : {place : ℕ} {all rest : SourceText} {ts : List PlacedToken} (line : SourceText) → IsComment all line rest
-    → SpellsRuleTokens (place + (length line + 1)) rest ts → SpellsRuleTokens place all ts
+      → SpellsRuleTokens (place + (length line + 1)) rest ts → SpellsRuleTokens place all ts
   token : {place : ℕ} {all rest : SourceText} {ts : List PlacedToken} (spelled : SourceText) (t : RuleToken) → Longest all spelled t rest
-    → SpellsRuleTokens (place + length spelled) rest ts
+      → SpellsRuleTokens (place + length spelled) rest ts
       → SpellsRuleTokens place all (record { at = place; spelled = spelled; token = t } ∷ ts)

@@ -16,5 +16,5 @@ abbrev pub MovesSo : (ℕ → Piece) → List ℕ → List ℕ → Places → Mo
 MovesSo piece_of text pattern at Done = (at.text ≡ length text) × (at.pattern ≡ length pattern)
 MovesSo piece_of text pattern at PastWildcard = (at.pattern < length pattern) × (piece_of (slice_index pattern at.pattern) ≡ AnyBytes)
 MovesSo piece_of text pattern at PastByte =
-  (at.text < length text) × (at.pattern < length pattern) × TakesByte (piece_of (slice_index pattern at.pattern)) (slice_index text at.text)
+    (at.text < length text) × (at.pattern < length pattern) × TakesByte (piece_of (slice_index pattern at.pattern)) (slice_index text at.text)
 MovesSo piece_of text pattern at Stuck = ¬ Matches piece_of (drop at.text text) (drop at.pattern pattern)

@@ -17,7 +17,7 @@ pub data Matches (piece_of : ℕ → Piece) : List ℕ → List ℕ → Type 0 w
   this_byte : {b c : ℕ} {text pattern : List ℕ} → piece_of c ≡ Byte b → Matches piece_of text pattern → Matches piece_of (b ∷ text) (c ∷ pattern)
   one_byte : {b c : ℕ} {text pattern : List ℕ} → piece_of c ≡ OneByte → Matches piece_of text pattern → Matches piece_of (b ∷ text) (c ∷ pattern)
   any_bytes : {c : ℕ} {all rest pattern : List ℕ} (before : List ℕ) → piece_of c ≡ AnyBytes → all ≡ before ++ rest → Matches piece_of rest pattern
-    → Matches piece_of all (c ∷ pattern)
+      → Matches piece_of all (c ∷ pattern)
 
 -- the text is made of two, which match these two patterns one after the other
 pub record MatchesInTwo (piece_of : ℕ → Piece) (text first second : List ℕ) : Type 0 where

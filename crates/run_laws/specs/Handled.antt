@@ -71,7 +71,7 @@ module _ (found : Cat) (h : Handled) where
   pub data OneOfRun (old_sink main sink : Text) : Type 0 where
     not_begun : StandsFor main found → sink ≡ old_sink → OneOfRun old_sink main sink
     in_run : (c : Cat) (part more : Text) → StandsFor main c → sink ≡ old_sink ++ part → joined_texts (replies_of h) ≡ part ++ more
-      → IsBehindSome c (length part)
+        → IsBehindSome c (length part)
         → OneOfRun old_sink main sink
 
 -- A front of the replies is shown, with at least all but the last one.

@@ -40,9 +40,7 @@ pub fn deltas_keep_ties()
 
 /// A zone gives the grid its name and its stores, and changes nothing else of it.
 pub fn a_zone_names_the_grid()
-    ensures {
-        (c d : Cat) (name : Text) (stores : ℕ) → apply c (Delta.Zone name stores) ≡ Ok d → grid_of d ≡ record (grid_of c) { zone = name; stores = stores }
-    }
+    ensures { (c d : Cat) (name : Text) (stores : ℕ) → apply c (Delta.Zone name stores) ≡ Ok d → grid_of d ≡ record (grid_of c) { zone = name; stores = stores } }
 {}
 
 /// Orphans, numbers and the command that is not done are not seen of the grid.
@@ -56,7 +54,7 @@ pub fn a_new_collection_is_put()
     ensures { (deltas : List Delta) (c d : Cat) (row : CollectionRow) → apply_all empty_cat deltas ≡ Ok c → (row.id ≡ 0 → ⊥) →
         has_collection c row.id ≡ false → apply c (Delta.Collection row) ≡ Ok d →
         grid_of d
-            ≡ record (grid_of c) { collections = put (grid_of c).collections (collection_place (collection_path c) row.parent ++ row.name ∷ []) row.inherit } }
+        ≡ record (grid_of c) { collections = put (grid_of c).collections (collection_place (collection_path c) row.parent ++ row.name ∷ []) row.inherit } }
 {}
 
 /// An object with a new id is put into the grid in its collection, without replicas, and nothing else of the grid

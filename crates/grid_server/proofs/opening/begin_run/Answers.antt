@@ -61,9 +61,9 @@ returns-in-Ok-commit-clause-begins g c =
           begun_well store c.commit.new.self c.in-Ok-one.deltas main_old main_new c.in-Ok.sessions c.requires.made c.requires.pending c.requires.rules c.in-Ok.ensures is done.commits (λ told. done.keeps told store.cat (c.requires.keeps told)) done.span.tells done.settled
           (room_of store main_old (λ e. c.if-last.false (ap (λ (n : Numbers). n.run) (c.numbers-last.ensures ∙ ap (λ (c : Cat). c.numbers) c.tables.ensures) ∙ e)) (λ far. (let worn = (done.worn Log store.log.gate).1 (refl, refl, far) in cc)) c.requires.keeps)
           (λ told. (
-              let k = c.requires.keeps told in
-              one_record store c.commit.new.self c.in-Ok-one.deltas main_old.holds main_new.holds k (done.keeps told store.cat k) (done.added told store.cat k)
-              ));
+          let k = c.requires.keeps told in
+          one_record store c.commit.new.self c.in-Ok-one.deltas main_old.holds main_new.holds k (done.keeps told store.cat k) (done.added told store.cat k)
+          ));
       main = goes_between c.args.moments.now _ _ main_old main_new done.span;
       leaves = λ told settled. done.any_moment told settled store.cat (run_begun store.cat) (c.requires.keeps told) is;
     }
