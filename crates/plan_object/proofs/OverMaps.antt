@@ -161,20 +161,20 @@ module _ (c : Cat) (s : IsSound c) (id : ℕ) where
       (λ x there passes. one_row x r there here (tied x.number r.number passes))
 
   -- as they are once all are stale
-  abbrev staled : ReplicaRow → Replica
-  staled r = stale (replica_of c r)
+  abbrev as_stale : ReplicaRow → Replica
+  as_stale r = stale (replica_of c r)
 
   abbrev all_stale : Replicas
-  all_stale = from_list (entries_of (λ (x : ReplicaRow). x.number) staled rows)
+  all_stale = from_list (entries_of (λ (x : ReplicaRow). x.number) as_stale rows)
 
   stale_is : all_stale ≡ gone_stale were
-  stale_is = from_list-values nat_cmp_total nat_cmp-IsAntisymmetric (λ (x : ReplicaRow). x.number) (replica_of c) staled stale rows (λ x here. refl) one_row
+  stale_is = from_list-values nat_cmp_total nat_cmp-IsAntisymmetric (λ (x : ReplicaRow). x.number) (replica_of c) as_stale stale rows (λ x here. refl) one_row
 
   get_were : (q : ℕ) → get were q ≡ option_map (replica_of c) (find (λ (x : ReplicaRow). eq_by_cmp nat_cmp x.number q) rows)
   get_were q = get-rows nat_cmp_total (λ (x : ReplicaRow). x.number) (replica_of c) rows q
 
-  get_stale : (q : ℕ) → get all_stale q ≡ option_map staled (find (λ (x : ReplicaRow). eq_by_cmp nat_cmp x.number q) rows)
-  get_stale q = get-rows nat_cmp_total (λ (x : ReplicaRow). x.number) staled rows q
+  get_stale : (q : ℕ) → get all_stale q ≡ option_map as_stale (find (λ (x : ReplicaRow). eq_by_cmp nat_cmp x.number q) rows)
+  get_stale q = get-rows nat_cmp_total (λ (x : ReplicaRow). x.number) as_stale rows q
 
   -- ---- their numbers
 
@@ -204,31 +204,31 @@ module _ (c : Cat) (s : IsSound c) (id : ℕ) where
   known_leaf r here = leaf_there c r.leaf (in_from_all (ReplicaStands c) c.replicas s.tied.replicas r (row_in r here).0).1
 
   module _ (len : ℕ) (digest : Digest) where
-    abbrev Known : ℕ → Type 0
-    Known id = has_resource c id ≡ true
+    abbrev IsThere : ℕ → Type 0
+    IsThere id = has_resource c id ≡ true
 
-    stale_stand : Stand len digest (resource_name c) Known (resource_names_apart c s) all_stale numbers
+    stale_stand : Stand len digest (resource_name c) IsThere (resource_names_apart c s) all_stale numbers
     stale_stand = record {
       at = λ n here.
           let r = in_from_map leaf_number_of rows n here in
-          (staled r.0, ap (λ (z : LeafNumber). get all_stale z.number) (sym r.2) ∙ get_stale r.0.number ∙ ap (option_map staled) (at_number r.0 r.1), ap (λ (z : LeafNumber). resource_name c z.leaf) r.2);
+          (as_stale r.0, ap (λ (z : LeafNumber). get all_stale z.number) (sym r.2) ∙ get_stale r.0.number ∙ ap (option_map as_stale) (at_number r.0 r.1), ap (λ (z : LeafNumber). resource_name c z.leaf) r.2);
       from = λ q x e. from q x (find (λ (r : ReplicaRow). eq_by_cmp nat_cmp r.number q) rows) refl (sym (get_stale q) ∙ e);
       count =
-          size-rows nat_cmp_total nat_cmp-IsAntisymmetric (λ (x : ReplicaRow). x.number) staled rows rows_apart ∙ sym (length-map rows leaf_number_of);
+          size-rows nat_cmp_total nat_cmp-IsAntisymmetric (λ (x : ReplicaRow). x.number) as_stale rows rows_apart ∙ sym (length-map rows leaf_number_of);
       own = numbers_own;
       all = λ n here. let r = in_from_map leaf_number_of rows n here in ap (λ (z : LeafNumber). has_resource c z.leaf) (sym r.2) ∙ known_leaf r.0 r.1;
     }
       where
-        from : (q : ℕ) (x : Replica) (o : Option ReplicaRow) → find (λ (r : ReplicaRow). eq_by_cmp nat_cmp r.number q) rows ≡ o → option_map staled o ≡ Some x
+        from : (q : ℕ) (x : Replica) (o : Option ReplicaRow) → find (λ (r : ReplicaRow). eq_by_cmp nat_cmp r.number q) rows ≡ o → option_map as_stale o ≡ Some x
             → (n : LeafNumber) × IsIn numbers n × (n.number ≡ q) × (x.leaf ≡ resource_name c n.leaf)
         from q x None is e = absurd cc
         from q x (Some r) is e =
             let its = in_from_find (λ (y : ReplicaRow). eq_by_cmp nat_cmp y.number q) rows r is in
-            let same : staled r ≡ x = cc in
+            let same : as_stale r ≡ x = cc in
             (leaf_number_of r, number_in r its.0, tied r.number q its.1, ap (λ (y : Replica). y.leaf) (sym same))
 
-    pub stand : Stand len digest (resource_name c) Known (resource_names_apart c s) (gone_stale were) numbers
-    stand = subst (λ (m : Replicas). Stand len digest (resource_name c) Known (resource_names_apart c s) m numbers) stale_is stale_stand
+    pub stand : Stand len digest (resource_name c) IsThere (resource_names_apart c s) (gone_stale were) numbers
+    stand = subst (λ (m : Replicas). Stand len digest (resource_name c) IsThere (resource_names_apart c s) m numbers) stale_is stale_stand
 
     -- ---- the targets
 
@@ -280,13 +280,13 @@ module _ (c : Cat) (s : IsSound c) (id : ℕ) where
               let found : None ≡ Some r = sym is ∙ ap (λ k. find (λ (x : ReplicaRow). eq_by_cmp nat_cmp x.number k) rows) (sym same) ∙ at_number r here in cc) in
               stales_other c (outdated ts rows) (removes were (replaced ts rows)) q (λ r here. no_row r (out_in r here))
               ∙ removes_other (replaced ts rows) were q (λ f here. no_row f.row (from_replaced ts rows f here).0)
-              ∙ get_were q ∙ ap (option_map (replica_of c)) is ∙ sym (get_stale q ∙ ap (option_map staled) is)
+              ∙ get_were q ∙ ap (option_map (replica_of c)) is ∙ sym (get_stale q ∙ ap (option_map as_stale) is)
           by (Some r) is =
               let found = in_from_find (λ (x : ReplicaRow). eq_by_cmp nat_cmp x.number q) rows r is in
               let number : r.number ≡ q = tied r.number q found.1 in
-              ap (get remaining) (sym number) ∙ kept r found.0 number (slot_on ts r.leaf) refl ∙ sym (get_stale q ∙ ap (option_map staled) is)
+              ap (get remaining) (sym number) ∙ kept r found.0 number (slot_on ts r.leaf) refl ∙ sym (get_stale q ∙ ap (option_map as_stale) is)
             where
-              kept : (r : ReplicaRow) → IsIn rows r → r.number ≡ q → (o : Option ℕ) → slot_on ts r.leaf ≡ o → get remaining r.number ≡ Some (staled r)
+              kept : (r : ReplicaRow) → IsIn rows r → r.number ≡ q → (o : Option ℕ) → slot_on ts r.leaf ≡ o → get remaining r.number ≡ Some (as_stale r)
               kept r here number (Some slot) on = let u = taken_over r here slot on in absurd (none u.0 u.1 (u.2 ∙ number))
               kept r here number None on =
                   stales_at c (outdated ts rows) (removes were (replaced ts rows)) r (λ x there same. one_row x r (out_in x there) here same) (by_good r.good refl)
@@ -300,7 +300,7 @@ module _ (c : Cat) (s : IsSound c) (id : ℕ) where
                       cc)
                       ∙ get_were r.number ∙ ap (option_map (replica_of c)) (at_number r here)
 
-                  by_good : (b : Bool) → r.good ≡ b → (get (removes were (replaced ts rows)) r.number ≡ Some (staled r)) ⊎ IsIn (outdated ts rows) r
+                  by_good : (b : Bool) → r.good ≡ b → (get (removes were (replaced ts rows)) r.number ≡ Some (as_stale r)) ⊎ IsIn (outdated ts rows) r
                   by_good true good =
                       inr (filter_from_in (λ (x : ReplicaRow). x.good && not (list_any (λ (t : rust.Target). t.leaf == x.leaf) ts)) rows r here
                       (and_from r.good (not (list_any (λ (t : rust.Target). t.leaf == r.leaf) ts)) good (ap not (no_slot ts r.leaf on))))
@@ -311,5 +311,5 @@ module _ (c : Cat) (s : IsSound c) (id : ℕ) where
       written_is =
           same_map nat_cmp_total nat_cmp-IsAntisymmetric (puts len digest (resource_name c) remaining nts) (puts len digest (resource_name c) (gone_stale were) nts)
           (λ q. puts_same len digest (resource_name c) nts remaining (gone_stale were) same_number q)
-          ∙ sym (good_all len digest (resource_name c) Known (resource_names_apart c s) leaves (gone_stale were) numbers its stand (all_known c s leaves all ts are leaves all)
+          ∙ sym (good_all len digest (resource_name c) IsThere (resource_names_apart c s) leaves (gone_stale were) numbers its stand (all_known c s leaves all ts are leaves all)
           (leaf_ids c s leaves all ts are ∙ with_leaves-is [] leaves))

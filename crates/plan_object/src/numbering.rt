@@ -86,7 +86,7 @@ fn first_gap(taken: &[LeafNumber]) -> u32
 {
     let count = taken.len() as u32;
     for number in 0..count {
-        if !is_taken(taken, number) {
+        if !number_is_taken(taken, number) {
             return number;
         }
     }
@@ -94,7 +94,7 @@ fn first_gap(taken: &[LeafNumber]) -> u32
 }
 
 // Whether a number is taken.
-fn is_taken(taken: &[LeafNumber], number: u32) -> bool
+fn number_is_taken(taken: &[LeafNumber], number: u32) -> bool
     ensures { result ≡ list_any (λ n. n.number == number) taken.now }
 {
     taken.iter().any(|there| there.number == number)
