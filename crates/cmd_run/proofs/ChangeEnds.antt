@@ -1,8 +1,7 @@
 -- How a request that changes rows alone ends.
-use Rattle.std.proofs.Common.{◌≡◌, ◌≢◌, ◌==◌, inl, inr, ℕ, ◌+◌, ◌<◌, ◌≤◌, false, length, List, [], ◌∷◌, ◌++◌, Ok, Err, None, IsTrue, refl, sym, ap, ◌∙◌, subst, arith}
+use Rattle.std.proofs.Common.{◌≡◌, ◌≢◌, ◌==◌, inl, inr, ℕ, ◌<◌, ◌≤◌, false, length, List, [], ◌∷◌, ◌++◌, Ok, Err, None, IsTrue, refl, sym, ap, ◌∙◌, subst, arith}
 use Rattle.std.specs.Prelude.{Result, ⊤}
 use Rattle.grid_outside.specs.Ambient.{AmbientState}
-use Rattle.grid_outside.specs.Device.{IsSettled}
 use Rattle.grid_outside.specs.Disk.{DiskState}
 use Rattle.grid_outside.specs.Files.{StoreState}
 use Rattle.grid_outside.specs.Source.{SourceState}
@@ -12,27 +11,23 @@ use Rattle.grid_model.specs.Rows.{Cat}
 use Rattle.grid_model.specs.RowGrids.{grid_of}
 use Rattle.grid_model.specs.Replies.{end_line}
 use Rattle.grid_model.specs.Runs.{Request}
-use Rattle.grid_model.specs.Sessions.{State}
 use Rattle.grid_model.specs.Working.{well}
-use Rattle.grid_model.specs.Applying.{IsMade}
 use Rattle.grid_model.specs.declared.deltas.Delta.{Delta}
-use Rattle.grid_journal.specs.Journal.{Journal}
 use Rattle.grid_journal.specs.Stands.{StandsFor}
 use Rattle.grid_deed.specs.Held.{IsHeld, IsKept}
 use Rattle.grid_deed.proofs.Keeping.{held_stands, made_more}
 use Rattle.grid_headline.specs.Worlds.{World}
-use Rattle.run_laws.specs.Steps.{RequestStep, IsHandledWhole, Gave}
+use Rattle.run_laws.specs.Steps.{RequestStep, IsHandledWhole}
 use Rattle.run_laws.specs.Went.{Rests}
 use Rattle.sess.specs.Places.{Places}
 use Rattle.cmd_run.specs.declared.server.Server.{Server}
 use Rattle.cmd_run.specs.declared.server.Ending.{Ending}
-use Rattle.cmd_run.specs.declared.server.Ending.TheVariants as ending
 use Rattle.cmd_run.specs.Around.{around}
 use Rattle.cmd_run.specs.Answers.{IsTextPut, PutEnds}
 use Rattle.cmd_run.specs.Fits.{state_by, state_of, FitsMain, AreUsers}
 use Rattle.cmd_run.specs.Keeps.{named, IsChange, IsKeptSo}
 use Rattle.cmd_run.specs.Obeys.{Obeys, ChangesGrid, handled}
-use Rattle.cmd_run.proofs.ChangeLemmas.{grid_named, state_last, users_last, cut_short, said, whole}
+use Rattle.cmd_run.proofs.ChangeLemmas.{state_last, users_last, cut_short, said, whole}
 use Rattle.cmd_run.proofs.Resting.{gave_same, caused_same}
 use Rattle.cmd_run.proofs.Users.{KeepsUsers, users_apply_all}
 use Rattle.cmd_run.proofs.Vaults.{some_vault}

@@ -1,10 +1,8 @@
 -- A request that changes rows alone.
-use Rattle.std.proofs.Common.{◌≡◌, ◌≢◌, ◌⊎◌, inl, inr, ℕ, ◌+◌, ◌<◌, ◌≤◌, List, [], ◌∷◌, ◌++◌, Ok, Err, None, Some, IsTrue, refl, sym, ap, ◌∙◌, subst, arith, append-nil}
-use Rattle.std.specs.Prelude.{Result, ⊤, length, take}
+use Rattle.std.proofs.Common.{◌≡◌, ◌≢◌, ◌⊎◌, inl, inr, ℕ, ◌<◌, ◌≤◌, List, [], ◌++◌, IsTrue, refl, sym, ap, ◌∙◌, subst, arith}
 use Rattle.std.proofs.lemmas.Bool.{cases_lt}
 use Rattle.grid_outside.specs.Device.{IsSettled, Leaves}
-use Rattle.grid_outside.specs.Disk.{DiskState}
-use Rattle.grid_outside.specs.Sink.{SinkState, AddsPart}
+use Rattle.grid_outside.specs.Sink.{AddsPart}
 use Rattle.grid_model.specs.Names.{Text}
 use Rattle.grid_model.specs.Grid.{Grid}
 use Rattle.grid_model.specs.Rows.{Cat}
@@ -15,12 +13,8 @@ use Rattle.grid_model.specs.ReplyTexts.{ArePieces, reply_text}
 use Rattle.grid_model.specs.Runs.{Request}
 use Rattle.grid_model.specs.Sessions.{State, Sessions}
 use Rattle.grid_model.specs.Completing.{EndsByRows}
-use Rattle.grid_model.specs.Applying.{IsMade}
-use Rattle.grid_model.specs.declared.deltas.Delta.{Delta}
 use Rattle.grid_model.specs.declared.deltas.Delta.TheVariants as delta
 use Rattle.grid_model.specs.declared.marks.Mark.{Mark}
-use Rattle.grid_model.specs.declared.replies.End.{End}
-use Rattle.grid_model.specs.declared.replies.End.TheVariants as end
 use Rattle.grid_model.specs.declared.replies.Reply.{Reply}
 use Rattle.grid_model.specs.Whole.{Naming, by_replica, by_orphan, Names}
 use Rattle.grid_journal.specs.Stands.{StandsFor, StandsEither}
@@ -32,9 +26,6 @@ use Rattle.run_laws.specs.Steps.{RequestStep, IsHandledWhole, IsLeftBehind, Gave
 use Rattle.run_laws.specs.Went.{Rests}
 use Rattle.tables_laws.proofs.Grids.{grid-unseen}
 use Rattle.sess.specs.Places.{Places, sessions_of}
-use Rattle.cmd_run.specs.declared.server.Server.{Server}
-use Rattle.cmd_run.specs.declared.server.Ending.{Ending}
-use Rattle.cmd_run.specs.declared.server.Ending.TheVariants as ending
 use Rattle.cmd_run.specs.Answers.{IsTextPut}
 use Rattle.cmd_run.specs.Fits.{state_by, AreUsers}
 use Rattle.cmd_run.specs.Keeps.{named}
@@ -42,7 +33,7 @@ use Rattle.cmd_run.specs.Obeys.{ChangesGrid}
 use Rattle.cmd_run.proofs.KeepLemmas.{applied_last}
 use Rattle.cmd_run.proofs.Resting.{like_self, none_of}
 use Rattle.cmd_run.proofs.SayLemmas.{put_left}
-use Rattle.cmd_run.proofs.Users.{KeepsUsers, users_apply_all, users_then, users_same, users_stay, sessions_stay}
+use Rattle.cmd_run.proofs.Users.{KeepsUsers, users_then, users_same, users_stay, sessions_stay}
 
 -- ---- the rows
 

@@ -1,22 +1,19 @@
 -- The keeping of changes.
-use Rattle.std.proofs.Common.{◌≡◌, ◌⊎◌, inl, inr, ℕ, ◌+◌, ◌<◌, ◌≤◌, true, List, [], ◌∷◌, ◌++◌, Ok, Err, IsTrue, refl, sym, ap, ◌∙◌, subst, arith, append-nil}
-use Rattle.std.specs.Prelude.{Result, ⊤, IsErrOf, IsOk, nat_lt, nat_le}
-use Rattle.std.specs.List.{list_all}
-use Rattle.std.specs.Result.{is_ok}
+use Rattle.std.proofs.Common.{◌≡◌, inl, ℕ, ◌<◌, ◌≤◌, List, [], ◌∷◌, ◌++◌, Ok, Err, refl, sym, ap, ◌∙◌, subst, arith}
+use Rattle.std.specs.Prelude.{Result, IsErrOf, nat_lt, nat_le}
 use Rattle.std.proofs.lemmas.Bool.{and_from, lt-ltb, le-leb}
-use Rattle.grid_outside.specs.Device.{IsSettled, Leaves}
 use Rattle.grid_outside.specs.Disk.{DiskState}
 use Rattle.grid_model.specs.Names.{Text}
 use Rattle.grid_model.specs.Rows.{Cat}
-use Rattle.grid_model.specs.Applying.{IsMade, apply, apply_all, where_fits}
+use Rattle.grid_model.specs.Applying.{apply, apply_all, where_fits}
 use Rattle.grid_model.specs.declared.deltas.Delta.{Delta}
 use Rattle.grid_model.specs.declared.deltas.Delta.TheVariants as delta
 use Rattle.grid_model.specs.declared.deltas.Numbers.{Numbers}
 use Rattle.grid_journal.specs.Journal.{Journal}
-use Rattle.grid_journal.specs.Stands.{StandsFor, StandsEither}
+use Rattle.grid_journal.specs.Stands.{StandsFor}
 use Rattle.grid_journal.specs.declared.error.JournalError.{JournalError}
 use Rattle.grid_journal.specs.declared.error.JournalError.TheVariants as journal
-use Rattle.grid_deed.specs.Held.{IsHeld, IsCommitted, CommitEnds, CommitLeaves}
+use Rattle.grid_deed.specs.Held.{IsHeld, IsCommitted, CommitEnds}
 use Rattle.file_laws.specs.Plans.{Turns}
 use Rattle.grid_deed.proofs.Keeping.{held_stands, either_of}
 use Rattle.grid_outside.specs.Files.{StoreState}
@@ -25,7 +22,7 @@ use Rattle.grid_deed.proofs.Wholes.{whole_of, one_cat}
 use Rattle.file_laws.proofs.Turning.{turns_then, turns_apply}
 use Rattle.cmd_run.specs.declared.server.Server.{Server}
 use Rattle.cmd_run.specs.declared.server.Ending.{Ending}
-use Rattle.cmd_run.specs.declared.server.Ending.TheVariants.{Disk, Sink, Memory, Worn}
+use Rattle.cmd_run.specs.declared.server.Ending.TheVariants.{Disk, Memory}
 use Rattle.cmd_run.specs.Errors.{IsOfCommit, ending_of}
 use Rattle.cmd_run.specs.Keeps.{named, KeepEnds, IsKeptSo, IsChange}
 

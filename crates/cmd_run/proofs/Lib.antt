@@ -4,13 +4,13 @@ pub mod FetchLemmas
 pub mod GetEnds
 pub mod GetRefusals
 pub mod GetSteps
+pub mod GoodWords
 pub mod GotLemmas
 pub mod KeepLemmas
 pub mod KeptEnds
 pub mod Listings
 pub mod LoginLemmas
 pub mod Meant
-pub mod NewNames
 pub mod NotRefused
 pub mod OfGrid
 pub mod OfRows
@@ -25,6 +25,7 @@ pub mod SayLemmas
 pub mod SentFiles
 pub mod SweepEnds
 pub mod SweepLemmas
+pub mod Tagged
 pub mod Users
 pub mod Vaults
 pub mod WorkingLemmas

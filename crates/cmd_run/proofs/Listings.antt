@@ -1,29 +1,29 @@
 -- A listing that is asked for by a session that is logged in.
-use Rattle.std.proofs.Common.{◌≡◌, ℕ, Bool, true, false, List, [], Option, Some, None, Ok, Err, refl, sym, ap, subst, ◌∙◌}
-use Rattle.std.specs.Prelude.{flat_map}
-use Rattle.grid_model.specs.Grid.{Grid}
+use Rattle.std.proofs.Common.{◌≡◌, ℕ, List, [], Some, None, Ok, Err, refl, ap, subst, ◌∙◌}
+use Rattle.std.specs.Prelude.{flat_map, map, ◌∷◌}
+use Rattle.grid_model.specs.Grid.{Grid, Thing, Triple, object_at, collection_at, resource_named, user_named}
 use Rattle.grid_model.specs.Names.{Text, Path}
 use Rattle.grid_model.specs.Levels.{may}
-use Rattle.grid_model.specs.Listings.{ls_rows, listed, object_rows}
-use Rattle.grid_model.specs.Maps.{get}
+use Rattle.grid_model.specs.Listings.{ls_rows, listed, lsmeta_rows, may_see, object_rows, triples_at}
+use Rattle.grid_model.specs.Maps.{get, has}
 use Rattle.grid_model.specs.MapLists.{values}
 use Rattle.grid_model.specs.Meanings.{Meaning, gives}
 use Rattle.grid_model.specs.Obeying.{listing}
-use Rattle.grid_model.specs.Operations.Common.{is_taken, needs}
-use Rattle.grid_model.specs.Orders.{lists}
+use Rattle.grid_model.specs.Operations.Common.{is_taken, needs, object_there}
+use Rattle.grid_model.specs.Orders.{lists, lists_triples}
 use Rattle.grid_model.specs.Refusing.{Or, ◌>>=◌, unless}
 use Rattle.grid_model.specs.RowGrids.{grid_of, user_name}
 use Rattle.grid_model.specs.Sessions.{State}
 use Rattle.grid_model.specs.Working.{Done, begun, done, well, refused_at_once}
 use Rattle.grid_model.specs.declared.grid.Level.TheVariants.{Read}
 use Rattle.grid_model.specs.declared.refusal.Refusal.{Refusal}
-use Rattle.grid_model.specs.declared.refusal.Refusal.TheVariants.{NoObject, NoAccess}
+use Rattle.grid_model.specs.declared.refusal.Refusal.TheVariants.{NoObject, NoAccess, NoCollection, NoResource, NoUser}
 use Rattle.grid_model.specs.declared.replies.End.TheVariants as end
 use Rattle.sess.specs.Places.{at, user_of}
 use Rattle.cmd_run.specs.declared.server.Server.{Server}
 use Rattle.cmd_run.specs.Fits.{state_of}
 use Rattle.cmd_run.specs.Obeys.{SaysOnly, SaysRows}
-use Rattle.cmd_run.proofs.OfGrid.{OfGrid, then_of, unless_of}
+use Rattle.cmd_run.proofs.OfGrid.{OfGrid, then_of, there_of, unless_of}
 use Rattle.cmd_run.proofs.Operating.{with_login}
 use Rattle.cmd_run.proofs.WorkingLemmas.{login, who}
 
@@ -71,4 +71,52 @@ module _ (s : Server) (session user : ℕ) (has : user_of (at s.sessions session
     state = refl;
     grid = refl;
     by_rows = subst OfGrid is (ls_of (grid_of s.store.cat) name p);
+  }
+
+-- ---- metadata
+
+module _ (g : Grid) (user : Text) where
+  may_see_of : (thing : Thing) → OfGrid (may_see g user thing)
+  may_see_of (object_at p) = then_of (object_there g p) (λ _. needs g user p Read) (there_of (get g.objects p) NoObject tt) (λ _. unless_of (may g user p Read) NoAccess tt)
+  may_see_of (collection_at p) = then_of (unless (has g.collections p) NoCollection) (λ _. needs g user p Read) (unless_of (has g.collections p) NoCollection tt) (λ _. unless_of (may g user p Read) NoAccess tt)
+  may_see_of (resource_named n) = unless_of (has g.resources n) NoResource tt
+  may_see_of (user_named n) = unless_of (has g.users n) NoUser tt
+
+  lsmeta_of : (thing : Thing) → OfGrid (lsmeta_rows g user thing)
+  lsmeta_of thing =
+      let rows : List (List Text) = map (λ (t : Triple). t.attribute ∷ t.value ∷ t.unit ∷ []) (triples_at g thing) in
+      then_of (may_see g user thing) (λ _. Ok rows) (may_see_of thing) (λ _. tt)
+
+module _ (s : Server) (session user : ℕ) (has_user : user_of (at s.sessions session) ≡ Some user) (thing : Thing) where
+  abbrev at_once : State
+  at_once = state_of s
+
+  abbrev user_now : Text
+  user_now = user_name s.store.cat user
+
+  abbrev by_triples : Or (List (List Text)) → Meaning Done
+  by_triples o = gives (listing at_once o (begun at_once.grid []))
+
+  -- what is said of a thing is shown
+  pub says_told : (rows : List (List Text)) → lsmeta_rows (grid_of s.store.cat) user_now thing ≡ Ok rows → SaysRows at_once (Ok (session, lists_triples thing)) rows well at_once
+  says_told rows is = record {
+    d = done at_once (begun at_once.grid []) [] rows None well;
+    does_so = with_login at_once session (lists_triples thing) [] (who s session user has_user) (login s session user has_user) ∙ ap by_triples is;
+    reply_is = refl;
+    all = refl;
+    state = refl;
+    grid = refl;
+    by_rows = tt;
+  }
+
+  -- or nothing is
+  pub says_untold : (r : Refusal) → lsmeta_rows (grid_of s.store.cat) user_now thing ≡ Err r → SaysOnly at_once (Ok (session, lists_triples thing)) (end.Refused r) at_once
+  says_untold r is = record {
+    d = refused_at_once at_once (begun at_once.grid []) r;
+    does_so = with_login at_once session (lists_triples thing) [] (who s session user has_user) (login s session user has_user) ∙ ap by_triples is;
+    reply_is = refl;
+    all = refl;
+    state = refl;
+    grid = refl;
+    by_rows = subst OfGrid is (lsmeta_of (grid_of s.store.cat) user_now thing);
   }

@@ -1,19 +1,18 @@
 -- Who logs in and out.
-use Rattle.std.proofs.Common.{◌≡◌, ◌≢◌, ◌==◌, ◌⊎◌, inl, inr, ℕ, ◌<◌, List, [], Bool, true, false, Option, Some, None, Ok, Err, IsTrue, refl, sym, ap, ◌∙◌, subst, eq-eqb, arith}
+use Rattle.std.proofs.Common.{◌≡◌, ◌≢◌, ◌==◌, ◌⊎◌, inl, inr, ℕ, ◌<◌, [], Bool, true, false, Option, Some, None, Ok, Err, IsTrue, refl, sym, ap, ◌∙◌, subst, eq-eqb, arith}
 use Rattle.std.specs.Prelude.{option_map, unwrap_or, find, not, ◌&&◌}
-use Rattle.std.specs.List.{list_any}
 use Rattle.std.proofs.lemmas.Bool.{and_from, cases_order}
 use Rattle.grid_model.specs.Maps.{get, put, remove}
 use Rattle.grid_model.specs.Names.{Text, same_text}
 use Rattle.grid_model.specs.Rows.{Cat, IsCat, user_cmp, user}
 use Rattle.grid_model.specs.RowGrids.{grid_of, user_name}
 use Rattle.grid_model.specs.Applying.{is_user, is_group_kind}
-use Rattle.grid_model.specs.Meanings.{Meaning, gives}
+use Rattle.grid_model.specs.Meanings.{gives}
 use Rattle.grid_model.specs.Operations.Common.{is_person}
 use Rattle.grid_model.specs.Levels.{is_admin}
 use Rattle.grid_model.specs.Refusing.{unless}
 use Rattle.grid_model.specs.Orders.{Order, logs_in, logs_out, quits, sweeps}
-use Rattle.grid_model.specs.Runs.{Request, does}
+use Rattle.grid_model.specs.Runs.{does}
 use Rattle.grid_model.specs.Sessions as sessions
 use Rattle.grid_model.specs.Sessions.{State, Sessions}
 use Rattle.grid_model.specs.Uploading.{has_upload, with_session}

@@ -6,13 +6,12 @@ use Rattle.grid_model.specs.Maps.{get}
 use Rattle.grid_model.specs.Rows.{Cat}
 use Rattle.grid_model.specs.RowGrids.{grid_of, user_name}
 use Rattle.grid_model.specs.Deeds.{Deed, deed}
-use Rattle.grid_model.specs.Meanings.{Meaning, gives, waits}
+use Rattle.grid_model.specs.Meanings.{Meaning, gives}
 use Rattle.grid_model.specs.Operations.Table.{Operation, row}
 use Rattle.grid_model.specs.Orders.{works}
 use Rattle.grid_model.specs.Runs.{Request, does}
 use Rattle.grid_model.specs.Sessions.{Session, State}
-use Rattle.grid_model.specs.Working.{Done, running, well}
-use Rattle.grid_model.specs.declared.replies.End.{End}
+use Rattle.grid_model.specs.Working.{Done, well}
 use Rattle.grid_model.specs.declared.replies.End.TheVariants as end
 use Rattle.grid_model.specs.declared.replies.Reply.{Reply}
 use Rattle.plan_object.specs.Writing.{GoesTo}

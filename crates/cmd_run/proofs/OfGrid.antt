@@ -1,7 +1,7 @@
 -- What a row refuses is of the grid, and not of a mark.
 use Rattle.std.proofs.Common.{◌≡◌, refl, ℕ, ◌+◌, Bool, true, false, List, Option, Some, None, Ok, Err, length}
 use Rattle.std.specs.Prelude.{⊤, nat_le}
-use Rattle.grid_model.specs.Maps.{get, has}
+use Rattle.grid_model.specs.Maps.{has}
 use Rattle.grid_model.specs.MapLists.{size}
 use Rattle.grid_model.specs.Names.{Text, Path, parent}
 use Rattle.grid_model.specs.Grid.{Grid}

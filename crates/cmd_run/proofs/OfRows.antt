@@ -1,13 +1,14 @@
 -- What the rows of operations refuse that change rows alone is of the grid.
-use Rattle.std.proofs.Common.{◌≡◌, refl, Bool, true, false, [], ◌∷◌, Option, Some, None, Ok, Err}
-use Rattle.std.specs.Prelude.{⊤, ℕ, ◌||◌, is_some}
+use Rattle.std.proofs.Common.{◌≡◌, refl, Bool, true, false, [], Option, Some, None, Ok}
+use Rattle.std.specs.Prelude.{⊤, ℕ, ◌||◌, is_some, length, nat_le, nat_lt}
 use Rattle.std.specs.List.{list_any}
 use Rattle.grid_model.specs.Maps.{get, has, put, add, remove}
 use Rattle.grid_model.specs.MapLists.{size}
 use Rattle.grid_model.specs.Names.{Text, Path, is_under, same_text}
-use Rattle.grid_model.specs.Grid.{Grid, Object, Resource, everybody, homes, home_of}
+use Rattle.grid_model.specs.Grid.{Grid, Object, Resource, Thing, Triple, object_at, collection_at, resource_named, user_named, everybody, homes, home_of}
 use Rattle.grid_model.specs.Levels.{may, is_admin}
-use Rattle.grid_model.specs.Bounds.{within}
+use Rattle.grid_model.specs.Bounds.{within, triple_size}
+use Rattle.grid_model.specs.Operations.Metadata.{addmeta_row, rmmeta_row, may_tag, words_fit}
 use Rattle.grid_model.specs.Refusing.{Or, ◌>>=◌, unless, refuse, there}
 use Rattle.grid_model.specs.Deeds.{Act, changes}
 use Rattle.grid_model.specs.Moves.{moved_grid}
@@ -27,10 +28,11 @@ use Rattle.grid_model.specs.declared.grid.Level.TheVariants.{Write, Own}
 use Rattle.grid_model.specs.declared.grid.ResourceKind.{ResourceKind}
 use Rattle.grid_model.specs.declared.grid.ResourceKind.TheVariants.{Storage}
 use Rattle.grid_model.specs.declared.refusal.TreeCause.TheVariants.{Leaf, HasParent, Cycle, Full, Coordinating}
-use Rattle.grid_model.specs.declared.refusal.What.TheVariants.{Access, Collections, Members, Resources, Users}
+use Rattle.grid_model.specs.declared.refusal.What.TheVariants.{Access, Collections, Members, Resources, Triples, Users}
 use Rattle.grid_model.specs.declared.refusal.Refusal.TheVariants as refusal
 use Rattle.grid_model.specs.declared.requests.Verb.{Verb}
 use Rattle.grid_model.specs.declared.requests.Verb.TheVariants as verb
+use Rattle.cmd_run.specs.Asking.{tagging}
 use Rattle.cmd_run.specs.Operating.{operation_by}
 use Rattle.cmd_run.proofs.OfGrid.{OfGrid, then_of, unless_of, refuse_of, there_of, within_of, above_of, mkdir_of}
 
@@ -296,6 +298,79 @@ module _ (g : Grid) (user : Text) where
     rm_of =
         then_of (object_there g p) (λ _. needs g user p Own >>= (λ _. rm_done)) (there_of (get g.objects p) refusal.NoObject tt) (λ _.
         then_of (needs g user p Own) (λ _. rm_done) (unless_of (may g user p Own) refusal.NoAccess tt) (λ _. tt))
+
+  -- ---- metadata
+
+  may_tag_of : (thing : Thing) → OfGrid (may_tag g user thing)
+  may_tag_of (object_at p) = then_of (object_there g p) (λ _. needs g user p Write) (there_of (get g.objects p) refusal.NoObject tt) (λ _. unless_of (may g user p Write) refusal.NoAccess tt)
+  may_tag_of (collection_at p) =
+      then_of (unless (has g.collections p) refusal.NoCollection) (λ _. needs g user p Write) (unless_of (has g.collections p) refusal.NoCollection tt) (λ _. unless_of (may g user p Write) refusal.NoAccess tt)
+  may_tag_of (resource_named n) = then_of (needs_admin g user) (λ _. resource_there g n) admin_of (λ _. unless_of (has g.resources n) refusal.NoResource tt)
+  may_tag_of (user_named n) = then_of (needs_admin g user) (λ _. unless (has g.users n) refusal.NoUser) admin_of (λ _. unless_of (has g.users n) refusal.NoUser tt)
+
+  module _ (t : Triple) where
+    abbrev unit_fits : Or ⊤
+    unit_fits = unless (nat_le (length t.unit) triple_size) (refusal.BadTriple 2)
+
+    abbrev value_fits : Or ⊤
+    value_fits = unless (nat_le (length t.value) triple_size) (refusal.BadTriple 1) >>= (λ _. unit_fits)
+
+    abbrev attribute_fits : Or ⊤
+    attribute_fits = unless (nat_le (length t.attribute) triple_size) (refusal.BadTriple 0) >>= (λ _. value_fits)
+
+    abbrev has_value : Or ⊤
+    has_value = unless (nat_lt 0 (length t.value)) (refusal.BadTriple 1) >>= (λ _. attribute_fits)
+
+    words_fit_of : OfGrid (words_fit t)
+    words_fit_of =
+        then_of (unless (nat_lt 0 (length t.attribute)) (refusal.BadTriple 0)) (λ _. has_value) (unless_of (nat_lt 0 (length t.attribute)) (refusal.BadTriple 0) tt) (λ _.
+        then_of (unless (nat_lt 0 (length t.value)) (refusal.BadTriple 1)) (λ _. attribute_fits) (unless_of (nat_lt 0 (length t.value)) (refusal.BadTriple 1) tt) (λ _.
+        then_of (unless (nat_le (length t.attribute) triple_size) (refusal.BadTriple 0)) (λ _. value_fits) (unless_of (nat_le (length t.attribute) triple_size) (refusal.BadTriple 0) tt) (λ _.
+        then_of (unless (nat_le (length t.value) triple_size) (refusal.BadTriple 1)) (λ _. unit_fits) (unless_of (nat_le (length t.value) triple_size) (refusal.BadTriple 1) tt) (λ _.
+        unless_of (nat_le (length t.unit) triple_size) (refusal.BadTriple 2) tt))))
+
+    abbrev said : Or Act
+    said = Ok (changes (record g { triples = add g.triples t }))
+
+    abbrev room_triples : Or Act
+    room_triples = within Triples (size (add g.triples t)) >>= (λ _. said)
+
+    abbrev unsaid_yet : Or Act
+    unsaid_yet = refuse (has g.triples t) refusal.Exists >>= (λ _. room_triples)
+
+    abbrev words_so : Or Act
+    words_so = words_fit t >>= (λ _. unsaid_yet)
+
+    addmeta_of : OfGrid (addmeta_row g user t)
+    addmeta_of =
+        then_of (may_tag g user t.of) (λ _. words_so) (may_tag_of t.of) (λ _.
+        then_of (words_fit t) (λ _. unsaid_yet) words_fit_of (λ _.
+        then_of (refuse (has g.triples t) refusal.Exists) (λ _. room_triples) (refuse_of (has g.triples t) refusal.Exists tt) (λ _.
+        then_of (within Triples (size (add g.triples t))) (λ _. said) (within_of Triples (size (add g.triples t))) (λ _. tt))))
+
+    abbrev unsaid_now : Or Act
+    unsaid_now = Ok (changes (record g { triples = remove g.triples t }))
+
+    abbrev is_said : Or Act
+    is_said = unless (has g.triples t) refusal.NoTriple >>= (λ _. unsaid_now)
+
+    abbrev words_then : Or Act
+    words_then = words_fit t >>= (λ _. is_said)
+
+    rmmeta_of : OfGrid (rmmeta_row g user t)
+    rmmeta_of =
+        then_of (may_tag g user t.of) (λ _. words_then) (may_tag_of t.of) (λ _.
+        then_of (words_fit t) (λ _. is_said) words_fit_of (λ _.
+        then_of (unless (has g.triples t) refusal.NoTriple) (λ _. unsaid_now) (unless_of (has g.triples t) refusal.NoTriple tt) (λ _. tt)))
+
+  -- what refuses to say something of a thing from now on, or no longer, is of the grid
+  pub tag_of_grid : (adds : Bool) (t : Triple) → OfGrid (row g user (tagging adds t))
+  tag_of_grid true t = addmeta_of t
+  tag_of_grid false t = rmmeta_of t
+
+  pub tag_is_silent : (adds : Bool) (t : Triple) → words_of g user (tagging adds t) ≡ []
+  tag_is_silent true t = refl
+  tag_is_silent false t = refl
 
   -- ---- by the verb
 

@@ -1,9 +1,8 @@
 -- What an operation comes to that changes rows alone, by its plan.
-use Rattle.std.proofs.Common.{◌≡◌, ℕ, List, [], Option, Some, None, Ok, Err, refl, sym, ap, subst, ◌∙◌}
+use Rattle.std.proofs.Common.{◌≡◌, ℕ, List, Option, Some, None, Ok, Err, refl, sym, subst}
 use Rattle.std.specs.Prelude.{Result, is_some, true, false}
 use Rattle.grid_model.specs.Names.{Text}
 use Rattle.grid_model.specs.Operations.Table.{Operation, row}
-use Rattle.grid_model.specs.Orders.{works}
 use Rattle.grid_model.specs.Rows.{Cat}
 use Rattle.grid_model.specs.RowGrids.{grid_of, user_name}
 use Rattle.grid_model.specs.Runs.{Request}
@@ -13,7 +12,6 @@ use Rattle.grid_model.specs.declared.plans.PlanError.TheVariants.{Refused}
 use Rattle.grid_model.specs.declared.replies.End.TheVariants as end
 use Rattle.grid_model.specs.declared.refusal.Refusal.{Refusal}
 use Rattle.grid_model.specs.declared.requests.Verb.{Verb}
-use Rattle.plan_base.specs.Plans as plans
 use Rattle.sess.specs.Places.{at, user_of}
 use Rattle.cmd_run.specs.declared.server.Server.{Server}
 use Rattle.cmd_run.specs.Fits.{state_of}

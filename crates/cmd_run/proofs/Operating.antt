@@ -1,5 +1,5 @@
 -- What requests come to where there are no rules.
-use Rattle.std.proofs.Common.{◌≡◌, ℕ, Bool, true, false, List, [], ◌∷◌, Option, Some, None, refl, ◌∙◌, ap}
+use Rattle.std.proofs.Common.{◌≡◌, ℕ, Bool, true, false, List, [], ◌∷◌, Option, Some, None, ◌∙◌, ap}
 use Rattle.std.specs.Prelude.{Ok, Err, nat_le}
 use Rattle.grid_model.specs.Maps.{get}
 use Rattle.grid_model.specs.Names.{Text}
@@ -12,8 +12,8 @@ use Rattle.grid_model.specs.Operations.Table.{Operation, row}
 use Rattle.grid_model.specs.Meanings.{Meaning, gives, waits, mapped}
 use Rattle.grid_model.specs.Doing.{Course, Did, do_act, where_mark_fits, with_result, taking}
 use Rattle.grid_model.specs.Sessions.{Session, State}
-use Rattle.grid_model.specs.Orders.{Order, works}
-use Rattle.grid_model.specs.Working.{Done, Worked, Sent, begun, done, refused_at_once, work, running, words_of, sent_by, operate}
+use Rattle.grid_model.specs.Orders.{Order}
+use Rattle.grid_model.specs.Working.{Done, Sent, begun, done, refused_at_once, running, words_of, sent_by, operate}
 use Rattle.grid_model.specs.Obeying.{command, logged_in, not_logged_in, do_works}
 use Rattle.grid_model.specs.declared.marks.Mark.{Mark}
 use Rattle.grid_model.specs.declared.marks.Mark.TheVariants.{Ran, Fault, Bad}

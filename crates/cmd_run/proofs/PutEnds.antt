@@ -1,5 +1,5 @@
 -- How a put ends, by how its plan was carried out.
-use Rattle.std.proofs.Common.{◌≡◌, ◌⊎◌, inl, inr, ℕ, ◌+◌, ◌<◌, ◌≤◌, List, [], ◌∷◌, ◌++◌, length, Option, Some, None, Ok, Err, IsTrue, refl, sym, ap, ◌∙◌, subst, arith}
+use Rattle.std.proofs.Common.{◌≡◌, inl, inr, ℕ, ◌<◌, ◌≤◌, [], ◌∷◌, ◌++◌, length, Option, Some, None, Ok, Err, IsTrue, refl, sym, ap, ◌∙◌, subst, arith}
 use Rattle.std.specs.Prelude.{All, Result, ⊤, IsErrOf}
 use Rattle.grid_outside.specs.Ambient.{AmbientState}
 use Rattle.grid_outside.specs.Device.{IsSettled, Leaves, EachPair}
@@ -38,7 +38,7 @@ use Rattle.grid_deed.specs.Frame.{StoresGo, Frame}
 use Rattle.grid_deed.specs.Held.{IsHeld, IsKept}
 use Rattle.grid_deed.proofs.Keeping.{held_stands, made_more}
 use Rattle.grid_headline.specs.Worlds.{World}
-use Rattle.run_laws.specs.Steps.{RequestStep, IsHandledWhole, IsLeftBehind, IsLike, Gave}
+use Rattle.run_laws.specs.Steps.{RequestStep, IsHandledWhole, IsLeftBehind}
 use Rattle.sess.specs.Places.{Places, sessions_of}
 use Rattle.cmd_run.specs.declared.server.Server.{Server}
 use Rattle.cmd_run.specs.declared.server.Ending.{Ending}
@@ -52,11 +52,11 @@ use Rattle.cmd_run.specs.Keeps.{named}
 use Rattle.cmd_run.specs.Obeys.{Obeys, SaysOnly, IsWorn, IsWornAt, AsksForFile, handled, quiet}
 use Rattle.file_laws.specs.Plans.{IsPlan, Turns}
 use Rattle.grid_headline.specs.Numbers.{last_vault}
-use Rattle.cmd_run.specs.Passes.{Seen, CallsPass}
+use Rattle.cmd_run.specs.Passes.{CallsPass}
 use Rattle.plan_object.specs.Writing.{FindsTargets}
 use Rattle.cmd_run.proofs.OfGrid.{OfGrid, put_of}
 use Rattle.cmd_run.specs.Puts.{wanted, AsksToPut, PlansPut, operation_of}
-use Rattle.cmd_run.specs.Writes.{Kept, Writing, WriteEnds, EndsIn, FailedAt, IsWritten}
+use Rattle.cmd_run.specs.Writes.{Kept, Writing, WriteEnds, IsWritten}
 use Rattle.cmd_run.proofs.ChangeEnds.{rests_self, fits_on}
 use Rattle.cmd_run.proofs.ChangeLemmas.{grid_named, keeps_named}
 use Rattle.cmd_run.proofs.GotLemmas.{caused_none, caused_fault, gave_ran, gave_untold}

@@ -1,34 +1,28 @@
 -- The plan of a put, with the number of its command.
-use Rattle.std.proofs.Common.{◌≡◌, ℕ, ◌+◌, ◌<◌, ◌≤◌, ◌^◌, true, List, [], ◌∷◌, ◌++◌, length, Ok, Some, IsTrue, refl, sym, ap, ◌∙◌, subst, arith}
+use Rattle.std.proofs.Common.{◌≡◌, ℕ, ◌+◌, ◌<◌, ◌≤◌, ◌^◌, true, List, [], ◌∷◌, length, Ok, IsTrue, refl, sym, ap, ◌∙◌, subst, arith}
 use Rattle.std.specs.Prelude.{All, Result, Err, IfOk}
 use Rattle.std.specs.List.{list_all}
 use Rattle.grid_model.specs.Names.{Text}
-use Rattle.grid_model.specs.Grid.{Grid}
 use Rattle.grid_model.specs.Rows.{Cat}
 use Rattle.grid_model.specs.RowGrids.{grid_of, user_name}
 use Rattle.grid_model.specs.Applying.{IsMade, apply, apply_all}
-use Rattle.grid_model.specs.Deeds.{Deed, Touch, deed, fits, ran_fits, writing, sending, copying, reading}
-use Rattle.grid_model.specs.Operations.Table.{row}
+use Rattle.grid_model.specs.Deeds.{Touch, ran_fits, writing, sending, copying, reading}
 use Rattle.grid_model.specs.Operations.Objects.{put_row}
-use Rattle.grid_model.specs.Whole.{Naming, Names}
 use Rattle.grid_model.specs.declared.deltas.Delta.{Delta}
 use Rattle.grid_model.specs.declared.deltas.Delta.TheVariants as delta
 use Rattle.grid_model.specs.declared.deltas.Numbers.{Numbers}
-use Rattle.grid_model.specs.declared.marks.Mark.TheVariants.{Ran, Fault}
 use Rattle.grid_model.specs.declared.plans.Plan.{Plan}
 use Rattle.grid_model.specs.declared.plans.NewFile.{NewFile}
 use Rattle.grid_journal.specs.Journal.{can_be_kept}
-use Rattle.grid_vault.specs.Vault.{HasSlot, IsAmong}
-use Rattle.file_laws.specs.Plans.{Turns, IsPlan}
+use Rattle.file_laws.specs.Plans.{IsPlan}
 use Rattle.file_laws.proofs.Turning.{turns_then, turns_apply}
 use Rattle.grid_deed.proofs.Keeping.{made_more}
-use Rattle.grid_headline.specs.Numbers.{KeepsNumbers}
 use Rattle.run_laws.specs.Steps.{IsLike}
-use Rattle.plan_object.specs.Writing.{Draws, MakesGrid, WritesFiles}
+use Rattle.plan_object.specs.Writing.{Draws, WritesFiles}
 use Rattle.cmd_run.specs.declared.putting.Putting.{Putting}
 use Rattle.cmd_run.specs.Keeps.{named}
 use Rattle.cmd_run.specs.Obeys.{StaysBeside}
-use Rattle.cmd_run.specs.Puts.{operation_of, PlansPut, IsNamedPlan}
+use Rattle.cmd_run.specs.Puts.{PlansPut, IsNamedPlan}
 use Rattle.cmd_run.proofs.ChangeLemmas.{grid_named, keeps_named}
 use Rattle.cmd_run.proofs.KeepLemmas.{apply_all-then, applied_last}
 use Rattle.cmd_run.proofs.Vaults.{some_vault}

@@ -1,32 +1,29 @@
 -- What main remembers at each moment: no command is pending, and what was named is named.
-use Rattle.std.proofs.Common.{◌≡◌, ◌⊎◌, inl, inr, ℕ, ◌<◌, ◌≤◌, false, [], None, Some, Ok, Err, IsTrue, sym, ap, subst, arith}
+use Rattle.std.proofs.Common.{◌≡◌, inl, inr, ℕ, ◌≤◌, false, [], None, Some, Err, IsTrue, sym, subst}
 use Rattle.std.specs.Prelude.{Result, ⊤, Option}
 use Rattle.std.proofs.lemmas.Bool.{cases_lt}
-use Rattle.grid_outside.specs.Device.{IsSettled, Leaves}
+use Rattle.grid_outside.specs.Device.{IsSettled}
 use Rattle.grid_outside.specs.Disk.{DiskState}
 use Rattle.grid_outside.specs.Files.{StoreState}
 use Rattle.grid_outside.specs.Source.{SourceState}
 use Rattle.grid_outside.specs.declared.outside.Wear.TheVariants.{Log, Vaults}
 use Rattle.grid_model.specs.Names.{Text}
-use Rattle.grid_model.specs.Orders.{logs_out}
 use Rattle.grid_model.specs.Rows.{Cat}
 use Rattle.grid_model.specs.Whole.{Naming, Names, by_replica, by_orphan}
-use Rattle.grid_model.specs.Runs.{Request}
 use Rattle.grid_journal.specs.Journal.{Journal}
-use Rattle.grid_journal.specs.Stands.{StandsFor, StandsEither}
+use Rattle.grid_journal.specs.Stands.{StandsFor}
 use Rattle.grid_deed.specs.Deeds.{StandsOne}
 use Rattle.grid_deed.specs.Frame.{Goes}
 use Rattle.grid_deed.specs.Held.{IsHeld}
 use Rattle.grid_deed.proofs.Keeping.{held_stands}
 use Rattle.grid_deed.proofs.Wholes.{one_cat}
 use Rattle.grid_headline.specs.Files.{NamesCall, KeepsNamed}
-use Rattle.grid_headline.specs.Worlds.{World}
 use Rattle.cmd_run.specs.declared.server.Server.{Server}
 use Rattle.cmd_run.specs.declared.server.Ending.{Ending}
 use Rattle.cmd_run.specs.declared.server.Ending.TheVariants.{Worn}
 use Rattle.cmd_run.specs.Keeps.{IsKeptSo, named}
-use Rattle.cmd_run.specs.Obeys.{Remembers, IsWorn, AsksForFile}
-use Rattle.cmd_run.specs.Writes.{Kept, Writing, WriteEnds, EndsIn, FailedAt, IsWritten}
+use Rattle.cmd_run.specs.Obeys.{Remembers}
+use Rattle.cmd_run.specs.Writes.{Kept, Writing, WriteEnds, EndsIn, IsWritten}
 use Rattle.cmd_run.proofs.ChangeLemmas.{names_named}
 use Rattle.cmd_run.proofs.Resting.{stands_still}
 

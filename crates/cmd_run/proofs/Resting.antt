@@ -1,8 +1,7 @@
 -- Devices that were not called, and marks that were not told.
-use Rattle.std.proofs.Common.{◌≡◌, ℕ, ◌+◌, ◌<◌, ◌≤◌, List, [], ◌∷◌, ◌++◌, Some, IsTrue, refl, sym, ap, subst, arith, append-nil}
-use Rattle.std.specs.Prelude.{slice_get}
+use Rattle.std.proofs.Common.{◌≡◌, ℕ, ◌+◌, ◌<◌, ◌≤◌, List, [], IsTrue, refl, sym, ap, subst, arith, append-nil}
 use Rattle.grid_outside.specs.Ambient.{AmbientState}
-use Rattle.grid_outside.specs.Device.{IsSettled, DeviceState}
+use Rattle.grid_outside.specs.Device.{IsSettled}
 use Rattle.grid_outside.specs.Disk.{DiskState}
 use Rattle.grid_outside.specs.Files.{StoreState}
 use Rattle.grid_outside.specs.Source.{SourceState}

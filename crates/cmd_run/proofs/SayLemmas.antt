@@ -1,8 +1,7 @@
 -- A request that is answered with an end alone.
-use Rattle.std.proofs.Common.{◌≡◌, ◌⊎◌, inl, inr, ℕ, ◌+◌, ◌<◌, ◌≤◌, List, [], ◌∷◌, ◌++◌, Ok, Err, IsTrue, refl, sym, ap, ◌∙◌, subst, arith, append-nil}
-use Rattle.std.specs.Prelude.{Result, ⊤, length, take}
+use Rattle.std.proofs.Common.{◌≡◌, ℕ, ◌+◌, ◌<◌, ◌≤◌, List, [], ◌++◌, Ok, Err, IsTrue, refl, sym, ap, ◌∙◌, subst, arith}
+use Rattle.std.specs.Prelude.{Result, ⊤, length}
 use Rattle.std.proofs.lemmas.List.{take_all}
-use Rattle.std.proofs.lemmas.Bool.{cases_lt}
 use Rattle.grid_outside.specs.Ambient.{AmbientState}
 use Rattle.grid_outside.specs.Device.{IsSettled}
 use Rattle.grid_outside.specs.Disk.{DiskState}
@@ -11,14 +10,9 @@ use Rattle.grid_outside.specs.Source.{SourceState}
 use Rattle.grid_outside.specs.Sink.{SinkState, AddsPart}
 use Rattle.grid_outside.specs.declared.outside.Outside.{Outside}
 use Rattle.grid_model.specs.Names.{Text}
-use Rattle.grid_model.specs.Grid.{Grid}
 use Rattle.grid_model.specs.Rows.{Cat}
-use Rattle.grid_model.specs.RowGrids.{grid_of}
-use Rattle.grid_model.specs.Replies.{rest_lines}
 use Rattle.grid_model.specs.ReplyTexts.{ArePieces, reply_text}
 use Rattle.grid_model.specs.Runs.{Request}
-use Rattle.grid_model.specs.Sessions.{State}
-use Rattle.grid_model.specs.Working.{Sent}
 use Rattle.grid_model.specs.Completing.{EndsByRows}
 use Rattle.grid_model.specs.declared.marks.Mark.{Mark}
 use Rattle.grid_model.specs.declared.replies.End.{End}
@@ -28,14 +22,14 @@ use Rattle.grid_deed.specs.Held.{IsHeld}
 use Rattle.grid_deed.proofs.Keeping.{held_stands}
 use Rattle.grid_headline.specs.Worlds.{World}
 use Rattle.grid_headline.specs.Files.{IsKnown}
-use Rattle.run_laws.specs.Steps.{RequestStep, IsHandledWhole, IsLike, IsQuiet, OneOf, kept_so, unseen}
+use Rattle.run_laws.specs.Steps.{RequestStep, IsHandledWhole, IsLike, OneOf, kept_so, unseen}
 use Rattle.cmd_run.specs.declared.server.Server.{Server}
 use Rattle.cmd_run.specs.declared.server.Ending.{Ending}
 use Rattle.cmd_run.specs.declared.server.Ending.TheVariants as ending
 use Rattle.cmd_run.specs.Around.{around}
 use Rattle.cmd_run.specs.Answers.{IsTextPut, PutEnds, shown_lines}
 use Rattle.cmd_run.specs.Fits.{state_of, FitsMain}
-use Rattle.cmd_run.specs.Obeys.{Obeys, ObeyEnds, SaysRows, handled, quiet}
+use Rattle.cmd_run.specs.Obeys.{Obeys, SaysRows, handled, quiet}
 use Rattle.cmd_run.proofs.Resting.{like_self, gave_none, gave_same, caused_same, stands_still}
 
 -- ---- what was put of a text

@@ -1,16 +1,16 @@
 -- Users that are there stay, with their names, whatever changes are made.
-use Rattle.std.proofs.Common.{◌≡◌, ◌==◌, ℕ, Bool, true, false, List, [], ◌∷◌, Some, Ok, IsTrue, refl, sym, ap, ◌∙◌, subst, eq-eqb, eqb-true}
+use Rattle.std.proofs.Common.{◌≡◌, ◌==◌, ℕ, Bool, true, false, List, [], ◌∷◌, Ok, IsTrue, refl, sym, ap, ◌∙◌, subst, eq-eqb, eqb-true}
 use Rattle.std.specs.Prelude.{not, ◌&&◌, ◌||◌, option_map, unwrap_or}
 use Rattle.std.specs.List.{list_any}
-use Rattle.std.proofs.lemmas.Bool.{and_parts, both_ways}
-use Rattle.grid_model.specs.Names.{Text, same_text, is_name}
-use Rattle.grid_model.specs.Rows.{Cat, with_row, user_cmp, user}
+use Rattle.std.proofs.lemmas.Bool.{and_parts}
+use Rattle.grid_model.specs.Names.{same_text, is_name}
+use Rattle.grid_model.specs.Rows.{Cat, with_row, user_cmp}
 use Rattle.grid_model.specs.RowGrids.{user_name}
 use Rattle.grid_model.specs.Applying.{apply, apply_all, where_fits, user_fits, is_user, is_group_kind}
 use Rattle.grid_model.specs.declared.deltas.Delta.{Delta}
 use Rattle.grid_model.specs.declared.deltas.Delta.TheVariants as delta
 use Rattle.grid_model.specs.declared.deltas.UserRow.{UserRow}
-use Rattle.sess.specs.Places.{Places, at, user_of, sessions_of}
+use Rattle.sess.specs.Places.{Places, sessions_of}
 use Rattle.tables_laws.proofs.Rows.{IsIn, in_from_any, any_from_in, old_in_with_row}
 use Rattle.tables_laws.proofs.Numbered.{put_other, same_number}
 use Rattle.tables_laws.proofs.Sound.{fits_so, ok-same, after_first}

@@ -1,15 +1,14 @@
 -- The operations of a session that is logged in, or not.
-use Rattle.std.proofs.Common.{◌≡◌, ◌==◌, ℕ, ◌<◌, ◌≤◌, Bool, true, false, List, [], Option, Some, None, Ok, Err, IsTrue, refl, sym, ap, ◌∙◌, subst, arith, ltb-true, eqb-true}
-use Rattle.std.specs.Prelude.{nat_le, nat_lt, option_map, ◌&&◌}
+use Rattle.std.proofs.Common.{◌≡◌, ℕ, ◌<◌, Bool, true, false, List, [], Option, Some, None, Ok, Err, refl, ap, ◌∙◌, subst, arith}
+use Rattle.std.specs.Prelude.{nat_le}
 use Rattle.std.specs.Prelude.{Result}
 use Rattle.std.specs.Bool.{MatchBool}
 use Rattle.std.proofs.lemmas.Bool.{leb-true}
 use Rattle.grid_model.specs.Maps.{get}
 use Rattle.grid_model.specs.Names.{Text, Path}
 use Rattle.grid_model.specs.Limits.{object_size}
-use Rattle.grid_model.specs.Rows.{Cat, resource_cmp, resource}
+use Rattle.grid_model.specs.Rows.{Cat, resource}
 use Rattle.grid_model.specs.RowGrids.{grid_of, user_name}
-use Rattle.grid_model.specs.Applying.{IsMade, is_leaf, is_storage, slot_fits}
 use Rattle.grid_model.specs.Doing.{Course}
 use Rattle.grid_model.specs.Completing.{IsOfGrid}
 use Rattle.grid_model.specs.Operations.Table.{Operation, row, mkuser, mkgroup, mkdir, rmdir, mv, chmod, inherit, addmember, rmmember, mkresc, addchild, modresc, put, trim, rm}
@@ -17,6 +16,7 @@ use Rattle.grid_model.specs.Orders.{Order, works}
 use Rattle.grid_model.specs.declared.requests.Request as model
 use Rattle.grid_model.specs.declared.grid.Mode.{Mode}
 use Rattle.grid_model.specs.declared.grid.ResourceKind.TheVariants.{Storage}
+use Rattle.grid_model.specs.declared.grid.ItemKind.{ItemKind}
 use Rattle.grid_model.specs.declared.requests.Verb.{Verb}
 use Rattle.grid_model.specs.declared.requests.Verb.TheVariants as verb
 use Rattle.grid_headline.specs.Reads.{is_built}
@@ -26,24 +26,13 @@ use Rattle.cmd_run.specs.Puts.{AsksToPut}
 use Rattle.cmd_run.specs.declared.working.PutLine.{PutLine}
 use Rattle.grid_model.specs.Runs.{Request}
 use Rattle.grid_model.specs.Sessions.{Session, State}
-use Rattle.grid_model.specs.Whole.{leaf_slot}
 use Rattle.grid_model.specs.Working.{begun, refused_at_once, well, words_of}
 use Rattle.grid_model.specs.declared.deltas.Delta.{Delta}
 use Rattle.grid_model.specs.declared.deltas.Numbers.{Numbers}
-use Rattle.grid_model.specs.declared.deltas.ReplicaRow.{ReplicaRow}
-use Rattle.grid_model.specs.declared.deltas.ResourceRow.{ResourceRow}
-use Rattle.grid_model.specs.declared.plans.OldFile.{OldFile}
 use Rattle.grid_model.specs.declared.refusal.Refusal.{Refusal}
 use Rattle.grid_model.specs.declared.refusal.Refusal.TheVariants as refusal
 use Rattle.grid_model.specs.declared.replies.End.TheVariants as end
-use Rattle.grid_model.proofs.FoundRows.{find-self}
-use Rattle.grid_model.proofs.RowOrders.{lower_id}
-use Rattle.tables_laws.proofs.Rows.{IsIn, in_from_all, in_from_any}
-use Rattle.tables_laws.proofs.Sound.{IsSound}
-use Rattle.tables_laws.proofs.Standing.{ResourceStands, ReplicaStands}
-use Rattle.plan_base.proofs.AtPaths.{sound_of}
 use Rattle.grid_deed.proofs.DeedLemmas.{none_more}
-use Rattle.file_laws.proofs.Members.{in_of}
 use Rattle.plan_base.specs.Plans as plans
 use Rattle.sess.specs.Places.{at, user_of}
 use Rattle.sess.proofs.PlacesLemmas.{sessions_of-user}
@@ -147,8 +136,10 @@ verb_asks at asked body request r v is verb_is asks =
 pub asks_other : (at : State) (asked : Result model.Request Refusal) (body : Text) (request : Request) (r : model.Request) → asked ≡ Ok r
     → ((u : Text) → r.verb ≡ verb.Login u → ⊥) → (r.verb ≡ verb.Logout → ⊥) → (r.verb ≡ verb.Quit → ⊥)
     → (r.verb ≡ verb.Sweep → ⊥) → ((p : Path) → r.verb ≡ verb.Ls p → ⊥) → ((p : Path) (o : Text) (m : Mode) (n : ℕ) → r.verb ≡ verb.Put p o m n → ⊥)
-    → ((p : Path) (o : Option Text) → r.verb ≡ verb.Get p o → ⊥) → AsksForRequest at asked body request → AsksBy r.session (operation_by r.verb) request
-asks_other at asked body request r is no_login no_logout no_quit no_sweep no_ls no_put no_get asks = by r.verb no_login no_logout no_quit no_sweep no_ls no_put no_get (verb_asks at asked body request r r.verb is refl asks)
+    → ((p : Path) (o : Option Text) → r.verb ≡ verb.Get p o → ⊥)
+    → ((k : ItemKind) (n a v u : Text) → r.verb ≡ verb.AddMeta k n a v u → ⊥) → ((k : ItemKind) (n a v u : Text) → r.verb ≡ verb.RmMeta k n a v u → ⊥) → ((k : ItemKind) (n : Text) → r.verb ≡ verb.LsMeta k n → ⊥)
+    → AsksForRequest at asked body request → AsksBy r.session (operation_by r.verb) request
+asks_other at asked body request r is no_login no_logout no_quit no_sweep no_ls no_put no_get no_add no_drop no_show asks = by r.verb no_login no_logout no_quit no_sweep no_ls no_put no_get no_add no_drop no_show (verb_asks at asked body request r r.verb is refl asks)
   where
     worked : (o order : Order) → request ≡ Ok (r.session, order) → order ≡ o → request ≡ Ok (r.session, o)
     worked o order its same = its ∙ ap (λ (x : Order). Ok (r.session, x)) same
@@ -156,32 +147,36 @@ asks_other at asked body request r is no_login no_logout no_quit no_sweep no_ls 
     by : (v : Verb) → ((u : Text) → v ≡ verb.Login u → ⊥) → (v ≡ verb.Logout → ⊥) → (v ≡ verb.Quit → ⊥)
         → (v ≡ verb.Sweep → ⊥) → ((p : Path) → v ≡ verb.Ls p → ⊥) → ((p : Path) (o : Text) (m : Mode) (n : ℕ) → v ≡ verb.Put p o m n → ⊥)
         → ((p : Path) (o : Option Text) → v ≡ verb.Get p o → ⊥)
+        → ((k : ItemKind) (n a w u : Text) → v ≡ verb.AddMeta k n a w u → ⊥) → ((k : ItemKind) (n a w u : Text) → v ≡ verb.RmMeta k n a w u → ⊥) → ((k : ItemKind) (n : Text) → v ≡ verb.LsMeta k n → ⊥)
         → MatchBool (is_built v) ((order : Order) × (request ≡ Ok (r.session, order)) × MeansHeld at v body order) (request ≡ Err refusal.UnknownCommand)
         → AsksBy r.session (operation_by v) request
-    by (verb.Login u) n0 n1 n2 ns nl n3 n4 its = absurd (n0 u refl)
-    by verb.Logout n0 n1 n2 ns nl n3 n4 its = absurd (n1 refl)
-    by verb.Quit n0 n1 n2 ns nl n3 n4 its = absurd (n2 refl)
-    by verb.Sweep n0 n1 n2 ns nl n3 n4 its = absurd (ns refl)
-    by (verb.Ls p) n0 n1 n2 ns nl n3 n4 its = absurd (nl p refl)
-    by (verb.Put p o m n) n0 n1 n2 ns nl n3 n4 its = absurd (n3 p o m n refl)
-    by (verb.Get p o) n0 n1 n2 ns nl n3 n4 its = absurd (n4 p o refl)
-    by (verb.MkUser name kind) n0 n1 n2 ns nl n3 n4 its = worked (works (mkuser name kind) 0) its.0 its.1 its.2.1
-    by (verb.MkGroup name) n0 n1 n2 ns nl n3 n4 its = worked (works (mkgroup name) 0) its.0 its.1 its.2.1
-    by (verb.RmDir path) n0 n1 n2 ns nl n3 n4 its = worked (works (rmdir path) 0) its.0 its.1 its.2.1
-    by (verb.AddMember group user) n0 n1 n2 ns nl n3 n4 its = worked (works (addmember group user) 0) its.0 its.1 its.2.1
-    by (verb.RmMember group user) n0 n1 n2 ns nl n3 n4 its = worked (works (rmmember group user) 0) its.0 its.1 its.2.1
-    by (verb.MkStorage name slot) n0 n1 n2 ns nl n3 n4 its = worked (works (mkresc name Storage slot) 0) its.0 its.1 its.2.1
-    by (verb.MkCoordinating name kind) n0 n1 n2 ns nl n3 n4 its = worked (works (mkresc name kind 0) 0) its.0 its.1 its.2.1
-    by (verb.AddChild parent child) n0 n1 n2 ns nl n3 n4 its = worked (works (addchild parent child) 0) its.0 its.1 its.2.1
-    by (verb.ModResc name up) n0 n1 n2 ns nl n3 n4 its = worked (works (modresc name up) 0) its.0 its.1 its.2.1
-    by (verb.Trim path resource) n0 n1 n2 ns nl n3 n4 its = worked (works (trim path resource) 0) its.0 its.1 its.2.1
-    by (verb.Rm path) n0 n1 n2 ns nl n3 n4 its = worked (works (rm path) 0) its.0 its.1 its.2.1
-    by (verb.MkDir path) n0 n1 n2 ns nl n3 n4 its = worked (works (mkdir path) 0) its.0 its.1 its.2.1
-    by (verb.Mv from to) n0 n1 n2 ns nl n3 n4 its = worked (works (mv from to) 0) its.0 its.1 its.2.1
-    by (verb.ChMod level name path) n0 n1 n2 ns nl n3 n4 its = worked (works (chmod level name path) 0) its.0 its.1 its.2.1
-    by (verb.Inherit path) n0 n1 n2 ns nl n3 n4 its = worked (works (inherit path true) 0) its.0 its.1 its.2.1
-    by (verb.NoInherit path) n0 n1 n2 ns nl n3 n4 its = worked (works (inherit path false) 0) its.0 its.1 its.2.1
-    by other n0 n1 n2 ns nl n3 n4 its = its
+    by (verb.Login u) n0 n1 n2 ns nl n3 n4 na nr nm its = absurd (n0 u refl)
+    by verb.Logout n0 n1 n2 ns nl n3 n4 na nr nm its = absurd (n1 refl)
+    by verb.Quit n0 n1 n2 ns nl n3 n4 na nr nm its = absurd (n2 refl)
+    by verb.Sweep n0 n1 n2 ns nl n3 n4 na nr nm its = absurd (ns refl)
+    by (verb.Ls p) n0 n1 n2 ns nl n3 n4 na nr nm its = absurd (nl p refl)
+    by (verb.Put p o m n) n0 n1 n2 ns nl n3 n4 na nr nm its = absurd (n3 p o m n refl)
+    by (verb.AddMeta k n a v u) n0 n1 n2 ns nl n3 n4 na nr nm its = absurd (na k n a v u refl)
+    by (verb.RmMeta k n a v u) n0 n1 n2 ns nl n3 n4 na nr nm its = absurd (nr k n a v u refl)
+    by (verb.LsMeta k n) n0 n1 n2 ns nl n3 n4 na nr nm its = absurd (nm k n refl)
+    by (verb.Get p o) n0 n1 n2 ns nl n3 n4 na nr nm its = absurd (n4 p o refl)
+    by (verb.MkUser name kind) n0 n1 n2 ns nl n3 n4 na nr nm its = worked (works (mkuser name kind) 0) its.0 its.1 its.2.1
+    by (verb.MkGroup name) n0 n1 n2 ns nl n3 n4 na nr nm its = worked (works (mkgroup name) 0) its.0 its.1 its.2.1
+    by (verb.RmDir path) n0 n1 n2 ns nl n3 n4 na nr nm its = worked (works (rmdir path) 0) its.0 its.1 its.2.1
+    by (verb.AddMember group user) n0 n1 n2 ns nl n3 n4 na nr nm its = worked (works (addmember group user) 0) its.0 its.1 its.2.1
+    by (verb.RmMember group user) n0 n1 n2 ns nl n3 n4 na nr nm its = worked (works (rmmember group user) 0) its.0 its.1 its.2.1
+    by (verb.MkStorage name slot) n0 n1 n2 ns nl n3 n4 na nr nm its = worked (works (mkresc name Storage slot) 0) its.0 its.1 its.2.1
+    by (verb.MkCoordinating name kind) n0 n1 n2 ns nl n3 n4 na nr nm its = worked (works (mkresc name kind 0) 0) its.0 its.1 its.2.1
+    by (verb.AddChild parent child) n0 n1 n2 ns nl n3 n4 na nr nm its = worked (works (addchild parent child) 0) its.0 its.1 its.2.1
+    by (verb.ModResc name up) n0 n1 n2 ns nl n3 n4 na nr nm its = worked (works (modresc name up) 0) its.0 its.1 its.2.1
+    by (verb.Trim path resource) n0 n1 n2 ns nl n3 n4 na nr nm its = worked (works (trim path resource) 0) its.0 its.1 its.2.1
+    by (verb.Rm path) n0 n1 n2 ns nl n3 n4 na nr nm its = worked (works (rm path) 0) its.0 its.1 its.2.1
+    by (verb.MkDir path) n0 n1 n2 ns nl n3 n4 na nr nm its = worked (works (mkdir path) 0) its.0 its.1 its.2.1
+    by (verb.Mv from to) n0 n1 n2 ns nl n3 n4 na nr nm its = worked (works (mv from to) 0) its.0 its.1 its.2.1
+    by (verb.ChMod level name path) n0 n1 n2 ns nl n3 n4 na nr nm its = worked (works (chmod level name path) 0) its.0 its.1 its.2.1
+    by (verb.Inherit path) n0 n1 n2 ns nl n3 n4 na nr nm its = worked (works (inherit path true) 0) its.0 its.1 its.2.1
+    by (verb.NoInherit path) n0 n1 n2 ns nl n3 n4 na nr nm its = worked (works (inherit path false) 0) its.0 its.1 its.2.1
+    by other n0 n1 n2 ns nl n3 n4 na nr nm its = its
 
 -- ---- a put
 

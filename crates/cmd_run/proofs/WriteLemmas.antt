@@ -1,5 +1,5 @@
 -- The carrying out of a plan that writes files.
-use Rattle.std.proofs.Common.{◌≡◌, ◌⊎◌, inl, inr, ℕ, ◌+◌, ◌<◌, ◌≤◌, List, [], Option, Some, None, Ok, Err, IsTrue, refl, sym, ap, ◌∙◌, subst, arith}
+use Rattle.std.proofs.Common.{◌≡◌, ◌⊎◌, inl, inr, ℕ, ◌<◌, ◌≤◌, [], Some, None, Ok, Err, IsTrue, refl, sym, subst}
 use Rattle.std.specs.Prelude.{Result, ⊤}
 use Rattle.std.proofs.lemmas.Bool.{cases_lt}
 use Rattle.grid_outside.specs.Device.{IsSettled, Leaves}
@@ -7,24 +7,21 @@ use Rattle.grid_outside.specs.Disk.{DiskState}
 use Rattle.grid_outside.specs.Files.{StoreState}
 use Rattle.grid_model.specs.Names.{Text}
 use Rattle.grid_model.specs.Rows.{Cat}
-use Rattle.grid_model.specs.declared.plans.NewFile.{NewFile}
 use Rattle.grid_journal.specs.Journal.{Journal}
-use Rattle.grid_journal.specs.Stands.{StandsFor, StandsEither}
+use Rattle.grid_journal.specs.Stands.{StandsEither}
 use Rattle.grid_journal.specs.declared.error.JournalError.{JournalError}
 use Rattle.grid_journal.specs.declared.error.JournalError.TheVariants as journal
-use Rattle.grid_vault.specs.Vault.{HasSlot, RoseAt}
 use Rattle.grid_vault.specs.declared.fault.Fault.{Fault}
-use Rattle.file_laws.specs.Plans.{Turns}
 use Rattle.file_laws.proofs.Turning.{turns_self}
 use Rattle.grid_deed.specs.Frame.{Goes}
-use Rattle.grid_deed.specs.Held.{IsHeld, IsKept}
+use Rattle.grid_deed.specs.Held.{IsKept}
 use Rattle.grid_deed.specs.Deeds.{StandsOne, DeedLeaves, DeedEnds, IsDone}
 use Rattle.cmd_run.specs.declared.server.Server.{Server}
 use Rattle.cmd_run.specs.declared.server.Ending.{Ending}
 use Rattle.cmd_run.specs.declared.server.Ending.TheVariants.{Disk, Sink, Memory, Worn}
 use Rattle.cmd_run.specs.Errors.{IsOfCommit, ending_of}
 use Rattle.cmd_run.specs.Keeps.{named, IsChange, IsKeptSo, KeepEnds}
-use Rattle.cmd_run.specs.Writes.{Kept, Writing, WriteEnds, EndsIn, FailedAt, IsWritten}
+use Rattle.cmd_run.specs.Writes.{Kept, Writing, WriteEnds, IsWritten}
 
 -- no change at all
 pub no_change : (c : Cat) → IsChange c [] c

@@ -1,5 +1,5 @@
 -- What is put on the sink.
-use Rattle.std.specs.Prelude.{◌≡◌, ℕ, ◌+◌, ◌≤◌, List, [], ◌++◌, Result, Ok, Err, IsTrue, flat_map, ⊤}
+use Rattle.std.specs.Prelude.{◌≡◌, ℕ, ◌+◌, ◌≤◌, List, ◌++◌, Result, Ok, Err, IsTrue, flat_map, ⊤}
 use Rattle.grid_outside.specs.Device.{Acts, IsSettled}
 use Rattle.grid_outside.specs.Fault.{Rose}
 use Rattle.grid_outside.specs.Sink.{SinkState, AddsPart}
@@ -7,7 +7,7 @@ use Rattle.grid_model.specs.Names.{Text}
 use Rattle.grid_model.specs.Replies.{row_line, end_line}
 use Rattle.grid_model.specs.declared.replies.End.{End}
 use Rattle.cmd_run.specs.declared.server.Ending.{Ending}
-use Rattle.cmd_run.specs.declared.server.Ending.TheVariants.{Disk, Sink, Memory, Worn}
+use Rattle.cmd_run.specs.declared.server.Ending.TheVariants.{Sink}
 
 -- The text was put on the sink as the next moment after so many, in whole or in part.
 pub record IsTextPut (text : Text) (from : ℕ) (old new : SinkState) : Type 0 where

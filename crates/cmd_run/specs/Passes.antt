@@ -1,5 +1,5 @@
 -- What calls of the outside and of a sink leave of them, whatever they were for.
-use Rattle.std.specs.Prelude.{◌≡◌, ℕ, ◌+◌, ◌<◌, ◌≤◌}
+use Rattle.std.specs.Prelude.{ℕ, ◌≤◌}
 use Rattle.grid_outside.specs.Disk.{DiskState}
 use Rattle.grid_outside.specs.Fault.{Rose}
 use Rattle.grid_outside.specs.Files.{StoreState}

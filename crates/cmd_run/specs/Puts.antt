@@ -5,7 +5,6 @@ use Rattle.grid_journal.specs.Journal.{can_be_kept}
 use Rattle.grid_model.specs.declared.deltas.Numbers.{Numbers}
 use Rattle.grid_model.specs.declared.deltas.Delta.TheVariants as delta
 use Rattle.grid_model.specs.Maps.{get}
-use Rattle.grid_model.specs.Grid.{Grid}
 use Rattle.grid_model.specs.Limits.{object_size}
 use Rattle.grid_model.specs.Rows.{Cat}
 use Rattle.grid_model.specs.RowGrids.{grid_of, user_name}

@@ -14,6 +14,7 @@ mod putting;
 mod saying;
 mod server;
 mod sweeping;
+mod tagging;
 mod working;
 mod writing;
 

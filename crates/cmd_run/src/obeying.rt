@@ -9,6 +9,7 @@ ghost use Rattle.cmd_run.specs.Asking.{AsksForRequest, IsForm};
 ghost use Rattle.cmd_run.specs.Passes.{AreReady, CallsPass};
 
 use crate::answers::well;
+use crate::tagging::TagLine;
 use crate::working::PutLine;
 use crate::{Ending, Server};
 use grid_model::{Bytes, End, Refusal, Request, Verb};
@@ -85,6 +86,41 @@ impl Server {
                 self.put_line(alloc, outside, sink, number, session, line)
             }
             Verb::Sweep => self.sweep(alloc, outside, sink, number, session),
+            Verb::AddMeta {
+                item,
+                name,
+                attribute,
+                value,
+                unit,
+            } => {
+                let line = TagLine {
+                    item,
+                    name,
+                    attribute,
+                    value,
+                    unit,
+                };
+                self.tag(alloc, outside, sink, number, session, true, &line)
+            }
+            Verb::RmMeta {
+                item,
+                name,
+                attribute,
+                value,
+                unit,
+            } => {
+                let line = TagLine {
+                    item,
+                    name,
+                    attribute,
+                    value,
+                    unit,
+                };
+                self.tag(alloc, outside, sink, number, session, false, &line)
+            }
+            Verb::LsMeta { item, name } => {
+                self.show_tags(alloc, outside, sink, number, session, item, &name)
+            }
             Verb::Ls { path } => self.list(alloc, outside, sink, number, session, &path),
             Verb::Get { path, resource } => {
                 self.get_for(

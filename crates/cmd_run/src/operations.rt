@@ -9,7 +9,7 @@ ghost use Rattle.grid_deed.specs.Safe.{KeepWhole};
 ghost use Rattle.plan_base.specs.Plans.{PlansChange};
 ghost use Rattle.grid_journal.specs.Journal.{AreSpelled};
 ghost use Rattle.cmd_run.specs.Around.{around};
-ghost use Rattle.cmd_run.specs.Asking.{HasNewName};
+ghost use Rattle.cmd_run.specs.Asking.{HasGoodWords};
 ghost use Rattle.cmd_run.specs.Operating.{operation_by, PlansBy};
 ghost use Rattle.cmd_run.specs.Passes.{AreReady, CallsPass};
 
@@ -43,7 +43,7 @@ impl Server {
     ) -> Result<(), Ending>
         requires fits { FitsMain (D.disk outside.old.main) self.old }
         requires session { session < 64 }
-        requires name { HasNewName verb.now }
+        requires words { HasGoodWords verb.now }
         requires ready { AreReady D.disk P.plugin K.sink 5 (record { outside = outside.old; sink = sink.old }) }
         ensures obeys { (source : SourceState) (request : Request) → AsksBy session (operation_by verb.now) request →
             Obeys (around D.disk A.ambient P.plugin outside.old (K.sink sink.old) source)
@@ -72,8 +72,8 @@ impl Server {
         self.operate(alloc, outside, sink, number, planned)
     }
 
-    // Keeps the changes that were planned, if there are any, and answers ok, or answers the refusal.
-    fn operate<D: Disk, K: Sink, A: Ambient, P: Plugin>(
+    /// Keeps the changes that were planned, if there are any, and answers ok, or answers the refusal.
+    pub(crate) fn operate<D: Disk, K: Sink, A: Ambient, P: Plugin>(
         &mut self,
         alloc: Global,
         outside: &mut Outside<D, A, P>,
@@ -149,7 +149,7 @@ fn plan(alloc: Global, tables: &Tables, user: u32, verb: &Verb) -> Result<Deltas
     requires made { IsMade tables.now }
     requires user { IsTrue (is_user tables.now user) }
     requires spelled { AreSpelled tables.now.triples }
-    requires name { HasNewName verb.now }
+    requires words { HasGoodWords verb.now }
     ensures { PlansBy tables.now (user_name tables.now user) (operation_by verb.now) result }
 {
     match verb {

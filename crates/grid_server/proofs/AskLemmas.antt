@@ -24,7 +24,7 @@ use Rattle.req_lines.specs.Hearing.{IsReadAs, a_request, cut_short, wrong_words,
 use Rattle.req_lines.proofs.AskingLemmas.{asks_for, asks_refused, asks_unbuilt}
 use Rattle.req_lines.proofs.ReadingOnce.{IsReadAs-unique}
 use Rattle.cmd_run.specs.Asking.{AsksForRequest, IsForm, MeansHeld, ends_input}
-use Rattle.cmd_run.proofs.NewNames.{new_name_of}
+use Rattle.cmd_run.proofs.GoodWords.{good_words_of}
 use Rattle.cmd_run.proofs.Meant.{meant, end_built, end_means, quits_end}
 
 -- ---- its form
@@ -60,7 +60,7 @@ refused_form (error.BadName place) r e = let same : refusal.BadName place ≡ r 
 refused_form error.Memory r e = absurd cc
 
 pub form_of : (line body : Text) (asked : Result Request Refusal) → IsReadAs line body asked → IsForm asked
-form_of line body asked (a_request {words = words} request short spells reads all) = (session_small words request reads, new_name_of words request reads)
+form_of line body asked (a_request {words = words} request short spells reads all) = (session_small words request reads, good_words_of line words spells request reads)
 form_of line body asked (cut_short request short spells reads few) = tt
 form_of line body asked (wrong_words {r = r} why short spells reads is) = refused_form why r is
 form_of line body asked (no_words short refused) = tt
@@ -86,7 +86,7 @@ module _ (at : State) (line body held : Text) where
   by_verb : (session : ℕ) (v : Verb) (built : Bool) → is_built v ≡ built → IsReadAs line body (Ok (record { session = session; verb = v }))
       → held ≡ held_of (Ok (record { session = session; verb = v })) body → Asks at line body (Ok (record { session = session; verb = v })) held
   by_verb session v true built read is =
-      let m = meant at v body held built (λ small. sym (is ∙ ap (all_or_none body) small)) in
+      let m = meant at v body held built (form_of line body (Ok (record { session = session; verb = v })) read).1 (λ small. sym (is ∙ ap (all_or_none body) small)) in
       record {
         request = Ok (session, m.0);
         asks = subst (by_built session v (Ok (session, m.0))) (sym built) (m.0, refl, m.1);

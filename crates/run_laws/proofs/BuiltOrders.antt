@@ -11,10 +11,10 @@ use Rattle.grid_model.specs.Doing.{Course}
 use Rattle.grid_model.specs.Operations.Common.{is_person, needs_admin}
 use Rattle.grid_model.specs.Operations.Table.{Operation}
 use Rattle.grid_model.specs.Sessions.{Session, State}
-use Rattle.grid_model.specs.Orders.{Order, lists, logs_in, logs_out, quits, sweeps, works}
+use Rattle.grid_model.specs.Orders.{Order, lists, lists_triples, logs_in, logs_out, quits, sweeps, works}
 use Rattle.grid_model.specs.Working.{Done, answered, refused_at_once, well, begun, work, running, operate}
 use Rattle.grid_model.specs.Uploading.{has_upload, with_session, log_in, log_out, is_uploading}
-use Rattle.grid_model.specs.Listings.{ls_rows}
+use Rattle.grid_model.specs.Listings.{ls_rows, lsmeta_rows}
 use Rattle.grid_model.specs.Refusing.{Or}
 use Rattle.grid_model.specs.Obeying.{do_works, listing, logged_in, not_logged_in, sweep}
 use Rattle.grid_model.specs.Runs.{Request, does}
@@ -38,6 +38,7 @@ IsBuilt quits = Unit {0}
 IsBuilt (lists path) = Unit {0}
 IsBuilt (works op count) = Unit {0}
 IsBuilt sweeps = Unit {0}
+IsBuilt (lists_triples thing) = Unit {0}
 IsBuilt other = ⊥
 
 abbrev pub IsBuiltRequest : Request → Type 0
@@ -68,6 +69,9 @@ built_verb at (verb.Get path resource) body order built means = subst IsBuilt (s
 built_verb at (verb.Trim path resource) body order built means = subst IsBuilt (sym means) tt
 built_verb at (verb.Rm path) body order built means = subst IsBuilt (sym means) tt
 built_verb at verb.Sweep body order built means = subst IsBuilt (sym means) tt
+built_verb at (verb.AddMeta kind name attribute value unit) body order built means = subst IsBuilt (sym means.2) tt
+built_verb at (verb.RmMeta kind name attribute value unit) body order built means = subst IsBuilt (sym means.2) tt
+built_verb at (verb.LsMeta kind name) body order built means = subst IsBuilt (sym means.2) tt
 built_verb at other body order built means = absurd (both_ways false refl built)
 
 pub built : {at : State} {line body : Text} {request : Request} → Asks texts at line body request → IsBuiltRequest request
@@ -142,6 +146,8 @@ obey-rules at n quits s is none None = given-keeps at (answered at s well) refl
 obey-rules at n quits s is none (Some x) = given-keeps at (answered at s well) refl
 obey-rules at n (lists path) s is none None = given-keeps at (refused_at_once at s refusal.NoLogin) refl
 obey-rules at n (lists path) s is none (Some x) = given-keeps at (listing at (ls_rows s.grid x.user path) s) (listing-rules at (ls_rows s.grid x.user path) s)
+obey-rules at n (lists_triples thing) s is none None = given-keeps at (refused_at_once at s refusal.NoLogin) refl
+obey-rules at n (lists_triples thing) s is none (Some x) = given-keeps at (listing at (lsmeta_rows s.grid x.user thing) s) (listing-rules at (lsmeta_rows s.grid x.user thing) s)
 obey-rules at n (works op count) s is none None = given-keeps at (refused_at_once at s refusal.NoLogin) refl
 obey-rules at n (works op count) s is none (Some x) = works-rules at x op count s none
 obey-rules at n sweeps s is none None = given-keeps at (refused_at_once at s refusal.NoLogin) refl
@@ -172,6 +178,7 @@ words_by at (Ok (n, quits)) marks ok w all is some = some-front (told_words mark
 words_by at (Ok (n, lists path)) marks ok w all is some = some-front (told_words marks) some
 words_by at (Ok (n, works op count)) marks ok w all is some = some-front (told_words marks) some
 words_by at (Ok (n, sweeps)) marks ok w all is some = some-front (told_words marks) some
+words_by at (Ok (n, lists_triples thing)) marks ok w all is some = some-front (told_words marks) some
 words_by at (Ok (n, other)) marks ok w all is some = absurd is
 
 -- the words of a request and of those behind it are some of those of its marks, and of all

@@ -8,6 +8,7 @@ mod files;
 mod levels;
 mod lines;
 mod makings;
+mod metadata;
 mod playing;
 mod records;
 mod resources;

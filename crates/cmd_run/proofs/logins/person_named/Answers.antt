@@ -1,4 +1,4 @@
-use Rattle.std.proofs.Common.{◌≡◌, Some, refl, sym, ap, ◌∙◌}
+use Rattle.std.proofs.Common.{refl, sym, ap, ◌∙◌}
 use Rattle.std.specs.Option.{option_copied}
 use Rattle.cmd_run.proofs.LoginLemmas.{is_named, nobody, is_nobody, no_person, a_person}
 use Rattle.cmd_run.proofs.logins.person_named.Goals as goal

@@ -1,23 +1,31 @@
-use Rattle.std.proofs.Common.{◌≡◌, true, Ok, Err, refl, sym, ap, subst, ◌∙◌, arith}
+use Rattle.std.proofs.Common.{◌≡◌, true, false, Ok, refl, sym, ap, subst, ◌∙◌, arith}
 use Rattle.std.specs.Prelude.{nat_le}
 use Rattle.grid_outside.specs.declared.outside.Wear.TheVariants.{Vaults}
 use Rattle.grid_model.specs.Limits.{object_size}
-use Rattle.grid_model.specs.Orders.{Order, lists, logs_in, logs_out, quits, works}
+use Rattle.grid_model.specs.Orders.{Order, lists, logs_in, logs_out, works}
 use Rattle.grid_model.specs.Operations.Table.{put, get}
 use Rattle.grid_model.specs.Names.{Text, Path}
 use Rattle.grid_model.specs.Runs.{Request}
 use Rattle.grid_model.specs.Working.{well}
 use Rattle.grid_model.specs.declared.replies.End.TheVariants as end
-use Rattle.grid_model.specs.declared.refusal.Refusal.TheVariants as refusal
+use Rattle.grid_model.specs.declared.grid.ItemKind.{ItemKind}
+use Rattle.grid_model.specs.declared.requests.Verb.{Verb}
 use Rattle.grid_model.specs.declared.requests.Verb.TheVariants as verb
 use Rattle.run_laws.specs.Steps.{IsNoSweep}
-use Rattle.cmd_run.specs.Asking.{AsksForRequest, IsForm}
+use Rattle.cmd_run.specs.declared.tagging.TagLine.{TagLine}
+use Rattle.cmd_run.specs.Asking.{AsksForRequest, FitsTag, HasGoodWords, IsForm, NamesSome, ShowOf, TagOf}
 use Rattle.cmd_run.specs.Fits.{state_of}
 use Rattle.cmd_run.specs.Obeys.{SaysOnly}
 use Rattle.cmd_run.proofs.Remembering.{no_source}
 use Rattle.cmd_run.proofs.LoginLemmas.{says_refused, says_quit}
 use Rattle.cmd_run.proofs.WorkingLemmas.{verb_asks, asks_other}
+use borrow.Enum.Total.{values_d}
+use Rattle.grid_model.specs.contracts.requests.Verb as TheVerb
 use Rattle.cmd_run.proofs.server.Server.command.Goals as goal
+
+-- the line that the fields of a verb of metadata are
+abbrev line_of : ItemKind → ItemKind × (Text × (Text × (Text × (Text × Unit {0})))) → TagLine
+line_of k f = record { item = k; name = f.1.0; attribute = f.1.1.0; value = f.1.1.1.0; unit = f.1.1.1.1.0 }
 
 pub returns-in-Err-clause-obeys : goal.returns-in-Err-clause-obeys
 returns-in-Err-clause-obeys g c = λ source request asks.
@@ -185,6 +193,94 @@ returns-in-Sweep-clause-idle g c = λ request asks.
 pub returns-in-Sweep-clause-untouched : goal.returns-in-Sweep-clause-untouched
 returns-in-Sweep-clause-untouched g c place is = absurd ((c.sweep.ensures.worn no_source (Ok (0, logs_out)) Vaults place is).3)
 
+pub tag-requires-clause-line : goal.tag-requires-clause-line
+tag-requires-clause-line g c =
+    let p = c.in-AddMeta in
+    let W : ItemKind → Verb → Type 0 = λ k v. FitsTag true (line_of k (values_d TheVerb.enum 31 p.name-1-own.given.0 v)) in
+    subst (λ k. W k c.in-Ok.request.verb) (sym p.item-is) (subst (W p.item) (sym p.is) (subst HasGoodWords p.is (subst IsForm c.in-Ok.is c.requires.form).1))
+
+pub returns-in-AddMeta-clause-obeys : goal.returns-in-AddMeta-clause-obeys
+returns-in-AddMeta-clause-obeys g c = λ source request asks.
+    let p = c.in-AddMeta in
+    let its = verb_asks (state_of c.args.self.now) c.args.asked c.args.body request c.in-Ok.request (verb.AddMeta p.item p.name p.attribute p.value p.unit) c.in-Ok.is p.is asks in
+    let W : ItemKind → Verb → Type 0 = λ k v. TagOf c.in-Ok.request.session true (line_of k (values_d TheVerb.enum 31 p.name-1-own.given.0 v)) request in
+    c.tag.ensures.obeys source request
+    (subst (λ k. W k c.in-Ok.request.verb) (sym p.item-is) (subst (W p.item) (sym p.is) (its.2.1.0, its.2.1.1, its.1 ∙ ap (λ (o : Order). Ok (c.in-Ok.request.session, o)) its.2.1.2)))
+
+pub returns-in-AddMeta-clause-idle : goal.returns-in-AddMeta-clause-idle
+returns-in-AddMeta-clause-idle g c = λ request asks.
+    let p = c.in-AddMeta in
+    let its = verb_asks (state_of c.args.self.now) c.args.asked c.args.body request c.in-Ok.request (verb.AddMeta p.item p.name p.attribute p.value p.unit) c.in-Ok.is p.is asks in
+    let W : ItemKind → Verb → Type 0 = λ k v. TagOf c.in-Ok.request.session true (line_of k (values_d TheVerb.enum 31 p.name-1-own.given.0 v)) request in
+    c.tag.ensures.idle request
+    (subst (λ k. W k c.in-Ok.request.verb) (sym p.item-is) (subst (W p.item) (sym p.is) (its.2.1.0, its.2.1.1, its.1 ∙ ap (λ (o : Order). Ok (c.in-Ok.request.session, o)) its.2.1.2)))
+
+pub returns-in-AddMeta-clause-call : goal.returns-in-AddMeta-clause-call
+returns-in-AddMeta-clause-call g c = λ told settled t main d late left stands. (c.tag.ensures.remembers told settled t main d late left stands).0
+
+pub returns-in-AddMeta-clause-remembers : goal.returns-in-AddMeta-clause-remembers
+returns-in-AddMeta-clause-remembers g c = λ request asks no_sweep. c.tag.ensures.remembers
+
+pub returns-in-AddMeta-clause-untouched : goal.returns-in-AddMeta-clause-untouched
+returns-in-AddMeta-clause-untouched g c place is = absurd ((c.tag.ensures.worn no_source (Ok (0, logs_out)) Vaults place is).3)
+
+pub tag-requires-in-RmMeta-clause-line : goal.tag-requires-in-RmMeta-clause-line
+tag-requires-in-RmMeta-clause-line g c =
+    let p = c.in-RmMeta in
+    let W : ItemKind → Verb → Type 0 = λ k v. FitsTag false (line_of k (values_d TheVerb.enum 32 p.name-in-RmMeta-1-own.given.0 v)) in
+    subst (λ k. W k c.in-Ok.request.verb) (sym p.item-is) (subst (W p.item) (sym p.is) (subst HasGoodWords p.is (subst IsForm c.in-Ok.is c.requires.form).1))
+
+pub returns-in-RmMeta-clause-obeys : goal.returns-in-RmMeta-clause-obeys
+returns-in-RmMeta-clause-obeys g c = λ source request asks.
+    let p = c.in-RmMeta in
+    let its = verb_asks (state_of c.args.self.now) c.args.asked c.args.body request c.in-Ok.request (verb.RmMeta p.item p.name p.attribute p.value p.unit) c.in-Ok.is p.is asks in
+    let W : ItemKind → Verb → Type 0 = λ k v. TagOf c.in-Ok.request.session false (line_of k (values_d TheVerb.enum 32 p.name-in-RmMeta-1-own.given.0 v)) request in
+    c.tag-in-RmMeta.ensures.obeys source request
+    (subst (λ k. W k c.in-Ok.request.verb) (sym p.item-is) (subst (W p.item) (sym p.is) (its.2.1.0, its.2.1.1, its.1 ∙ ap (λ (o : Order). Ok (c.in-Ok.request.session, o)) its.2.1.2)))
+
+pub returns-in-RmMeta-clause-idle : goal.returns-in-RmMeta-clause-idle
+returns-in-RmMeta-clause-idle g c = λ request asks.
+    let p = c.in-RmMeta in
+    let its = verb_asks (state_of c.args.self.now) c.args.asked c.args.body request c.in-Ok.request (verb.RmMeta p.item p.name p.attribute p.value p.unit) c.in-Ok.is p.is asks in
+    let W : ItemKind → Verb → Type 0 = λ k v. TagOf c.in-Ok.request.session false (line_of k (values_d TheVerb.enum 32 p.name-in-RmMeta-1-own.given.0 v)) request in
+    c.tag-in-RmMeta.ensures.idle request
+    (subst (λ k. W k c.in-Ok.request.verb) (sym p.item-is) (subst (W p.item) (sym p.is) (its.2.1.0, its.2.1.1, its.1 ∙ ap (λ (o : Order). Ok (c.in-Ok.request.session, o)) its.2.1.2)))
+
+pub returns-in-RmMeta-clause-call : goal.returns-in-RmMeta-clause-call
+returns-in-RmMeta-clause-call g c = λ told settled t main d late left stands. (c.tag-in-RmMeta.ensures.remembers told settled t main d late left stands).0
+
+pub returns-in-RmMeta-clause-remembers : goal.returns-in-RmMeta-clause-remembers
+returns-in-RmMeta-clause-remembers g c = λ request asks no_sweep. c.tag-in-RmMeta.ensures.remembers
+
+pub returns-in-RmMeta-clause-untouched : goal.returns-in-RmMeta-clause-untouched
+returns-in-RmMeta-clause-untouched g c place is = absurd ((c.tag-in-RmMeta.ensures.worn no_source (Ok (0, logs_out)) Vaults place is).3)
+
+pub show_tags-requires-clause-thing : goal.show_tags-requires-clause-thing
+show_tags-requires-clause-thing g c =
+    let p = c.in-LsMeta in
+    let W : ItemKind → Verb → Type 0 = λ k v. NamesSome k (values_d TheVerb.enum 33 p.name-in-LsMeta-1-own.given.0 v).1.0 in
+    subst (λ k. W k c.in-Ok.request.verb) (sym p.item-is) (subst (W p.item) (sym p.is) (subst HasGoodWords p.is (subst IsForm c.in-Ok.is c.requires.form).1))
+
+pub returns-in-LsMeta-clause-obeys : goal.returns-in-LsMeta-clause-obeys
+returns-in-LsMeta-clause-obeys g c = λ source request asks.
+    let p = c.in-LsMeta in
+    let its = verb_asks (state_of c.args.self.now) c.args.asked c.args.body request c.in-Ok.request (verb.LsMeta p.item p.name) c.in-Ok.is p.is asks in
+    let W : ItemKind → Verb → Type 0 = λ k v. ShowOf c.in-Ok.request.session k (values_d TheVerb.enum 33 p.name-in-LsMeta-1-own.given.0 v).1.0 request in
+    c.show_tags.ensures.obeys source request
+    (subst (λ k. W k c.in-Ok.request.verb) (sym p.item-is) (subst (W p.item) (sym p.is) (its.2.1.0, its.2.1.1, its.1 ∙ ap (λ (o : Order). Ok (c.in-Ok.request.session, o)) its.2.1.2)))
+
+pub returns-in-LsMeta-clause-idle : goal.returns-in-LsMeta-clause-idle
+returns-in-LsMeta-clause-idle g c = λ request asks refused. (c.show_tags.ensures.rows, c.show_tags.ensures.stores)
+
+pub returns-in-LsMeta-clause-call : goal.returns-in-LsMeta-clause-call
+returns-in-LsMeta-clause-call g c = λ told settled t main d late left stands. (c.show_tags.ensures.remembers told settled t main d late left stands).0
+
+pub returns-in-LsMeta-clause-remembers : goal.returns-in-LsMeta-clause-remembers
+returns-in-LsMeta-clause-remembers g c = λ request asks no_sweep. c.show_tags.ensures.remembers
+
+pub returns-in-LsMeta-clause-untouched : goal.returns-in-LsMeta-clause-untouched
+returns-in-LsMeta-clause-untouched g c place is = absurd ((c.show_tags.ensures.worn no_source (Ok (0, logs_out)) Vaults place is).3)
+
 pub returns-in_default : goal.returns-in_default
 returns-in_default g c =
     let n = c.in_default in
@@ -192,14 +288,14 @@ returns-in_default g c =
     let other = asks_other (state_of c.args.self.now) c.args.asked c.args.body in
     record {
       obeys = λ source request asks. w.obeys source request
-          (other request c.in-Ok.request c.in-Ok.is n.not-Login n.not-Logout n.not-Quit n.not-Sweep n.not-Ls n.not-Put n.not-Get asks);
+          (other request c.in-Ok.request c.in-Ok.is n.not-Login n.not-Logout n.not-Quit n.not-Sweep n.not-Ls n.not-Put n.not-Get n.not-AddMeta n.not-RmMeta n.not-LsMeta asks);
       worn = λ source request asks. w.worn source request;
       call = λ told settled t main d late left stands. (w.remembers told settled t main d late left stands).0;
       remembers = λ request asks no_sweep. w.remembers;
       whole = w.whole;
       passes = w.passes;
       idle = λ request asks. w.idle request
-          (other request c.in-Ok.request c.in-Ok.is n.not-Login n.not-Logout n.not-Quit n.not-Sweep n.not-Ls n.not-Put n.not-Get asks);
+          (other request c.in-Ok.request c.in-Ok.is n.not-Login n.not-Logout n.not-Quit n.not-Sweep n.not-Ls n.not-Put n.not-Get n.not-AddMeta n.not-RmMeta n.not-LsMeta asks);
       untouched = λ place is. absurd ((w.worn no_source (Ok (0, logs_out)) Vaults place is).3);
       drawn = omega (arith, w.drawn);
     }

@@ -1,5 +1,4 @@
-use Rattle.std.proofs.Common.{◌≡◌, Ok, Err, refl, sym, ap, subst, ◌∙◌}
-use Rattle.grid_deed.proofs.Frames.{frame_as}
+use Rattle.std.proofs.Common.{refl}
 use Rattle.cmd_run.proofs.KeepLemmas.{of_commit}
 use Rattle.cmd_run.proofs.SweepLemmas.{forgot, forgot_err}
 use Rattle.cmd_run.proofs.server.Server.forget.Goals as goal

@@ -1,7 +1,6 @@
-use Rattle.std.proofs.Common.{Ok, Err, refl, sym, ap, ◌∙◌, subst}
+use Rattle.std.proofs.Common.{refl, ap, ◌∙◌}
 use Rattle.std.specs.Result.{is_ok}
 use Rattle.grid_model.specs.Rows.{Cat}
-use Rattle.grid_model.specs.declared.deltas.Numbers.{Numbers}
 use Rattle.cmd_run.specs.Keeps.{named}
 use Rattle.cmd_run.proofs.KeepLemmas.{applied_all, turns_all, kept_ok, kept_err, of_commit, not_kept, keep_still}
 use Rattle.cmd_run.proofs.Vaults.{some_vault}

@@ -1,4 +1,4 @@
-use Rattle.std.proofs.Common.{◌≡◌, Ok, refl, sym, ap, subst, ◌∙◌, None, Some}
+use Rattle.std.proofs.Common.{refl, sym, subst}
 use Rattle.grid_model.specs.Orders.{logs_out}
 use Rattle.grid_model.specs.Runs.{Request}
 use Rattle.grid_model.specs.declared.replies.End.TheVariants as end

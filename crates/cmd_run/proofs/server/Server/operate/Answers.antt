@@ -1,10 +1,6 @@
-use Rattle.std.proofs.Common.{◌≡◌, List, Result, Ok, Err, refl, sym, ap, subst, ◌∙◌}
-use Rattle.grid_model.specs.Operations.Table.{row}
-use Rattle.grid_model.specs.RowGrids.{grid_of, user_name}
-use Rattle.grid_model.specs.Runs.{Request}
+use Rattle.std.proofs.Common.{Err, refl, ap, subst, ◌∙◌}
 use Rattle.plan_base.specs.Plans as plans
 use Rattle.cmd_run.specs.Fits.{state_of}
-use Rattle.cmd_run.specs.Obeys.{SaysOnly, ChangesGrid}
 use Rattle.cmd_run.specs.Operating.{AsksToOperate}
 use Rattle.cmd_run.proofs.KeepLemmas.{keep_still}
 use Rattle.cmd_run.proofs.NotRefused.{changed_not_refused}

@@ -1,4 +1,4 @@
-use Rattle.std.proofs.Common.{◌≡◌, Ok, Err, refl, sym, ap, ◌∙◌, subst, arith}
+use Rattle.std.proofs.Common.{Ok, Err, refl, ap, ◌∙◌, subst, arith}
 use Rattle.grid_outside.specs.declared.outside.Wear.TheVariants.{Vaults}
 use Rattle.grid_model.specs.Orders.{logs_out}
 use Rattle.grid_model.specs.Rows.{Cat}
@@ -7,9 +7,7 @@ use Rattle.grid_model.specs.declared.deltas.Numbers.{Numbers}
 use Rattle.grid_deed.proofs.Keeping.{held_stands}
 use Rattle.plan_object.specs.Writing.{FindsTargets}
 use Rattle.cmd_run.specs.Puts.{wanted}
-use Rattle.grid_outside.specs.declared.outside.Wear.TheVariants as wear
 use Rattle.cmd_run.specs.Around.{around}
-use Rattle.cmd_run.specs.declared.server.Ending.TheVariants as ending
 use Rattle.cmd_run.proofs.KeepLemmas.{keep_still}
 use Rattle.cmd_run.proofs.PutEnds.{says_refused_put, worn_vaults}
 use Rattle.cmd_run.proofs.SayLemmas.{unsaid, unsaid_by}

@@ -1,9 +1,7 @@
-use Rattle.std.proofs.Common.{◌≡◌, ◌<◌, Bool, true, false, ℕ, Ok, refl, sym, ap, subst, ◌∙◌, None, Some, arith}
-use Rattle.std.specs.Prelude.{nat_le}
+use Rattle.std.proofs.Common.{Ok, refl, sym, subst, arith}
 use Rattle.std.proofs.lemmas.Bool.{le-leb}
 use Rattle.grid_outside.specs.declared.outside.Wear.TheVariants.{Vaults}
 use Rattle.grid_model.specs.Limits.{object_size}
-use Rattle.grid_model.specs.Names.{Text}
 use Rattle.grid_model.specs.Operations.Table.{put}
 use Rattle.grid_model.specs.Orders.{logs_out, works}
 use Rattle.grid_model.specs.Runs.{Request}

@@ -1,8 +1,6 @@
-use Rattle.std.proofs.Common.{[], Ok, Err, refl, sym, ap, subst}
+use Rattle.std.proofs.Common.{[], refl, sym, subst}
 use Rattle.grid_journal.specs.Journal.{Journal}
-use Rattle.grid_model.specs.Names.{Text}
 use Rattle.grid_deed.specs.Held.{IsHeld}
-use Rattle.cmd_run.specs.Answers.{IsTextPut, PutEnds}
 use Rattle.cmd_run.proofs.KeepLemmas.{keep_still}
 use Rattle.cmd_run.proofs.SayLemmas.{said_so, unsaid}
 use Rattle.cmd_run.proofs.Remembering.{still_remembers}

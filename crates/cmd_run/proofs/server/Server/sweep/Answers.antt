@@ -1,4 +1,4 @@
-use Rattle.std.proofs.Common.{◌≡◌, true, false, Ok, IsTrue, refl, sym, ap, subst, ◌∙◌}
+use Rattle.std.proofs.Common.{◌≡◌, true, false, IsTrue, refl, sym, subst, ◌∙◌}
 use Rattle.grid_model.specs.Levels.{is_admin}
 use Rattle.grid_model.specs.Maps.{get}
 use Rattle.grid_model.specs.Orders.{sweeps}

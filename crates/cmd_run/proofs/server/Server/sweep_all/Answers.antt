@@ -1,7 +1,6 @@
-use Rattle.std.proofs.Common.{◌≡◌, ◌<◌, ℕ, Ok, Err, refl, sym, ap, subst, ◌∙◌, arith}
+use Rattle.std.proofs.Common.{◌≡◌, ◌<◌, ℕ, refl, sym, ap, subst, ◌∙◌}
 use Rattle.std.specs.Prelude.{All, List, vec_len}
 use Rattle.grid_model.specs.Replies.{end_line}
-use Rattle.grid_model.specs.Rows.{Cat}
 use Rattle.grid_model.specs.Working.{well}
 use Rattle.grid_model.specs.declared.plans.NewFile.{NewFile}
 use Rattle.file_laws.specs.Sweeps.{AreOrphans, HaveOwnNames}

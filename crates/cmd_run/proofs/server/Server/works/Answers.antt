@@ -1,6 +1,4 @@
-use Rattle.std.proofs.Common.{◌≡◌, true, false, Ok, Err, refl, sym, ap, subst, ◌∙◌, None, Some}
-use Rattle.std.specs.Prelude.{is_some}
-use Rattle.grid_model.specs.Operations.Table.{Operation}
+use Rattle.std.proofs.Common.{refl, sym, subst, ◌∙◌}
 use Rattle.grid_model.specs.Orders.{works}
 use Rattle.grid_model.specs.Rows.{Cat}
 use Rattle.grid_model.specs.RowGrids.{user_name}
