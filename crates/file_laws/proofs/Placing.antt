@@ -29,11 +29,11 @@ pub numbered_as : (c d : Cat) → d.resources ≡ c.resources → (ts : List Num
 numbered_as c d same [] all = tt
 numbered_as c d same (t ∷ ts) all = (slot_as c d same t.target.leaf ∙ all.0, all.1, numbered_as c d same ts all.2)
 
-module _ (made : List NewFile) (body : Text) (o : ObjectRow) (has : HasDigest o.size o.digest body) where
-  pub place_all : (ts : List NumberedTarget) (v : ℕ) (c d : Cat) → IsSound c → AreThere v (targets_of ts) c.orphans → AreMade v (targets_of ts) made → AreNumbered c ts → object c o.id ≡ Some o → AreFree c o ts
+module _ (made : List NewFile) (body : Text) (o : ObjectRow) where
+  pub place_all : (ts : List NumberedTarget) → (ts ≢ [] → HasDigest o.size o.digest body) → (v : ℕ) (c d : Cat) → IsSound c → AreThere v (targets_of ts) c.orphans → AreMade v (targets_of ts) made → AreNumbered c ts → object c o.id ≡ Some o → AreFree c o ts
       → apply_all c (replicas_placed o v ts) ≡ Ok d → Turns made body c d
-  place_all [] v c d s there files leaves found free applied = turns_as made body c c d (ok-same c d (apply_all c []) refl applied) (turns_self made body c)
-  place_all (t ∷ ts) v c d s there files leaves found free applied =
+  place_all [] has v c d s there files leaves found free applied = turns_as made body c c d (ok-same c d (apply_all c []) refl applied) (turns_self made body c)
+  place_all (t ∷ ts) has v c d s there files leaves found free applied =
       let r : ReplicaRow = record { object = o.id; number = t.number; leaf = t.target.leaf; good = true; size = o.size; digest = o.digest; vault = v } in
       let x : OrphanRow = record { vault = v; slot = t.target.slot } in
       let one = after_first (apply c (delta.NoOrphan v)) (delta.Replica r ∷ replicas_placed o (v + 1) ts) d applied in
@@ -44,12 +44,12 @@ module _ (made : List NewFile) (body : Text) (o : ObjectRow) (has : HasDigest o.
       let F : Cat → Type 0 = λ y. record y { replicas = with_row replica_cmp y.replicas r } ≡ two.0 in
       let is : filed ≡ two.0 = subst F (sym left.1) kept.1 in
       let new : (y : ReplicaRow) → IsIn c.replicas y → replica_cmp r y ≡ Equal → ⊥ = λ y here same. (let k = same_key r y same in (free y here (sym k.0)).0 k.1) in
-      let step : Turns made body c filed = turns_filed made body c x there.0 (λ y here e. one_number (λ (o : OrphanRow). o.vault) c.orphans y x s.cat.orphans.ordered here there.0 e) r refl leaves.0 new (λ good. record { row = o; there = found; size = refl; digest = refl }) (λ good. new_file files.0 has) in
+      let step : Turns made body c filed = turns_filed made body c x there.0 (λ y here e. one_number (λ (o : OrphanRow). o.vault) c.orphans y x s.cat.orphans.ordered here there.0 e) r refl leaves.0 new (λ good. record { row = o; there = found; size = refl; digest = refl }) (λ good. new_file files.0 (has (λ e. absurd cc))) in
       let T : Cat → Type 0 = λ y. AreThere (v + 1) (targets_of ts) y.orphans in
       let L : Cat → Type 0 = λ y. AreNumbered y ts in
       let O : Cat → Type 0 = λ y. object y o.id ≡ Some o in
       let B : Cat → Type 0 = λ y. AreFree y o ts in
-      let rest = place_all ts (v + 1) two.0 d (sound-apply one.0 two.0 (delta.Replica r) (sound-apply c one.0 (delta.NoOrphan v) s one.1) two.1)
+      let rest = place_all ts (λ some. has (λ e. absurd cc)) (v + 1) two.0 d (sound-apply one.0 two.0 (delta.Replica r) (sound-apply c one.0 (delta.NoOrphan v) s one.1) two.1)
       (subst T is (past (targets_of ts) (v + 1) v c.orphans (omega arith) there.1)) files.1 (subst L is (numbered_as c filed refl ts leaves.2)) (subst O is found)
       (subst B is (λ z here its. elim (in_from_with_row replica_cmp c.replicas r z here) [
         | inl same ↦ (let N : ℕ → Type 0 = λ n. AllByRecursion (λ (u : NumberedTarget). u.number ≢ n) ts in subst N (ap (λ (y : ReplicaRow). y.number) same) leaves.1)

@@ -1,5 +1,5 @@
 -- The laws as their callers see them: of catalogues that changes made.
-use Rattle.std.proofs.Common.{◌≡◌, inl, ℕ, false, List, [], ◌∷◌, ◌++◌, Some, Ok, IsTrue, refl, sym, ap, ◌∙◌}
+use Rattle.std.proofs.Common.{◌≡◌, inl, ℕ, ◌<◌, false, List, [], ◌∷◌, ◌++◌, Some, Ok, IsTrue, refl, sym, ap, ◌∙◌}
 use Rattle.std.specs.List.{AllByRecursion, Contains, list_all}
 use Rattle.grid_model.specs.Digests.{HasDigest}
 use Rattle.grid_model.specs.Names.{Text}
@@ -14,12 +14,13 @@ use Rattle.grid_model.specs.declared.deltas.OrphanRow.{OrphanRow}
 use Rattle.grid_model.specs.declared.deltas.ReplicaRow.{ReplicaRow}
 use Rattle.grid_model.specs.declared.deltas.ResourceRow.{ResourceRow}
 use Rattle.grid_model.specs.declared.plans.NewFile.{NewFile}
+use Rattle.grid_model.specs.declared.plans.OldFile.{OldFile}
 use Rattle.grid_model.specs.declared.plans.Plan.{Plan}
 use Rattle.grid_journal.specs.Journal.{can_be_kept}
 use Rattle.tables_laws.proofs.Rows.{IsIn, in_from_all, all_from_in}
 use Rattle.tables_laws.proofs.Numbered.{one_number}
 use Rattle.tables_laws.proofs.Sound.{sound-made}
-use Rattle.file_laws.specs.Plans.{Turns, IsPlan}
+use Rattle.file_laws.specs.Plans.{Turns, IsCopyPlan, IsPlan}
 use Rattle.file_laws.specs.Puts.{Target, AreLeaves, IsPut}
 use Rattle.file_laws.specs.Rewriting.{StoredReplica, AreStored, AreReplicas, replicas_dropped, replicas_staled, KeepsSlot, Rewriting, MayRewrite, LeavesNoneGood, IsRewriting}
 use Rattle.file_laws.specs.Sweeps.{Forgets, no_orphans}
@@ -31,7 +32,7 @@ use Rattle.file_laws.proofs.Fewer.{split_applied}
 use Rattle.file_laws.proofs.Dropping.{drop_all}
 use Rattle.file_laws.proofs.Staling.{stale_all}
 use Rattle.file_laws.proofs.Removing.{turns_resource, forgets_replica}
-use Rattle.file_laws.proofs.Rewritten.{written_over, replicated}
+use Rattle.file_laws.proofs.Rewritten.{written_over, replicated, copied}
 use Rattle.file_laws.proofs.Forgetting.{forgets_all}
 
 pub put_is_plan : (deltas : List Delta) (c mid end : Cat) (o : ObjectRow) (targets : List Target) (last : ℕ) (plan : Plan) (body : Text) → apply_all empty_cat deltas ≡ Ok c
@@ -89,7 +90,11 @@ over_is_plan deltas c mid end o w plan body is_made may leaves has is first then
 
 pub repl_is_plan : (deltas : List Delta) (c mid end : Cat) (o : ObjectRow) (w : Rewriting) (plan : Plan) (body : Text) → apply_all empty_cat deltas ≡ Ok c → MayRewrite c o w → object c o.id ≡ Some o → HasDigest o.size o.digest body
     → IsRewriting c o [] w plan → apply_all c plan.before ≡ Ok mid → apply_all mid plan.after ≡ Ok end → IsPlan c c c.stores plan body
-repl_is_plan deltas c mid end o w plan body is_made may found has is first then = replicated c (sound-made deltas c is_made) o w may found body has mid end plan is first then
+repl_is_plan deltas c mid end o w plan body is_made may found has is first then = replicated c (sound-made deltas c is_made) o w may found mid end plan is first then body has
+
+pub copies_is_plan : (deltas : List Delta) (c mid end : Cat) (o : ObjectRow) (w : Rewriting) (plan : Plan) (from : OldFile) → apply_all empty_cat deltas ≡ Ok c → MayRewrite c o w → object c o.id ≡ Some o
+    → from.size ≡ o.size → from.digest ≡ o.digest → from.name < c.numbers.next_vault → IsRewriting c o [] w plan → apply_all c plan.before ≡ Ok mid → apply_all mid plan.after ≡ Ok end → IsCopyPlan c c c.stores plan from
+copies_is_plan deltas c mid end o w plan from is_made may found size digest old is first then = copied c (sound-made deltas c is_made) o w may found mid end plan is first then from size digest old
 
 pub replica_forgotten : (deltas : List Delta) (r : ReplicaRow) (slot : ℕ) (c d : Cat) → apply_all empty_cat deltas ≡ Ok c → Contains c.replicas r → leaf_slot c r.leaf ≡ Some slot → apply c (delta.NoReplica r.object r.number) ≡ Ok d → Forgets (record { slot = slot; name = r.vault } ∷ []) c d
 replica_forgotten deltas r slot c d is_made here at applied = forgets_replica c d (sound-made deltas c is_made) r slot (in_of c.replicas r here) at applied

@@ -1,6 +1,6 @@
 -- The plan of an object that is written over, or gets more replicas.
-use Rattle.std.proofs.Common.{◌≡◌, ◌⊎◌, inl, inr, ℕ, ◌+◌, ◌<◌, List, [], ◌∷◌, ◌++◌, Some, Ok, IsTrue, refl, sym, ap, ◌∙◌, subst}
-use Rattle.std.specs.Prelude.{◌≢◌, ◌==◌, All, find, map}
+use Rattle.std.proofs.Common.{◌≡◌, ◌⊎◌, inl, inr, ℕ, zero, suc, ◌+◌, ◌<◌, ◌≤◌, List, [], ◌∷◌, ◌++◌, Some, Ok, IsTrue, refl, sym, ap, ◌∙◌, subst, arith}
+use Rattle.std.specs.Prelude.{◌≢◌, ◌==◌, All, find, map, slice_get}
 use Rattle.std.specs.List.{AllByRecursion, Contains}
 use Rattle.grid_model.specs.Digests.{HasDigest}
 use Rattle.grid_model.specs.Names.{Text}
@@ -13,12 +13,14 @@ use Rattle.grid_model.specs.declared.deltas.ObjectRow.{ObjectRow}
 use Rattle.grid_model.specs.declared.deltas.OrphanRow.{OrphanRow}
 use Rattle.grid_model.specs.declared.deltas.ReplicaRow.{ReplicaRow}
 use Rattle.grid_model.specs.declared.plans.NewFile.{NewFile}
+use Rattle.grid_model.specs.declared.plans.OldFile.{OldFile}
 use Rattle.grid_model.specs.declared.plans.Plan.{Plan}
+use Rattle.grid_vault.specs.Copying.{AreNamedApart}
 use Rattle.grid_vault.specs.Vault.{IsAmong}
 use Rattle.tables_laws.proofs.Rows.{IsIn, in_from_all}
 use Rattle.tables_laws.proofs.Numbered.{put_found}
 use Rattle.tables_laws.proofs.Sound.{IsSound, sound-apply_all, fits_so, ok-same, after_first}
-use Rattle.file_laws.specs.Plans.{Turns, IsPlan}
+use Rattle.file_laws.specs.Plans.{Turns, IsCopyPlan, IsPlan}
 use Rattle.file_laws.specs.Puts.{Target, files_from, put_before}
 use Rattle.file_laws.specs.Rewriting.{StoredReplica, NumberedTarget, targets_of, replicas_dropped, replicas_staled, replicas_placed, Rewriting, IsDropped, MayRewrite, LeavesNoneGood, IsRewriting}
 use Rattle.file_laws.proofs.Members.{in_of}
@@ -43,7 +45,7 @@ gone_of [] r none = absurd none
 gone_of (s ∷ stored) r (inl is) = (s, inl refl, is)
 gone_of (s ∷ stored) r (inr later) = let its = gone_of stored r later in (its.0, inr its.1, its.2)
 
-module _ (c : Cat) (s : IsSound c) (o : ObjectRow) (w : Rewriting) (may : MayRewrite c o w) (body : Text) (has : HasDigest o.size o.digest body) (row : List Delta) (mid end : Cat)
+module _ (c : Cat) (s : IsSound c) (o : ObjectRow) (w : Rewriting) (may : MayRewrite c o w) (body : Text) (row : List Delta) (mid end : Cat)
     (first : apply_all c (put_before c (targets_of w.targets) ++ w.early) ≡ Ok mid)
     (then : apply_all mid (replicas_dropped w.dropped ++ (replicas_staled w.staled ++ (row ++ (w.between ++ (replicas_placed o c.numbers.next_vault w.targets ++ w.late))))) ≡ Ok end) where
   abbrev v : ℕ
@@ -68,6 +70,9 @@ module _ (c : Cat) (s : IsSound c) (o : ObjectRow) (w : Rewriting) (may : MayRew
 
   named : (slot name : ℕ) → IsAmong files slot name → IsNamed mid slot name
   named slot name a = (turns_apply_all [] [] w.early begun.0 mid may.early begun.2).named slot name (put_named c ts begun.0 begun.1 slot name a)
+
+  pub slots : All (λ f. f.slot < c.stores) files
+  slots = put_slots c ts begun.0 begun.1 s c.stores refl
 
   sound_mid : IsSound mid
   sound_mid = sound-apply_all (put_before c ts ++ w.early) c mid s first
@@ -147,7 +152,7 @@ module _ (c : Cat) (s : IsSound c) (o : ObjectRow) (w : Rewriting) (may : MayRew
         | inr staled ↦ stale.1.stale q (in_of w.staled q staled) q here is (refl, refl)
       ]
 
-  module _ (done : RowDone files body o two.0 three.0) where
+  module _ (has : w.targets ≢ [] → HasDigest o.size o.digest body) (done : RowDone files body o two.0 three.0) where
     four : (e : Cat) × (apply_all three.0 w.between ≡ Ok e) × (apply_all e (replicas_placed o v w.targets ++ w.late) ≡ Ok end)
     four = split_applied w.between (replicas_placed o v w.targets ++ w.late) three.0 end three.2
 
@@ -174,7 +179,7 @@ module _ (c : Cat) (s : IsSound c) (o : ObjectRow) (w : Rewriting) (may : MayRew
     found_four = ap (λ (rows : List ObjectRow). find (λ (r : ObjectRow). r.id == o.id) rows) between.objects ∙ done.found
 
     placed : Turns files body four.0 five.0
-    placed = place_all files body o has w.targets v four.0 five.0 sound_four there_four (made_all ts v) (numbered_as c four.0 (between.resources ∙ done.resources ∙ fewer.resources ∙ same_resources) w.targets may.targets) found_four free_four five.1
+    placed = place_all files body o w.targets has v four.0 five.0 sound_four there_four (made_all ts v) (numbered_as c four.0 (between.resources ∙ done.resources ∙ fewer.resources ∙ same_resources) w.targets may.targets) found_four free_four five.1
 
     ends : Turns files body mid end
     ends =
@@ -196,7 +201,7 @@ module _ (c : Cat) (s : IsSound c) (o : ObjectRow) (w : Rewriting) (may : MayRew
           then = ap (apply_all mid) is.after ∙ then;
           spelled_first = is.spelled_first;
           spelled_then = is.spelled_then;
-          slots = subst S (sym is.files) (put_slots c ts begun.0 begun.1 s c.stores refl);
+          slots = subst S (sym is.files) slots;
           begins = begins;
           named = subst N (sym is.files) named;
           ends = subst T (sym is.files) ends;
@@ -206,7 +211,7 @@ module _ (c : Cat) (s : IsSound c) (o : ObjectRow) (w : Rewriting) (may : MayRew
 pub written_over : (c : Cat) (s : IsSound c) (o : ObjectRow) (w : Rewriting) (may : MayRewrite c o w) → LeavesNoneGood c o w → (body : Text) → HasDigest o.size o.digest body → (mid end : Cat) (plan : Plan)
     → IsRewriting c o (delta.Object o ∷ []) w plan → apply_all c plan.before ≡ Ok mid → apply_all mid plan.after ≡ Ok end → IsPlan c c c.stores plan body
 written_over c s o w may leaves body has mid end plan is first then =
-    rewriting_plan c s o w may body has (delta.Object o ∷ []) mid end begins ends done plan is
+    rewriting_plan c s o w may body (delta.Object o ∷ []) mid end begins ends (λ some. has) done plan is
   where
     begins : apply_all c (put_before c (targets_of w.targets) ++ w.early) ≡ Ok mid
     begins = ap (apply_all c) (sym is.before) ∙ first
@@ -215,10 +220,10 @@ written_over c s o w may leaves body has mid end plan is first then =
     ends = ap (apply_all mid) (sym is.after) ∙ then
 
     stale_at : Cat
-    stale_at = (two c s o w may body has (delta.Object o ∷ []) mid end begins ends).0
+    stale_at = (two c s o w may body (delta.Object o ∷ []) mid end begins ends).0
 
     row : (e : Cat) × (apply_all stale_at (delta.Object o ∷ []) ≡ Ok e) × (apply_all e (w.between ++ (replicas_placed o c.numbers.next_vault w.targets ++ w.late)) ≡ Ok end)
-    row = three c s o w may body has (delta.Object o ∷ []) mid end begins ends
+    row = three c s o w may body (delta.Object o ∷ []) mid end begins ends
 
     put : (e : Cat) × (apply stale_at (delta.Object o) ≡ Ok e) × (apply_all e [] ≡ Ok row.0)
     put = after_first (apply stale_at (delta.Object o)) [] row.0 row.1
@@ -230,35 +235,85 @@ written_over c s o w may leaves body has mid end plan is first then =
     done =
         let P : Cat → Type 0 = λ x. RowDone (files_from c.numbers.next_vault (targets_of w.targets)) body o stale_at x in
         subst P is_row (record {
-          turns = turns_object (files_from c.numbers.next_vault (targets_of w.targets)) body stale_at o (λ r here good its. absurd (none_good c s o w may body has (delta.Object o ∷ []) mid end begins ends leaves r here good its));
+          turns = turns_object (files_from c.numbers.next_vault (targets_of w.targets)) body stale_at o (λ r here good its. absurd (none_good c s o w may body (delta.Object o ∷ []) mid end begins ends leaves r here good its));
           found = put_found (λ (x : ObjectRow). x.id) stale_at.objects o;
           replicas = refl;
           orphans = refl;
           resources = refl;
         })
 
+-- ---- the files of the targets
+
+-- a file's name is that of its place
+name_at : (ts : List Target) (v i : ℕ) (f : NewFile) → slice_get (files_from v ts) i ≡ Some f → f.name ≡ v + i
+name_at [] v i f is = absurd cc
+name_at (t ∷ ts) v zero f is = let same : record { slot = t.slot; name = v } ≡ f = cc in omega (arith, ap (λ (x : NewFile). x.name) same)
+name_at (t ∷ ts) v (suc i) f is = omega (arith, name_at ts (v + 1) i f is)
+
+files_apart : (v : ℕ) (ts : List Target) → AreNamedApart (files_from v ts)
+files_apart v ts i j f g at_i at_j same = omega (arith, name_at ts v i f at_i, name_at ts v j g at_j, same)
+
+not_below : (v : ℕ) (ts : List Target) (slot name : ℕ) → IsAmong (files_from v ts) slot name → v ≤ name
+not_below v ts slot name a = omega (arith, name_at ts v a.place a.file a.is, a.name_is)
+
+some_files : (ts : List NumberedTarget) (v : ℕ) → ts ≢ [] → files_from v (targets_of ts) ≢ []
+some_files [] v some = absurd (some refl)
+some_files (t ∷ ts) v some = λ e. absurd cc
+
+-- ---- more replicas
+
 -- the object's row stays
-pub replicated : (c : Cat) (s : IsSound c) (o : ObjectRow) (w : Rewriting) (may : MayRewrite c o w) → object c o.id ≡ Some o → (body : Text) → HasDigest o.size o.digest body → (mid end : Cat) (plan : Plan)
-    → IsRewriting c o [] w plan → apply_all c plan.before ≡ Ok mid → apply_all mid plan.after ≡ Ok end → IsPlan c c c.stores plan body
-replicated c s o w may found body has mid end plan is first then =
-    rewriting_plan c s o w may body has [] mid end begins ends done plan is
-  where
-    begins : apply_all c (put_before c (targets_of w.targets) ++ w.early) ≡ Ok mid
-    begins = ap (apply_all c) (sym is.before) ∙ first
+module _ (c : Cat) (s : IsSound c) (o : ObjectRow) (w : Rewriting) (may : MayRewrite c o w) (found : object c o.id ≡ Some o) (mid end : Cat) (plan : Plan) (is : IsRewriting c o [] w plan)
+    (first : apply_all c plan.before ≡ Ok mid) (then : apply_all mid plan.after ≡ Ok end) where
+  begins_so : apply_all c (put_before c (targets_of w.targets) ++ w.early) ≡ Ok mid
+  begins_so = ap (apply_all c) (sym is.before) ∙ first
 
-    ends : apply_all mid (replicas_dropped w.dropped ++ (replicas_staled w.staled ++ (w.between ++ (replicas_placed o c.numbers.next_vault w.targets ++ w.late)))) ≡ Ok end
-    ends = ap (apply_all mid) (sym is.after) ∙ then
+  ends_so : apply_all mid (replicas_dropped w.dropped ++ (replicas_staled w.staled ++ (w.between ++ (replicas_placed o c.numbers.next_vault w.targets ++ w.late)))) ≡ Ok end
+  ends_so = ap (apply_all mid) (sym is.after) ∙ then
 
-    stale_at : Cat
-    stale_at = (two c s o w may body has [] mid end begins ends).0
+  abbrev stale_at : Text → Cat
+  stale_at body = (two c s o w may body [] mid end begins_so ends_so).0
 
-    still : object stale_at o.id ≡ Some o
-    still = ap (λ (rows : List ObjectRow). find (λ (r : ObjectRow). r.id == o.id) rows) ((fewer c s o w may body has [] mid end begins ends).objects ∙ same_objects c s o w may body has [] mid end begins ends) ∙ found
+  still : (body : Text) → object (stale_at body) o.id ≡ Some o
+  still body = ap (λ (rows : List ObjectRow). find (λ (r : ObjectRow). r.id == o.id) rows) ((fewer c s o w may body [] mid end begins_so ends_so).objects ∙ same_objects c s o w may body [] mid end begins_so ends_so) ∙ found
 
-    row : (e : Cat) × (apply_all stale_at [] ≡ Ok e) × (apply_all e (w.between ++ (replicas_placed o c.numbers.next_vault w.targets ++ w.late)) ≡ Ok end)
-    row = three c s o w may body has [] mid end begins ends
+  abbrev row_so : (body : Text) → (e : Cat) × (apply_all (stale_at body) [] ≡ Ok e) × (apply_all e (w.between ++ (replicas_placed o c.numbers.next_vault w.targets ++ w.late)) ≡ Ok end)
+  row_so body = three c s o w may body [] mid end begins_so ends_so
 
-    done : RowDone (files_from c.numbers.next_vault (targets_of w.targets)) body o stale_at row.0
-    done =
-        let P : Cat → Type 0 = λ x. RowDone (files_from c.numbers.next_vault (targets_of w.targets)) body o stale_at x in
-        subst P (ok-same stale_at row.0 (apply_all stale_at []) refl row.1) (record { turns = turns_self (files_from c.numbers.next_vault (targets_of w.targets)) body stale_at; found = still; replicas = refl; orphans = refl; resources = refl })
+  done_so : (body : Text) → RowDone (files_from c.numbers.next_vault (targets_of w.targets)) body o (stale_at body) (row_so body).0
+  done_so body =
+      let P : Cat → Type 0 = λ x. RowDone (files_from c.numbers.next_vault (targets_of w.targets)) body o (stale_at body) x in
+      subst P (ok-same (stale_at body) (row_so body).0 (apply_all (stale_at body) []) refl (row_so body).1) (record { turns = turns_self (files_from c.numbers.next_vault (targets_of w.targets)) body (stale_at body); found = still body; replicas = refl; orphans = refl; resources = refl })
+
+  pub replicated : (body : Text) → HasDigest o.size o.digest body → IsPlan c c c.stores plan body
+  replicated body has = rewriting_plan c s o w may body [] mid end begins_so ends_so (λ some. has) (done_so body) plan is
+
+  -- its files are new, so none is the one that they are copied from
+  pub copied : (from : OldFile) → from.size ≡ o.size → from.digest ≡ o.digest → from.name < c.numbers.next_vault → IsCopyPlan c c c.stores plan from
+  copied from size digest old = record {
+    mid = mid;
+    end = end;
+    first = first;
+    then = then;
+    spelled_first = is.spelled_first;
+    spelled_then = is.spelled_then;
+    slots = subst S (sym is.files) (slots c s o w may [] [] mid end begins_so ends_so);
+    apart = subst AreNamedApart (sym is.files) (files_apart c.numbers.next_vault (targets_of w.targets));
+    other = λ a. let its = subst A is.files a in omega (arith, not_below c.numbers.next_vault (targets_of w.targets) from.slot from.name its, old);
+    begins = begins c s o w may [] [] mid end begins_so ends_so;
+    named = subst N (sym is.files) (named c s o w may [] [] mid end begins_so ends_so);
+    ends = λ body has. subst (λ (fs : List NewFile). Turns fs body mid end) (sym is.files)
+        (ends c s o w may body [] mid end begins_so ends_so (λ some. has_so body (has (λ none. some_files w.targets c.numbers.next_vault some (sym is.files ∙ none)))) (done_so body));
+  }
+    where
+      S : List NewFile → Type 0
+      S fs = All (λ f. f.slot < c.stores) fs
+
+      A : List NewFile → Type 0
+      A fs = IsAmong fs from.slot from.name
+
+      N : List NewFile → Type 0
+      N fs = (slot name : ℕ) → IsAmong fs slot name → IsNamed mid slot name
+
+      has_so : (body : Text) → HasDigest from.size from.digest body → HasDigest o.size o.digest body
+      has_so body its = subst (λ n. HasDigest n o.digest body) size (subst (λ d. HasDigest from.size d body) digest its)

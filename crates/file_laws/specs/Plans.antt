@@ -1,5 +1,5 @@
 -- Which changes of the catalogue may go with the making of files. The rules are this project's own.
-use Rattle.std.specs.Prelude.{◌≡◌, ℕ, ◌<◌, Bool, true, false, All, List, [], Some, Ok, IsTrue}
+use Rattle.std.specs.Prelude.{◌≡◌, ◌≢◌, ℕ, ◌<◌, Bool, true, false, All, List, [], Some, Ok, IsTrue}
 use Rattle.std.specs.List.{AllByRecursion, Contains, list_all}
 use Rattle.grid_model.specs.Digests.{HasDigest}
 use Rattle.grid_model.specs.Names.{Text}
@@ -10,8 +10,10 @@ use Rattle.grid_model.specs.declared.deltas.Delta.{Delta}
 use Rattle.grid_model.specs.declared.deltas.Delta.TheVariants as delta
 use Rattle.grid_model.specs.declared.deltas.ReplicaRow.{ReplicaRow}
 use Rattle.grid_model.specs.declared.plans.NewFile.{NewFile}
+use Rattle.grid_model.specs.declared.plans.OldFile.{OldFile}
 use Rattle.grid_model.specs.declared.plans.Plan.{Plan}
 use Rattle.grid_journal.specs.Journal.{can_be_kept}
+use Rattle.grid_vault.specs.Copying.{AreNamedApart}
 use Rattle.grid_vault.specs.Vault.{IsAmong}
 
 -- a good replica in this slot has the same file as this one, of the same size and digest
@@ -50,6 +52,24 @@ pub record IsPlan (kept cat : Cat) (stores : ℕ) (plan : Plan) (body : Text) : 
   pub begins : Turns [] [] kept mid
   pub named : (slot name : ℕ) → IsAmong plan.files slot name → IsNamed mid slot name
   pub ends : Turns plan.files body mid end
+
+-- The plan may be carried out where main has the first catalogue and memory the second, over so many stores, with this file that
+-- is copied: its first changes make a row for each file that is to be made, and its last ones are in order once these files, if
+-- there are any, have bytes of the recorded size and digest.
+pub record IsCopyPlan (kept cat : Cat) (stores : ℕ) (plan : Plan) (from : OldFile) : Type 0 where
+  -- the catalogue after the first changes, and after the last ones
+  pub mid : Cat
+  pub end : Cat
+  pub first : apply_all cat plan.before ≡ Ok mid
+  pub then : apply_all mid plan.after ≡ Ok end
+  pub spelled_first : IsTrue (list_all can_be_kept plan.before)
+  pub spelled_then : IsTrue (list_all can_be_kept plan.after)
+  pub slots : All (λ f. f.slot < stores) plan.files
+  pub apart : AreNamedApart plan.files
+  pub other : ¬ IsAmong plan.files from.slot from.name
+  pub begins : Turns [] [] kept mid
+  pub named : (slot name : ℕ) → IsAmong plan.files slot name → IsNamed mid slot name
+  pub ends : (body : Text) → (plan.files ≢ [] → HasDigest from.size from.digest body) → Turns plan.files body mid end
 
 -- whether a change is of rows that name no file
 abbrev pub names_no_file : Delta → Bool

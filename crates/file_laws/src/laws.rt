@@ -1,4 +1,4 @@
-ghost use Rattle.std.specs.Prelude.{◌≡◌, ℕ, List, [], ◌∷◌, ◌++◌, Ok, Some, IsTrue, true, false};
+ghost use Rattle.std.specs.Prelude.{◌≡◌, ℕ, ◌<◌, List, [], ◌∷◌, ◌++◌, Ok, Some, IsTrue, true, false};
 ghost use Rattle.std.specs.List.{AllByRecursion, Contains, list_all};
 ghost use Rattle.grid_model.specs.Digests.{HasDigest};
 ghost use Rattle.grid_model.specs.Names.{Text};
@@ -11,9 +11,10 @@ ghost use Rattle.grid_model.specs.declared.deltas.ObjectRow.{ObjectRow};
 ghost use Rattle.grid_model.specs.declared.deltas.ReplicaRow.{ReplicaRow};
 ghost use Rattle.grid_model.specs.declared.deltas.ResourceRow.{ResourceRow};
 ghost use Rattle.grid_model.specs.declared.plans.NewFile.{NewFile};
+ghost use Rattle.grid_model.specs.declared.plans.OldFile.{OldFile};
 ghost use Rattle.grid_model.specs.declared.plans.Plan.{Plan};
 ghost use Rattle.grid_journal.specs.Journal.{can_be_kept};
-ghost use Rattle.file_laws.specs.Plans.{Turns, IsPlan, names_no_file};
+ghost use Rattle.file_laws.specs.Plans.{Turns, IsCopyPlan, IsPlan, names_no_file};
 ghost use Rattle.file_laws.specs.Puts.{Target, AreLeaves, IsPut};
 ghost use Rattle.file_laws.specs.Rewriting.{StoredReplica, AreStored, AreReplicas, replicas_dropped, replicas_staled, KeepsSlot};
 ghost use Rattle.file_laws.specs.Rewriting.{Rewriting, MayRewrite, LeavesNoneGood, IsRewriting};
@@ -105,6 +106,13 @@ pub fn an_object_gets_replicas()
     ensures { (deltas : List Delta) (c mid end : Cat) (o : ObjectRow) (w : Rewriting) (plan : Plan) (body : Text) → apply_all empty_cat deltas ≡ Ok c →
         MayRewrite c o w → object c o.id ≡ Some o → HasDigest o.size o.digest body → IsRewriting c o [] w plan →
         apply_all c plan.before ≡ Ok mid → apply_all mid plan.after ≡ Ok end → IsPlan c c c.stores plan body }
+{}
+
+/// The same, where the bytes are copied from a file of an older name that is recorded so: they are wanted only if there are new files.
+pub fn an_object_gets_copies()
+    ensures { (deltas : List Delta) (c mid end : Cat) (o : ObjectRow) (w : Rewriting) (plan : Plan) (from : OldFile) → apply_all empty_cat deltas ≡ Ok c →
+        MayRewrite c o w → object c o.id ≡ Some o → from.size ≡ o.size → from.digest ≡ o.digest → from.name < c.numbers.next_vault →
+        IsRewriting c o [] w plan → apply_all c plan.before ≡ Ok mid → apply_all mid plan.after ≡ Ok end → IsCopyPlan c c c.stores plan from }
 {}
 
 /// A replica's row may be taken away where its file is gone.

@@ -17,14 +17,14 @@ use Rattle.grid_vault.specs.Copying.{CopiesOnly}
 use Rattle.grid_vault.specs.Vault.{WritesAmong, IsStableAt}
 use Rattle.grid_vault.proofs.Copied.{IsCalled}
 use Rattle.grid_vault.proofs.Writing.{all_of}
-use Rattle.file_laws.specs.Plans.{Turns}
+use Rattle.file_laws.specs.Plans.{IsCopyPlan, Turns}
 use Rattle.grid_deed.specs.declared.copying.Copied.{Copied}
 use Rattle.grid_deed.specs.declared.copying.Copied.TheVariants.{Done, Bad}
 use Rattle.grid_deed.specs.declared.copying.Copied.TheVariants as copied
 use Rattle.grid_deed.specs.Frame.{Goes, Frame}
 use Rattle.grid_deed.specs.Held.{IsCommitted}
 use Rattle.grid_deed.specs.Safe.{KeepWhole}
-use Rattle.grid_deed.specs.Deeds.{IsDone, IsCopyPlan, CopySays, IsCopied}
+use Rattle.grid_deed.specs.Deeds.{IsDone, CopySays, IsCopied}
 use Rattle.grid_deed.proofs.Frames.{frame_then, frame_spanned}
 use Rattle.grid_deed.proofs.Keeping.{held_stands}
 use Rattle.grid_deed.proofs.DeedLemmas.{no_more, then_kept}

@@ -1,29 +1,26 @@
 -- What the carrying out of a plan leaves.
-use Rattle.std.specs.Prelude.{◌≡◌, ◌≢◌, ◌⊎◌, ℕ, ◌+◌, ◌*◌, ◌^◌, ◌<◌, All, List, [], length, Option, None, Some, Result, Ok, Err, IsTrue, IfOk}
-use Rattle.std.specs.List.{list_all}
+use Rattle.std.specs.Prelude.{◌≡◌, ◌≢◌, ◌⊎◌, ℕ, ◌+◌, ◌*◌, ◌^◌, ◌<◌, List, [], length, Option, None, Some, Result, Ok, Err, IsTrue, IfOk}
 use Rattle.grid_outside.specs.Device.{IsSettled, Leaves}
 use Rattle.grid_outside.specs.Disk.{DiskState}
 use Rattle.grid_outside.specs.Files.{StoreState}
 use Rattle.grid_outside.specs.declared.outside.Outside.{Outside}
 use Rattle.grid_outside.specs.declared.outside.Wear.TheVariants.{Log}
 use Rattle.grid_model.specs.DataLines.{parts}
-use Rattle.grid_model.specs.Digests.{HasDigest}
 use Rattle.grid_model.specs.Names.{Text}
 use Rattle.grid_model.specs.Rows.{Cat}
 use Rattle.grid_model.specs.Applying.{apply_all}
-use Rattle.grid_model.specs.Whole.{IsNamed}
 use Rattle.grid_model.specs.declared.plans.NewFile.{NewFile}
 use Rattle.grid_model.specs.declared.plans.OldFile.{OldFile}
 use Rattle.grid_model.specs.declared.plans.Plan.{Plan}
-use Rattle.grid_journal.specs.Journal.{Journal, ClosesAt, can_be_kept}
+use Rattle.grid_journal.specs.Journal.{Journal, ClosesAt}
 use Rattle.grid_journal.specs.Stands.{StandsEither, StandsFor}
 use Rattle.grid_journal.specs.declared.error.JournalError.{JournalError}
 use Rattle.grid_journal.specs.declared.error.JournalError.TheVariants as journal
-use Rattle.grid_vault.specs.Copying.{AreNamedApart, Copies}
-use Rattle.grid_vault.specs.Vault.{IsAmong, HasSlot, RoseAt}
+use Rattle.grid_vault.specs.Copying.{Copies}
+use Rattle.grid_vault.specs.Vault.{HasSlot, RoseAt}
 use Rattle.grid_vault.specs.declared.fault.Fault.{Fault}
 use Rattle.grid_vault.specs.Removal.{SplitInto, FewerThanFaults}
-use Rattle.file_laws.specs.Plans.{Turns}
+use Rattle.file_laws.specs.Plans.{IsCopyPlan}
 use Rattle.file_laws.specs.Sweeps.{no_orphans}
 use Rattle.grid_deed.specs.declared.copying.Copied.{Copied}
 use Rattle.grid_deed.specs.declared.copying.Copied.TheVariants.{Done, Bad}
@@ -69,24 +66,6 @@ pub record IsDone {B : Type 0} (plugin : B → StoreState) (kept mid end : Cat) 
   pub leaves : IsTrue main_old.tells → IsSettled main_old → Leaves from (DeedLeaves kept mid end result) main_new
 
 -- ---- the copying of a file
-
--- The plan may be carried out where main has the first catalogue and memory the second, over so many stores, with this file that
--- is copied: its first changes make a row for each file that is to be made, and its last ones are in order once these files, if
--- there are any, have bytes of the recorded size and digest.
-pub record IsCopyPlan (kept cat : Cat) (stores : ℕ) (plan : Plan) (from : OldFile) : Type 0 where
-  -- the catalogue after the first changes, and after the last ones
-  pub mid : Cat
-  pub end : Cat
-  pub first : apply_all cat plan.before ≡ Ok mid
-  pub then : apply_all mid plan.after ≡ Ok end
-  pub spelled_first : IsTrue (list_all can_be_kept plan.before)
-  pub spelled_then : IsTrue (list_all can_be_kept plan.after)
-  pub slots : All (λ f. f.slot < stores) plan.files
-  pub apart : AreNamedApart plan.files
-  pub other : ¬ IsAmong plan.files from.slot from.name
-  pub begins : Turns [] [] kept mid
-  pub named : (slot name : ℕ) → IsAmong plan.files slot name → IsNamed mid slot name
-  pub ends : (body : Text) → (plan.files ≢ [] → HasDigest from.size from.digest body) → Turns plan.files body mid end
 
 -- What an answer says of what was read: each file has the recorded bytes, or a call of one of these slots failed, or other bytes
 -- were found. Where there are no files nothing was read.

@@ -4,10 +4,11 @@ ghost use Rattle.grid_model.specs.DataLines.{parts};
 ghost use Rattle.grid_model.specs.Rows.{Cat};
 ghost use Rattle.grid_vault.specs.Copying.{AreNamedApart, CopiesOnly};
 ghost use Rattle.grid_vault.specs.Vault.{IsAmong};
+ghost use Rattle.file_laws.specs.Plans.{IsCopyPlan};
 ghost use Rattle.grid_deed.specs.Frame.{IsReady, Frame};
 ghost use Rattle.grid_deed.specs.Held.{IsHeld};
 ghost use Rattle.grid_deed.specs.Safe.{KeepWhole};
-ghost use Rattle.grid_deed.specs.Deeds.{moments_of, IsCopyPlan, CopySays, IsCopied};
+ghost use Rattle.grid_deed.specs.Deeds.{moments_of, CopySays, IsCopied};
 
 use crate::performing::commit;
 use grid_journal::{JournalError, Store};

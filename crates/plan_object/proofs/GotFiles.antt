@@ -41,6 +41,14 @@ object_there c m p id at none =
     let found : object c id ≡ Some row.0 = row.3 in
     cc
 
+-- where nothing is found the grid has no object
+pub nothing_at : (c : Cat) → IsMade c → (p : Path) → None ≡ object_at c p → get (grid_of c).objects p ≡ None
+nothing_at c m p none = get-objects c (sound_of c m) p ∙ ap (option_map (object_of c)) (by (find (λ r. is_path_of (object_path c r) p) c.objects) none)
+  where
+    by : (f : Option ObjectRow) → None ≡ option_map (λ (r : ObjectRow). r.id) f → f ≡ None
+    by None e = refl
+    by (Some r) e = absurd cc
+
 -- a row that is found is found at its own id
 pub found_row : (c : Cat) (id : ℕ) (o : ObjectRow) → Some o ≡ object c id → object c o.id ≡ Some o
 found_row c id o found = ap (object c) (eqb-true o.id id (in_from_find (λ x. x.id == id) c.objects o (sym found)).1) ∙ sym found
@@ -95,11 +103,7 @@ module _ (c : Cat) (m : IsMade c) (user : Text) (p : Path) (asked : Option Text)
   got_by o is = ap (λ (f : Option Object). tests f (λ _. needs (grid_of c) user p Read) (λ _. asked_there (grid_of c) asked) first) is
 
   pub no_object : None ≡ object_at c p → got (grid_of c) user p asked ≡ Err NoObject
-  no_object none = got_by None (get-objects c (sound_of c m) p ∙ ap (option_map (object_of c)) (by (find (λ r. is_path_of (object_path c r) p) c.objects) none))
-    where
-      by : (f : Option ObjectRow) → None ≡ option_map (λ (r : ObjectRow). r.id) f → f ≡ None
-      by None e = refl
-      by (Some r) e = absurd cc
+  no_object none = got_by None (nothing_at c m p none)
 
   module _ (id : ℕ) (o : ObjectRow) (at : Some id ≡ object_at c p) (found : Some o ≡ object c id) where
     got_row : got (grid_of c) user p asked ≡ tests (Some (object_of c o)) (λ _. needs (grid_of c) user p Read) (λ _. asked_there (grid_of c) asked) first

@@ -1,17 +1,18 @@
 -- The leaves of a put, each once, with their slots and names.
-use Rattle.std.proofs.Common.{◌≡◌, ◌==◌, ◌⊎◌, ℕ, suc, ◌+◌, Bool, true, false, List, [], ◌∷◌, ◌++◌, length, map, Some, inl, inr, IsTrue, refl, sym, ap, ◌∙◌, subst, eqb-true, eq-eqb}
+use Rattle.std.proofs.Common.{◌≡◌, ◌==◌, ◌⊎◌, ℕ, suc, ◌+◌, ◌<◌, Bool, true, false, List, [], ◌∷◌, ◌++◌, length, map, Some, inl, inr, IsTrue, refl, sym, ap, ◌∙◌, subst, eqb-true, eq-eqb}
 use Rattle.std.specs.Prelude.{◌&&◌, nat_lt, option_map}
 use Rattle.std.specs.List.{AllByRecursion, list_any}
-use Rattle.std.proofs.lemmas.Bool.{and_parts}
+use Rattle.std.proofs.lemmas.Bool.{and_parts, ltb-true}
 use Rattle.std.proofs.lemmas.List.{append-nil, append_assoc}
 use Rattle.grid_model.specs.Rows.{Cat, has_resource, resource}
 use Rattle.grid_model.specs.Applying.{is_leaf, is_storage, slot_fits}
 use Rattle.grid_model.specs.Whole.{leaf_slot}
+use Rattle.grid_model.specs.declared.deltas.ReplicaRow.{ReplicaRow}
 use Rattle.grid_model.specs.declared.deltas.ResourceRow.{ResourceRow}
 use Rattle.tables_laws.proofs.Rows.{IsIn, any_from_in, in_from_all, in_from_any}
 use Rattle.tables_laws.proofs.Numbered.{found_in}
 use Rattle.tables_laws.proofs.Resources.{leaf_there}
-use Rattle.tables_laws.proofs.Standing.{ResourceStands}
+use Rattle.tables_laws.proofs.Standing.{ReplicaStands, ResourceStands}
 use Rattle.tables_laws.proofs.Sound.{IsSound}
 use Rattle.file_laws.specs.Puts.{Target, files_from}
 use Rattle.grid_access.proofs.MapEntries.{map_from_in}
@@ -87,6 +88,10 @@ slot_small c s id slot leaf at =
   where
     same_slot : {a b : ℕ} → Some a ≡ Some b → a ≡ b
     same_slot e = cc
+
+-- and so is that of a replica
+pub stored_slot : (c : Cat) → IsSound c → (r : ReplicaRow) → IsIn c.replicas r → (slot : ℕ) → leaf_slot c r.leaf ≡ Some slot → slot < c.stores
+stored_slot c s r here slot at = ltb-true slot c.stores (slot_small c s r.leaf slot (in_from_all (ReplicaStands c) c.replicas s.tied.replicas r here).1 at)
 
 all_small : (c : Cat) → IsSound c → (ts : List Target) → AllByRecursion (λ (t : Target). is_leaf c t.leaf ≡ true) ts → AllByRecursion (λ (t : Target). leaf_slot c t.leaf ≡ Some t.slot) ts → AllByRecursion (λ (t : Target). nat_lt t.slot c.stores ≡ true) ts
 all_small c s [] leaves slots = tt

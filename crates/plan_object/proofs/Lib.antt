@@ -1,7 +1,9 @@
 pub mod GotFiles
+pub mod AllowedRows
 pub mod NewObjects
 pub mod RoomLemmas
 pub mod PutRows
+pub mod ReplRows
 pub mod Leaves
 pub mod NumberMaps
 pub mod Taken
@@ -11,6 +13,8 @@ pub mod Replacing
 pub mod Outdating
 pub mod OverMaps
 pub mod PutOver
+pub mod LackingLeaves
+pub mod CopyGrids
 pub mod Targets
 pub mod Filing
 pub mod Orphans
@@ -18,3 +22,6 @@ pub mod NewPlans
 pub mod NewRows
 pub mod PutLemmas
 pub mod PutDeeds
+pub mod ChksumRows
+pub mod BadMarks
+pub mod ReplDeeds

@@ -111,12 +111,12 @@ removes_other (f ∷ stored) rs q none =
     removes_other stored (remove rs f.row.number) q (λ g later. none g (inr later)) ∙ get_removed rs f.row.number q (λ same. none f (inl refl) (sym same))
 
 module _ (c : Cat) where
-  stales_other : (rows : List ReplicaRow) (rs : Replicas) (q : ℕ) → ((r : ReplicaRow) → IsIn rows r → r.number ≡ q → ⊥) → get (stales c rs rows) q ≡ get rs q
+  pub stales_other : (rows : List ReplicaRow) (rs : Replicas) (q : ℕ) → ((r : ReplicaRow) → IsIn rows r → r.number ≡ q → ⊥) → get (stales c rs rows) q ≡ get rs q
   stales_other [] rs q none = refl
   stales_other (r ∷ rows) rs q none =
       stales_other rows (put rs r.number (stale (replica_of c r))) q (λ x later. none x (inr later)) ∙ get_other rs r.number (stale (replica_of c r)) q (λ same. none r (inl refl) (sym same))
 
-  stales_at : (rows : List ReplicaRow) (rs : Replicas) (r : ReplicaRow) → ((x : ReplicaRow) → IsIn rows x → x.number ≡ r.number → x ≡ r)
+  pub stales_at : (rows : List ReplicaRow) (rs : Replicas) (r : ReplicaRow) → ((x : ReplicaRow) → IsIn rows x → x.number ≡ r.number → x ≡ r)
       → (get rs r.number ≡ Some (stale (replica_of c r))) ⊎ IsIn rows r → get (stales c rs rows) r.number ≡ Some (stale (replica_of c r))
   stales_at [] rs r alone (inl e) = e
   stales_at [] rs r alone (inr none) = absurd none
@@ -152,10 +152,10 @@ module _ (c : Cat) (s : IsSound c) (id : ℕ) where
       apart_in_order (λ (r : ReplicaRow). r.number) replica_cmp rows (IsTable-filter replica_cmp (λ _. true) (λ (r : ReplicaRow). r.object == id) c.replicas s.cat.replicas).ordered
       (λ x y here there same. equal_key x y ((row_in x here).1 ∙ sym (row_in y there).1) (sym same))
 
-  tied : (a b : ℕ) → eq_by_cmp nat_cmp a b ≡ true → a ≡ b
+  pub tied : (a b : ℕ) → eq_by_cmp nat_cmp a b ≡ true → a ≡ b
   tied a b e = (eq_by_cmp-Decides nat_cmp_total nat_cmp-IsAntisymmetric a b).0 e
 
-  at_number : (r : ReplicaRow) → IsIn rows r → find (λ (x : ReplicaRow). eq_by_cmp nat_cmp x.number r.number) rows ≡ Some r
+  pub at_number : (r : ReplicaRow) → IsIn rows r → find (λ (x : ReplicaRow). eq_by_cmp nat_cmp x.number r.number) rows ≡ Some r
   at_number r here =
       find_from_in (λ (x : ReplicaRow). eq_by_cmp nat_cmp x.number r.number) rows r here ((eq_by_cmp-Decides nat_cmp_total nat_cmp-IsAntisymmetric r.number r.number).1 refl)
       (λ x there passes. one_row x r there here (tied x.number r.number passes))
@@ -170,7 +170,7 @@ module _ (c : Cat) (s : IsSound c) (id : ℕ) where
   stale_is : all_stale ≡ gone_stale were
   stale_is = from_list-values nat_cmp_total nat_cmp-IsAntisymmetric (λ (x : ReplicaRow). x.number) (replica_of c) as_stale stale rows (λ x here. refl) one_row
 
-  get_were : (q : ℕ) → get were q ≡ option_map (replica_of c) (find (λ (x : ReplicaRow). eq_by_cmp nat_cmp x.number q) rows)
+  pub get_were : (q : ℕ) → get were q ≡ option_map (replica_of c) (find (λ (x : ReplicaRow). eq_by_cmp nat_cmp x.number q) rows)
   get_were q = get-rows nat_cmp_total (λ (x : ReplicaRow). x.number) (replica_of c) rows q
 
   get_stale : (q : ℕ) → get all_stale q ≡ option_map as_stale (find (λ (x : ReplicaRow). eq_by_cmp nat_cmp x.number q) rows)
@@ -207,28 +207,39 @@ module _ (c : Cat) (s : IsSound c) (id : ℕ) where
     abbrev IsThere : ℕ → Type 0
     IsThere id = has_resource c id ≡ true
 
-    stale_stand : Stand len digest (resource_name c) IsThere (resource_names_apart c s) all_stale numbers
-    stale_stand = record {
+    -- whatever becomes of them, if they stay on their leaves
+    stand_as : (value : ReplicaRow → Replica) → ((r : ReplicaRow) → (value r).leaf ≡ resource_name c r.leaf)
+        → Stand len digest (resource_name c) IsThere (resource_names_apart c s) (from_list (entries_of (λ (x : ReplicaRow). x.number) value rows)) numbers
+    stand_as value leaf_is = record {
       at = λ n here.
           let r = in_from_map leaf_number_of rows n here in
-          (as_stale r.0, ap (λ (z : LeafNumber). get all_stale z.number) (sym r.2) ∙ get_stale r.0.number ∙ ap (option_map as_stale) (at_number r.0 r.1), ap (λ (z : LeafNumber). resource_name c z.leaf) r.2);
-      from = λ q x e. from q x (find (λ (r : ReplicaRow). eq_by_cmp nat_cmp r.number q) rows) refl (sym (get_stale q) ∙ e);
+          (value r.0, ap (λ (z : LeafNumber). get there z.number) (sym r.2) ∙ get_there r.0.number ∙ ap (option_map value) (at_number r.0 r.1), leaf_is r.0 ∙ ap (λ (z : LeafNumber). resource_name c z.leaf) r.2);
+      from = λ q x e. from q x (find (λ (r : ReplicaRow). eq_by_cmp nat_cmp r.number q) rows) refl (sym (get_there q) ∙ e);
       count =
-          size-rows nat_cmp_total nat_cmp-IsAntisymmetric (λ (x : ReplicaRow). x.number) as_stale rows rows_apart ∙ sym (length-map rows leaf_number_of);
+          size-rows nat_cmp_total nat_cmp-IsAntisymmetric (λ (x : ReplicaRow). x.number) value rows rows_apart ∙ sym (length-map rows leaf_number_of);
       own = numbers_own;
       all = λ n here. let r = in_from_map leaf_number_of rows n here in ap (λ (z : LeafNumber). has_resource c z.leaf) (sym r.2) ∙ known_leaf r.0 r.1;
     }
       where
-        from : (q : ℕ) (x : Replica) (o : Option ReplicaRow) → find (λ (r : ReplicaRow). eq_by_cmp nat_cmp r.number q) rows ≡ o → option_map as_stale o ≡ Some x
+        there : Replicas
+        there = from_list (entries_of (λ (x : ReplicaRow). x.number) value rows)
+
+        get_there : (q : ℕ) → get there q ≡ option_map value (find (λ (x : ReplicaRow). eq_by_cmp nat_cmp x.number q) rows)
+        get_there q = get-rows nat_cmp_total (λ (x : ReplicaRow). x.number) value rows q
+
+        from : (q : ℕ) (x : Replica) (o : Option ReplicaRow) → find (λ (r : ReplicaRow). eq_by_cmp nat_cmp r.number q) rows ≡ o → option_map value o ≡ Some x
             → (n : LeafNumber) × IsIn numbers n × (n.number ≡ q) × (x.leaf ≡ resource_name c n.leaf)
         from q x None is e = absurd cc
         from q x (Some r) is e =
             let its = in_from_find (λ (y : ReplicaRow). eq_by_cmp nat_cmp y.number q) rows r is in
-            let same : as_stale r ≡ x = cc in
-            (leaf_number_of r, number_in r its.0, tied r.number q its.1, ap (λ (y : Replica). y.leaf) (sym same))
+            let same : value r ≡ x = cc in
+            (leaf_number_of r, number_in r its.0, tied r.number q its.1, ap (λ (y : Replica). y.leaf) (sym same) ∙ leaf_is r)
 
-    pub stand : Stand len digest (resource_name c) IsThere (resource_names_apart c s) (gone_stale were) numbers
-    stand = subst (λ (m : Replicas). Stand len digest (resource_name c) IsThere (resource_names_apart c s) m numbers) stale_is stale_stand
+    stand : Stand len digest (resource_name c) IsThere (resource_names_apart c s) (gone_stale were) numbers
+    stand = subst (λ (m : Replicas). Stand len digest (resource_name c) IsThere (resource_names_apart c s) m numbers) stale_is (stand_as as_stale (λ r. refl))
+
+    stand_were : Stand len digest (resource_name c) IsThere (resource_names_apart c s) were numbers
+    stand_were = stand_as (replica_of c) (λ r. refl)
 
     -- ---- the targets
 
@@ -312,4 +323,19 @@ module _ (c : Cat) (s : IsSound c) (id : ℕ) where
           same_map nat_cmp_total nat_cmp-IsAntisymmetric (puts len digest (resource_name c) remaining nts) (puts len digest (resource_name c) (gone_stale were) nts)
           (λ q. puts_same len digest (resource_name c) nts remaining (gone_stale were) same_number q)
           ∙ sym (good_all len digest (resource_name c) IsThere (resource_names_apart c s) leaves (gone_stale were) numbers its stand (all_known c s leaves all ts are leaves all)
+          (leaf_ids c s leaves all ts are ∙ with_leaves-is [] leaves))
+
+      -- ---- once some went and new ones come, where the others stay as they are
+
+      other_numbers : (q : ℕ) → ((u : NumberedTarget) → IsIn nts u → u.number ≡ q → ⊥) → get (removes were (replaced ts rows)) q ≡ get were q
+      other_numbers q none = removes_other (replaced ts rows) were q (λ f there same.
+          let its_row = from_replaced ts rows f there in
+          let u = taken_over f.row its_row.0 f.slot its_row.1 in
+          none u.0 u.1 (u.2 ∙ same))
+
+      pub copied_is : puts len digest (resource_name c) (removes were (replaced ts rows)) nts ≡ good_on_all len digest were (map (resource_name c) leaves)
+      copied_is =
+          same_map nat_cmp_total nat_cmp-IsAntisymmetric (puts len digest (resource_name c) (removes were (replaced ts rows)) nts) (puts len digest (resource_name c) were nts)
+          (λ q. puts_same len digest (resource_name c) nts (removes were (replaced ts rows)) were other_numbers q)
+          ∙ sym (good_all len digest (resource_name c) IsThere (resource_names_apart c s) leaves were numbers its stand_were (all_known c s leaves all ts are leaves all)
           (leaf_ids c s leaves all ts are ∙ with_leaves-is [] leaves))

@@ -26,7 +26,7 @@ use Rattle.plan_base.proofs.AtPaths.{sound_of}
 use Rattle.plan_object.specs.Writing.{GoesOnlyTo, GoesTo, IsSlotOf, MakesGrid, PlansWriting, Wanted, WritesFiles}
 
 -- the slot of a leaf is that of its name
-slot_is : (c : Cat) → IsSound c → (id slot : ℕ) → leaf_slot c id ≡ Some slot → slot_of (grid_of c).resources (resource_name c id) ≡ slot
+pub slot_is : (c : Cat) → IsSound c → (id slot : ℕ) → leaf_slot c id ≡ Some slot → slot_of (grid_of c).resources (resource_name c id) ≡ slot
 slot_is c s id slot = by (resource c id) refl
   where
     by : (o : Option ResourceRow) → resource c id ≡ o → option_map (λ (r : ResourceRow). r.slot) o ≡ Some slot → slot_of (grid_of c).resources (resource_name c id) ≡ slot

@@ -82,7 +82,7 @@ target_of_file v [] i f is = absurd cc
 target_of_file v (t ∷ ts) zero f is = let same : Some (record { slot = t.slot; name = v }) ≡ Some f = is in (t, inl refl, ap (λ (g : Option NewFile). option_map_or (λ (h : NewFile). h.slot) g t.slot) same)
 target_of_file v (t ∷ ts) (suc i) f is = let rest = target_of_file (v + 1) ts i f is in (rest.0, inr rest.1, rest.2)
 
-goes_only : (c : Cat) (leaves : List ℕ) (ts : List Target) → AreTargets c leaves ts → (plan : Plan) → plan.files ≡ files_from c.numbers.next_vault (map law_target ts) → GoesOnlyTo c leaves plan
+pub goes_only : (c : Cat) (leaves : List ℕ) (ts : List Target) → AreTargets c leaves ts → (plan : Plan) → plan.files ≡ files_from c.numbers.next_vault (map law_target ts) → GoesOnlyTo c leaves plan
 goes_only c leaves ts are plan files slot has =
     let t = target_of_file c.numbers.next_vault ts has.place has.file (ap (λ (fs : List NewFile). slice_get fs has.place) (sym files) ∙ has.is) in
     let its = subst (λ (ids : List ℕ). IsIn ids t.0.leaf) are.leaves_are (map_from_in (λ (x : Target). x.leaf) ts t.0 t.1) in

@@ -55,7 +55,7 @@ use Rattle.plan_object.proofs.Taken.{are_numbered, targets-with_numbers}
 
 -- ---- lists
 
-apart_filter : (p : ReplicaRow → Bool) (xs : List ReplicaRow) → Apart (λ (r : ReplicaRow). r.number) xs → Apart (λ (r : ReplicaRow). r.number) (filter p xs)
+pub apart_filter : (p : ReplicaRow → Bool) (xs : List ReplicaRow) → Apart (λ (r : ReplicaRow). r.number) xs → Apart (λ (r : ReplicaRow). r.number) (filter p xs)
 apart_filter p [] apart = tt
 apart_filter p (x ∷ xs) apart = elim (p x) as (λ b. Apart (λ (r : ReplicaRow). r.number) (cond b (x ∷ filter p xs) (filter p xs))) [
   | true ↦ (λ y here same. apart.0 y (in_from_filter p xs y here).0 same, apart_filter p xs apart.1)
@@ -70,7 +70,7 @@ apart_replaced ts (x ∷ xs) apart = by (slot_on ts x.leaf) (apart_replaced ts x
     by None rest = rest
     by (Some slot) rest = (λ f later same. apart.0 f.row (from_replaced ts xs f later).0 same, rest)
 
-there_more : (ts : List Target) (v : ℕ) (xs ys : List OrphanRow) → ((x : OrphanRow) → IsIn xs x → IsIn ys x) → AreThere v ts xs → AreThere v ts ys
+pub there_more : (ts : List Target) (v : ℕ) (xs ys : List OrphanRow) → ((x : OrphanRow) → IsIn xs x → IsIn ys x) → AreThere v ts xs → AreThere v ts ys
 there_more [] v xs ys more there = tt
 there_more (t ∷ ts) v xs ys more there = (more (record { vault = v; slot = t.slot }) there.0, there_more ts (v + 1) xs ys more there.1)
 
@@ -78,45 +78,45 @@ there_more (t ∷ ts) v xs ys more there = (more (record { vault = v; slot = t.s
 
 module _ (c : Cat) (made : IsMade c) (p : Path) (id : ℕ) (at : object_at c p ≡ Some id) (rec : Recorded) (old : ObjectRow) (found : object c id ≡ Some old)
     (leaves : List ℕ) (all : AllByRecursion (λ id. IsTrue (is_leaf c id)) leaves) (ts : List rust.Target) (are : AreTargets c leaves ts) where
-  s : IsSound c
+  pub s : IsSound c
   s = sound_of c made
 
-  abbrev v : ℕ
+  abbrev pub v : ℕ
   v = c.numbers.next_vault
 
   abbrev o : ObjectRow
   o = rewritten old rec
 
-  abbrev tgs : List Target
+  abbrev pub tgs : List Target
   tgs = lts c s leaves all ts are
 
-  abbrev stored : List StoredReplica
+  abbrev pub stored : List StoredReplica
   stored = replaced ts (rows c s old.id)
 
   abbrev staled : List ReplicaRow
   staled = outdated ts (rows c s old.id)
 
-  abbrev places : List NumberedTarget
+  abbrev pub places : List NumberedTarget
   places = nts c s old.id rec.size rec.digest leaves all ts are
 
-  same_targets : targets_of places ≡ tgs
+  pub same_targets : targets_of places ≡ tgs
   same_targets = targets-with_numbers tgs (numbers c s old.id)
 
   here : IsIn c.objects old × (old.id ≡ id)
   here = let its = in_from_find (λ (x : ObjectRow). x.id == id) c.objects old found in (its.0, eqb-true old.id id its.1)
 
-  its_place : object_place (collection_path c) old ≡ p
+  pub its_place : object_place (collection_path c) old ≡ p
   its_place = sym (ap (λ (f : Option ObjectRow). unwrap_or (option_map (object_place (collection_path c)) f) []) found) ∙ (placed c made p (item.Object id) at).place
 
-  its_row : object c old.id ≡ Some old
+  pub its_row : object c old.id ≡ Some old
   its_row = ap (object c) here.1 ∙ found
 
   -- ---- those that go
 
-  abbrev mid : Cat
+  abbrev pub mid : Cat
   mid = begun c made tgs (small c s leaves all ts are)
 
-  mid_made : IsMade mid
+  pub mid_made : IsMade mid
   mid_made = begun_made c made tgs (small c s leaves all ts are)
 
   small_slot : (t : rust.Target) → IsIn ts t → nat_lt t.slot c.stores ≡ true
@@ -133,10 +133,10 @@ module _ (c : Cat) (made : IsMade c) (p : Path) (id : ℕ) (at : object_at c p �
     differ = apart_replaced ts (rows c s old.id) (rows_apart c s old.id);
   }
 
-  gone : Gone old mid stored
+  pub gone : Gone old mid stored
   gone = go_all old stored mid may_go
 
-  abbrev fewer : Cat
+  abbrev pub fewer : Cat
   fewer = record mid { replicas = gone.replicas; orphans = gone.orphans }
 
   fewer_made : IsMade fewer
@@ -178,13 +178,13 @@ module _ (c : Cat) (made : IsMade c) (p : Path) (id : ℕ) (at : object_at c p �
 
   -- ---- the object's row
 
-  abbrev g : Grid
+  abbrev pub g : Grid
   g = grid_of c
 
-  get_there : get g.objects p ≡ Some (object_of c old)
+  pub get_there : get g.objects p ≡ Some (object_of c old)
   get_there = get-object_at c s p id old at found
 
-  has_mid : HasIt old mid g p (were c s old.id)
+  pub has_mid : HasIt old mid g p (were c s old.id)
   has_mid = record {
     sound = sound_of mid mid_made;
     found = its_row;
@@ -205,7 +205,7 @@ module _ (c : Cat) (made : IsMade c) (p : Path) (id : ℕ) (at : object_at c p �
 
   -- ---- those that come
 
-  old_vault : (y : ReplicaRow) → IsIn c.replicas y → y.vault < v
+  pub old_vault : (y : ReplicaRow) → IsIn c.replicas y → y.vault < v
   old_vault y which = (in_from_all (ReplicaStands c) c.replicas s.tied.replicas y which).3
 
   -- a row that is left was there
@@ -304,7 +304,7 @@ module _ (c : Cat) (made : IsMade c) (p : Path) (id : ℕ) (at : object_at c p �
   dropped_so r which slot is =
       contains_of (map (λ (f : StoredReplica). f.row) stored) r (map_from_in (λ (f : StoredReplica). f.row) stored (record { row = r; slot = slot }) (to_replaced ts (rows c s old.id) r slot which is))
 
-  its_rows : (r : ReplicaRow) → IsIn c.replicas r → r.object ≡ old.id → IsIn (rows c s old.id) r
+  pub its_rows : (r : ReplicaRow) → IsIn c.replicas r → r.object ≡ old.id → IsIn (rows c s old.id) r
   its_rows r which is = filter_from_in (λ (x : ReplicaRow). x.object == old.id) c.replicas r which (eq-eqb r.object old.id is)
 
   may : MayRewrite c o rewriting

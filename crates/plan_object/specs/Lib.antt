@@ -1,6 +1,9 @@
+pub mod Allowing
+pub mod ChksumPlans
 pub mod LeafNumbers
 pub mod OverPlans
 pub mod PutPlans
+pub mod ReplPlans
 pub mod Room
 pub mod Sending
 pub mod Writing

@@ -1,4 +1,4 @@
-ghost use Rattle.std.specs.Prelude.{◌≡◌, ◌+◌, ◌<◌, ◌++◌, ◌^◌, length, map, IsTrue, IfOk, OnOk};
+ghost use Rattle.std.specs.Prelude.{◌≡◌, ◌+◌, ◌<◌, ◌++◌, ◌^◌, false, length, map, IsTrue, IfOk, OnOk};
 ghost use Rattle.std.specs.List.{list_all};
 ghost use Rattle.grid_journal.specs.Journal.{can_be_kept};
 ghost use Rattle.grid_model.specs.Deltas.{digest as digest_part, text};
@@ -130,13 +130,30 @@ fn no_orphan(vault: u64) -> Delta
     Delta::NoOrphan { vault }
 }
 
-/// The change that puts a replica.
-pub(crate) fn replica(row: ReplicaRow) -> Delta
+// The change that puts a replica.
+fn replica(row: ReplicaRow) -> Delta
     requires { IsTrue (digest_part row.digest).fits }
     ensures change { result ≡ Delta.Replica row }
     ensures spelled { IsTrue (can_be_kept result) }
 {
     Delta::Replica(row)
+}
+
+/// The change after which a replica is stale, and else as it was.
+pub(crate) fn stale_replica(row: &ReplicaRow) -> Delta
+    ensures change { result ≡ Delta.Replica (record row.now { good = false }) }
+    ensures spelled { IsTrue (can_be_kept result) }
+{
+    digest_is_kept(row.digest);
+    replica(ReplicaRow {
+        object: row.object,
+        number: row.number,
+        leaf: row.leaf,
+        good: false,
+        size: row.size,
+        digest: row.digest,
+        vault: row.vault,
+    })
 }
 
 /// The change that takes a replica away.

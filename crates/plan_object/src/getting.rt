@@ -42,8 +42,12 @@ pub fn plan_get(
     }
 }
 
-// The file of the first replica of an object that can be read, on the asked resource where that has one.
-fn first_file(tables: &Tables, object: &ObjectRow, asked: Option<u32>) -> Result<OldFile, Refusal>
+/// The file of the first replica of an object that can be read, on the asked resource where that has one.
+pub(crate) fn first_file(
+    tables: &Tables,
+    object: &ObjectRow,
+    asked: Option<u32>,
+) -> Result<OldFile, Refusal>
     requires made { IsMade tables.now }
     requires there { object_row tables.now object.now.id ≡ Some object.now }
     requires asked { IfSome asked (λ id. IsTrue (has_resource tables.now id)) }

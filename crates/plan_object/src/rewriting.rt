@@ -8,12 +8,14 @@ ghost use Rattle.file_laws.specs.Rewriting.{replicas_dropped, replicas_staled};
 ghost use Rattle.plan_object.specs.OverPlans.{IsOverPlan, WritesOver, outdated, replaced, rewritten};
 ghost use Rattle.plan_object.specs.Writing.{Recorded};
 
-use crate::changes::{files_of, no_replica, object, orphan, push_replicas, put_before, replica};
+use crate::changes::{
+    files_of, no_replica, object, orphan, push_replicas, put_before, stale_replica,
+};
 use crate::numbering::leaf_numbers;
 use crate::placing::{Target, has_leaf, slot_on};
 use grid_model::{Delta, Deltas, Digest, NewFiles, ObjectRow, OldFiles, Plan, ReplicaRow, Text};
 use grid_tables::Tables;
-use plan_base::{digest_is_kept, name_is_text};
+use plan_base::name_is_text;
 use std::alloc::{AllocError, Global};
 
 /// The plan that writes over the object with this id: its new replicas come to the targets. Fails for want of memory alone.
@@ -102,8 +104,8 @@ fn over_plan(
     })
 }
 
-// Adds the changes that take away the replicas on the targets and make their files orphans.
-fn push_replaced(
+/// Adds the changes that take away the replicas on the targets and make their files orphans. Fails for want of memory alone.
+pub(crate) fn push_replaced(
     deltas: &mut Vec<Delta>,
     rows: &[ReplicaRow],
     targets: &[Target],
@@ -163,15 +165,6 @@ fn push_if_outdated(
     if !row.good || has_leaf(targets, row.leaf) {
         return Ok(());
     }
-    digest_is_kept(row.digest);
-    deltas.push(replica(ReplicaRow {
-        object: row.object,
-        number: row.number,
-        leaf: row.leaf,
-        good: false,
-        size: row.size,
-        digest: row.digest,
-        vault: row.vault,
-    }))?;
+    deltas.push(stale_replica(row))?;
     Ok(())
 }
