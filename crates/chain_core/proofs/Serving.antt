@@ -21,7 +21,7 @@ word_test true a b h = sym ((same_text-Decides a b).1 (sym (h.0 refl)))
 word_test false a b h = sym (false_from_ne_true (same_text a b) (λ e. absurd (cc (h.1 (sym ((same_text-Decides a b).0 e))))))
 
 -- a reading takes the arguments of its form
-abbrev Reads : Services.Reading → Reading → Type 0
+abbrev Reads : Services.ServiceReading → Reading → Type 0
 Reads f r = (args : List Text) → is_some (f args) ≡ fits_reading r args
 
 nop_reads : Reads reads_nop Nop
@@ -76,12 +76,12 @@ access_reads (a ∷ b ∷ c ∷ d ∷ args) = refl
 -- ---- the table
 
 -- the two tables have the same names, and readings of the same forms
-abbrev Match : List (Text × Services.Reading) → List (Text × Reading) → Type 0
+abbrev Match : List (Text × Services.ServiceReading) → List (Text × Reading) → Type 0
 Match [] [] = Unit {0}
 Match (a ∷ fs) (b ∷ bs) = (a.0 ≡ b.0) × Reads a.1 b.1 × Match fs bs
 Match fs bs = ⊥
 
-matched : (fs : List (Text × Services.Reading)) (bs : List (Text × Reading)) → Match fs bs → (name : Text) (args : List Text)
+matched : (fs : List (Text × Services.ServiceReading)) (bs : List (Text × Reading)) → Match fs bs → (name : Text) (args : List Text)
     → is_some (option_map_or (λ f. f args) (word_in fs name) None) ≡ option_map_or (λ r. fits_reading r args) (word_in bs name) false
 matched [] [] same name args = refl
 matched [] (b ∷ bs) same name args = absurd same
