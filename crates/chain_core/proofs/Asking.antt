@@ -9,7 +9,7 @@ use Rattle.chain_core.specs.declared.actions.Start.TheVariants.{Point, Exec}
 use Rattle.chain_core.specs.declared.frames.Frames.{Frames}
 use Rattle.chain_core.specs.Rest.{rest}
 use Rattle.chain_core.specs.Answers.{asked, Tells, IsUsable}
-use Rattle.chain_core.specs.Running.{Begins, Continues, LeavesFewer, Starts}
+use Rattle.chain_core.specs.Running.{BeginsCall, Continues, LeavesFewer, Starts}
 use Rattle.chain_core.specs.Ending.{events_left}
 use Rattle.chain_core.proofs.Fewer.{next_fewer}
 use Rattle.chain_core.specs.Seen.{TakesEvent}
@@ -46,6 +46,6 @@ pub usable_start : (rules : List Rule) (old mid new : Frames) (what : Start) →
 usable_start rules old mid new (Point name) is settles = usable_settled rules mid new (subst (Holds rules) (sym is) (point_holds rules old name)) settles
 usable_start rules old mid new (Exec c) is settles = usable_settled rules mid new (subst (Holds rules) (sym is.2) (call_holds rules old c is.0)) settles
 
-pub begins : (rules : List Rule) (old mid new : Frames) (what : Start) → Starts rules old what mid → Settles rules mid new → Begins rules old what new
+pub begins : (rules : List Rule) (old mid new : Frames) (what : Start) → Starts rules old what mid → Settles rules mid new → BeginsCall rules old what new
 begins rules old mid new (Point name) is settles = λ env s. settles.keeps.same env s ∙ ap (λ m. rest rules env m s) is ∙ point_is rules env old name s
 begins rules old mid new (Exec c) is settles = λ env vs s values. settles.keeps.same env s ∙ ap (λ m. rest rules env m s) is.2 ∙ call_is rules env old vs c is.0 s is.1 values

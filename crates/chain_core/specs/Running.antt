@@ -21,9 +21,9 @@ abbrev pub HasValues : Call → List Value → Type 0
 HasValues c vs = doing c ≡ failing → IsCoded vs × (c.args ≡ map text_of vs)
 
 -- What is to be done is all that the rules of the name do, or the call as a step by itself.
-abbrev pub Begins : List Rule → Frames → Start → Frames → Type 0
-Begins rules old (Point name) new = (env : Env) (s : Course) → rest rules env new s ≡ call_rule rules env name [] (course old s)
-Begins rules old (Exec c) new = (env : Env) (vs : List Value) (s : Course) → HasValues c vs
+abbrev pub BeginsCall : List Rule → Frames → Start → Frames → Type 0
+BeginsCall rules old (Point name) new = (env : Env) (s : Course) → rest rules env new s ≡ call_rule rules env name [] (course old s)
+BeginsCall rules old (Exec c) new = (env : Env) (vs : List Value) (s : Course) → HasValues c vs
     → rest rules env new s ≡ mapped named_of_step (begin_step (call_rule rules env) env.user vs c (counted (course old s)))
 
 -- From where the action left the command, as much is to be done as was from where it began.

@@ -1,7 +1,7 @@
 //! The machine: what begins, and what each event leads to.
 ghost use Rattle.chain_core.specs.Answers.{asked, IsUsable, IsKind, Tells};
 ghost use Rattle.chain_core.specs.Moves.{at_call, at_point};
-ghost use Rattle.chain_core.specs.Running.{Begins, Continues, LeavesFewer, Starts};
+ghost use Rattle.chain_core.specs.Running.{BeginsCall, Continues, LeavesFewer, Starts};
 ghost use Rattle.chain_core.specs.Seen.{rules_of};
 ghost use Rattle.chain_core.specs.Settling.{Settles};
 ghost use Rattle.chain_core.specs.declared.kinds.Kind.{Kind};
@@ -78,7 +78,7 @@ impl Frames {
         ensures asked { IfOk result (λ action. action ≡ asked self.new) }
         ensures tells { IfOk result (λ action. Tells (rules_of rules.now) self.new action) }
         ensures usable { OnOk result (IsUsable (rules_of rules.now) self.new) }
-        ensures begins { OnOk result (Begins (rules_of rules.now) self.old what self.new) }
+        ensures begins { OnOk result (BeginsCall (rules_of rules.now) self.old what self.new) }
     {
         self.begin(alloc, rules, what)?;
         self.ask(alloc, rules)

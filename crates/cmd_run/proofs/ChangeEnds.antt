@@ -25,7 +25,7 @@ use Rattle.cmd_run.specs.declared.server.Ending.{Ending}
 use Rattle.cmd_run.specs.Around.{around}
 use Rattle.cmd_run.specs.Answers.{IsTextPut, PutEnds}
 use Rattle.cmd_run.specs.Fits.{state_by, state_of, FitsMain, AreUsers}
-use Rattle.cmd_run.specs.Keeps.{named, IsChange, IsKeptSo}
+use Rattle.cmd_run.specs.Keeps.{named, ChangesOrNone, IsChange, IsKeptSo}
 use Rattle.cmd_run.specs.Obeys.{Obeys, ChangesGrid, handled}
 use Rattle.cmd_run.proofs.ChangeLemmas.{state_last, users_last, cut_short, said, whole}
 use Rattle.cmd_run.proofs.Resting.{gave_same, caused_same}
@@ -55,7 +55,7 @@ fits_on c main_old main s kept pending rules users =
     }
 
 module _ {D A P : Type 0} (disk : D → DiskState) (ambient : A → AmbientState) (plugin : P → StoreState) (source : SourceState) (o n : Outside D A P) (from to : SinkState) (server after_server : Server) (number : ℕ) (request : Request) (deltas : List Delta) (after : Cat)
-    (ambient_same : n.ambient ≡ o.ambient) (stores_same : n.stores ≡ o.stores) (fits : FitsMain (disk o.main) server) (sink_last : from.last ≤ o.moments) (sessions_same : after_server.sessions ≡ server.sessions) (change : IsChange server.store.cat deltas after) (s : ChangesGrid (state_of server) server.store.cat request after) where
+    (ambient_same : n.ambient ≡ o.ambient) (stores_same : n.stores ≡ o.stores) (fits : FitsMain (disk o.main) server) (sink_last : from.last ≤ o.moments) (sessions_same : after_server.sessions ≡ server.sessions) (change : IsChange server.store.cat deltas after) (s : ChangesGrid (state_of server) server.store.cat request after) (still : ChangesOrNone server.store.cat deltas after) where
   abbrev c : Cat
   c = server.store.cat
 
@@ -96,7 +96,7 @@ module _ {D A P : Type 0} (disk : D → DiskState) (ambient : A → AmbientState
       grid_new = ap grid_of (sym k.ends.cat)
 
       differs : deltas ≢ [] → grid_of after ≢ grid_of c
-      differs some = elim change.still [ inl none ↦ absurd (some none) | inr other ↦ other ]
+      differs some = elim still [ inl none ↦ absurd (some none) | inr other ↦ other ]
 
       whole_step : deltas ≢ [] → (IsTrue from.tells → to.holds ≡ from.holds ++ end_line number well) → IsHandledWhole old new (state_of server) c number request step after_server.store.cat (state_of after_server)
       whole_step some_deltas all =

@@ -44,7 +44,7 @@ use Rattle.cmd_run.proofs.ChangeLemmas.{state_last, users_last}
 use Rattle.cmd_run.proofs.GetSteps.{has_lines, leaves_since, cut_short, said, whole}
 use Rattle.cmd_run.proofs.GotLemmas.{Told, ToldSome, told_so, told_part, gave_untold}
 use Rattle.cmd_run.proofs.Resting.{like_self, stands_still}
-use Rattle.cmd_run.proofs.SentFiles.{SentFile, known_text}
+use Rattle.cmd_run.proofs.SentFiles.{SentFile, known_text, sent_named}
 use Rattle.cmd_run.proofs.Users.{KeepsUsers, users_same}
 use Rattle.cmd_run.proofs.Vaults.{some_vault}
 
@@ -84,7 +84,7 @@ module _ {D A P K : Type 0} (disk : D → DiskState) (ambient : A → AmbientSta
       drew = let Q : A → Type 0 = λ a. IsTrue (ambient a).tells → Drew f.drawn (ambient o.outside.ambient) (ambient a) in subst Q (sym ambient_same) f.drew
 
       text_in : (store : P) → slice_get o.outside.stores.items file.slot ≡ Some store → IsKnown old c file.slot → SentFile file (plugin store).holds × IsTrue (plugin store).tells
-      text_in store is = known_text old c asks.who.user asks.path asks.asked file asks.sends store is (ready.outside.stores_last file.slot store is)
+      text_in store is = known_text old c file (sent_named c asks.who.user asks.path asks.asked file asks.sends) store is (ready.outside.stores_last file.slot store is)
 
       pub told_sent : (answer : Answer) (s : IsSent ambient plugin sink file n answer o mid) → Told old new server n request file s.sends.holds.sent (text_behind n f.drawn file answer)
       told_sent answer s =

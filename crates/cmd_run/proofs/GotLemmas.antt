@@ -33,13 +33,15 @@ use Rattle.grid_model.specs.ReplyTexts.{IsFrontOf, SendsBytes}
 use Rattle.grid_model.specs.Runs.{Request, does}
 use Rattle.grid_model.specs.Working.{Done, Sent, begun, words_of, sent_by, operate}
 use Rattle.grid_model.specs.Completing.{AreClean, EndsByRows}
+use Rattle.grid_model.specs.declared.marks.BadReplica.{BadReplica}
 use Rattle.grid_model.specs.declared.marks.Mark.{Mark}
 use Rattle.grid_model.specs.declared.marks.Mark.TheVariants as mark
 use Rattle.grid_model.specs.declared.plans.OldFile.{OldFile}
 use Rattle.grid_model.specs.declared.replies.End.{End}
 use Rattle.grid_model.specs.declared.replies.End.TheVariants as end
 use Rattle.grid_model.specs.declared.refusal.Refusal.TheVariants as refusal
-use Rattle.grid_vault.specs.Reading.{IsAsRecorded}
+use Rattle.grid_vault.specs.Reading.{IsAsRecorded, Differs}
+use Rattle.grid_vault.specs.declared.reading.Found.{Found}
 use Rattle.grid_vault.specs.Sending.{Breaks, OnFault, Answers, IsFaulty}
 use Rattle.grid_vault.specs.declared.sent.Sent.{Sent as Answer}
 use Rattle.grid_vault.specs.declared.sent.Sent.TheVariants.{Whole, Fault, Bad}
@@ -185,8 +187,8 @@ module _ {B : Type 0} (old new : World B) (count : length new.stores ≡ length 
 
 module _ (drawn : Drawn) (old new : AmbientState) (drew : IsTrue new.tells → Drew drawn old new) where
   -- both are told
-  pub gave_ran : IsTrue new.tells → Gave (mark.Ran drawn.word drawn.now [] ∷ []) old new
-  gave_ran told = let d = drew told in record { told = d.told; words = drawn.word ∷ []; words_are = d.words; words_told = keep none; times = drawn.now ∷ []; times_are = d.times; times_told = keep none }
+  pub gave_ran : (bad : List BadReplica) → IsTrue new.tells → Gave (mark.Ran drawn.word drawn.now bad ∷ []) old new
+  gave_ran bad told = let d = drew told in record { told = d.told; words = drawn.word ∷ []; words_are = d.words; words_told = keep none; times = drawn.now ∷ []; times_are = d.times; times_told = keep none }
 
   -- or neither is
   pub gave_untold : (marks : List Mark) → words_told marks ≡ [] → times_told marks ≡ [] → IsTrue new.tells → Gave marks old new
@@ -214,6 +216,18 @@ both_false : (a b : Bool) → (a ≡ true → b ≡ true → ⊥) → not (a && 
 both_false true true never = absurd (never refl refl)
 both_false true false never = refl
 both_false false b never = refl
+
+-- other bytes differ from what is recorded
+differs_by : (file : OldFile) (read : Text) → ¬ IsAsRecorded file read → length read ≤ file.size + 1 → differs (length read) (sha256 read) file.size file.digest ≡ true
+differs_by file read not_recorded one_more = and_from (not (length read == file.size && same_text (sha256 read) file.digest)) (nat_le (length read) (file.size + 1))
+    (both_false (length read == file.size) (same_text (sha256 read) file.digest) (λ size digest. not_recorded (record { size = eqb-true (length read) file.size size; digest = (same_text-Decides (sha256 read) file.digest).0 digest })))
+    (le-leb (length read) (file.size + 1) one_more)
+
+pub differs_so : (file : OldFile) (read : Text) (found : Found) → Differs file read found → length read ≤ file.size + 1 → differs found.len found.digest file.size file.digest ≡ true
+differs_so file read found d one_more =
+    let L : ℕ → Type 0 = λ k. differs k found.digest file.size file.digest ≡ true in
+    let F : List ℕ → Type 0 = λ f. differs (length read) f file.size file.digest ≡ true in
+    subst L (sym d.len) (subst F (sym d.digest) (differs_by file read d.not_recorded one_more))
 
 few_parts : (a b : ℕ) → a ≤ b → parts a ≤ parts b
 few_parts a b le = omega (arith, le)
@@ -243,7 +257,7 @@ module _ {B : Type 0} (old new : World B) (count : length new.stores ≡ length 
     sends = same;
     text_is = refl;
     caused = caused_none old new count later (mark.Ran drawn.word drawn.now [] ∷ []) (λ slot. refl);
-    gave = gave_ran drawn old.ambient new.ambient drew;
+    gave = gave_ran drawn old.ambient new.ambient drew [];
   }
 
   -- so many parts of it were sent, and more came not
@@ -290,9 +304,7 @@ module _ {B : Type 0} (old new : World B) (count : length new.stores ≡ length 
       whole = ap (λ (b : Text). b ++ drop file.size read) front ∙ take-append-drop file.size read
 
       other : differs (length read) (sha256 read) file.size file.digest ≡ true
-      other = and_from (not (length read == file.size && same_text (sha256 read) file.digest)) (nat_le (length read) (file.size + 1))
-          (both_false (length read == file.size) (same_text (sha256 read) file.digest) (λ size digest. not_recorded (record { size = eqb-true (length read) file.size size; digest = (same_text-Decides (sha256 read) file.digest).0 digest })))
-          (le-leb (length read) (file.size + 1) one_more)
+      other = differs_by file read not_recorded one_more
 
   -- what is known of the file, in this store
   module _ (store : StoreState) (text : known file.slot → SentFile file store.holds × IsTrue store.tells) where

@@ -1,5 +1,9 @@
 pub mod ChangeEnds
 pub mod ChangeLemmas
+pub mod CopyEnds
+pub mod CopyLemmas
+pub mod DeedEnds
+pub mod DeedMarks
 pub mod FetchLemmas
 pub mod GetEnds
 pub mod GetRefusals
@@ -12,6 +16,7 @@ pub mod Listings
 pub mod LoginLemmas
 pub mod Meant
 pub mod NotRefused
+pub mod OfDeeds
 pub mod OfGrid
 pub mod OfRows
 pub mod Operated
@@ -20,9 +25,12 @@ pub mod PutEnds
 pub mod PutLemmas
 pub mod PutSteps
 pub mod Remembering
+pub mod ReplLemmas
 pub mod Resting
 pub mod SayLemmas
 pub mod SentFiles
+pub mod SumEnds
+pub mod SumLemmas
 pub mod SweepEnds
 pub mod SweepLemmas
 pub mod Tagged

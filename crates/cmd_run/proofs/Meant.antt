@@ -4,7 +4,7 @@ use Rattle.std.specs.Prelude.{nat_le}
 use Rattle.grid_model.specs.Names.{Text}
 use Rattle.grid_model.specs.Limits.{object_size}
 use Rattle.grid_model.specs.Orders.{Order, lists, lists_triples, logs_in, logs_out, quits, sweeps, works}
-use Rattle.grid_model.specs.Operations.Table.{mkuser, mkgroup, mkdir, rmdir, mv, chmod, inherit, addmember, rmmember, mkresc, addchild, modresc, put, get, trim, rm, addmeta, rmmeta}
+use Rattle.grid_model.specs.Operations.Table.{mkuser, mkgroup, mkdir, rmdir, mv, chmod, inherit, addmember, rmmember, mkresc, addchild, modresc, put, get, repl, chksum, trim, rm, addmeta, rmmeta}
 use Rattle.grid_model.specs.Sessions.{State}
 use Rattle.grid_model.specs.declared.grid.ResourceKind.TheVariants.{Storage}
 use Rattle.grid_model.specs.declared.requests.Verb.{Verb}
@@ -35,6 +35,8 @@ order_of at (verb.Inherit path) body built good = (works (inherit path true) 0, 
 order_of at (verb.NoInherit path) body built good = (works (inherit path false) 0, refl)
 order_of at (verb.Put path resource mode count) body built good = (works (put path resource mode body) count, refl)
 order_of at (verb.Get path resource) body built good = (works (get path resource) 0, refl)
+order_of at (verb.Repl path resource) body built good = (works (repl path resource) 0, refl)
+order_of at (verb.ChkSum path) body built good = (works (chksum path) 0, refl)
 order_of at (verb.Trim path resource) body built good = (works (trim path resource) 0, refl)
 order_of at (verb.Rm path) body built good = (works (rm path) 0, refl)
 order_of at verb.Sweep body built good = (sweeps, refl)

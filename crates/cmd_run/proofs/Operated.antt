@@ -15,7 +15,7 @@ use Rattle.grid_model.specs.declared.requests.Verb.{Verb}
 use Rattle.sess.specs.Places.{at, user_of}
 use Rattle.cmd_run.specs.declared.server.Server.{Server}
 use Rattle.cmd_run.specs.Fits.{state_of}
-use Rattle.cmd_run.specs.Keeps.{IsChange}
+use Rattle.cmd_run.specs.Keeps.{ChangesOrNone, IsChange}
 use Rattle.cmd_run.specs.Obeys.{SaysOnly, ChangesGrid}
 use Rattle.cmd_run.specs.Operating.{operation_by, PlansBy, AsksBy, AsksToOperate}
 use Rattle.cmd_run.proofs.OfGrid.{OfGrid}
@@ -27,12 +27,12 @@ module _ (s : Server) where
   c = s.store.cat
 
   -- its changes are those that the request makes
-  pub changes_so : (deltas : List Delta) (request : Request) → AsksToOperate s (Ok deltas) request → (after : Cat) × IsChange c deltas after × ChangesGrid (state_of s) c request after
+  pub changes_so : (deltas : List Delta) (request : Request) → AsksToOperate s (Ok deltas) request → (after : Cat) × IsChange c deltas after × ChangesOrNone c deltas after × ChangesGrid (state_of s) c request after
   changes_so deltas request asks =
       let name = user_name c asks.user in
       let p = asks.plans in
       let Q : Request → Type 0 = λ r. ChangesGrid (state_of s) c r p.after in
-      (p.after, is_change c name asks.op deltas p, subst Q (sym asks.is) (changes_of s asks.session asks.user asks.logged_in asks.op 0 refl deltas p asks.silent))
+      (p.after, is_change c name asks.op deltas p, p.still, subst Q (sym asks.is) (changes_of s asks.session asks.user asks.logged_in asks.op 0 refl deltas p asks.silent))
 
   -- its refusal is that of the request
   pub refused_so_by : (r : Refusal) (request : Request) → AsksToOperate s (Err (Refused r)) request → SaysOnly (state_of s) request (end.Refused r) (state_of s)

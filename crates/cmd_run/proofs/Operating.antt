@@ -15,6 +15,7 @@ use Rattle.grid_model.specs.Sessions.{Session, State}
 use Rattle.grid_model.specs.Orders.{Order}
 use Rattle.grid_model.specs.Working.{Done, Sent, begun, done, refused_at_once, running, words_of, sent_by, operate}
 use Rattle.grid_model.specs.Obeying.{command, logged_in, not_logged_in, do_works}
+use Rattle.grid_model.specs.declared.marks.BadReplica.{BadReplica}
 use Rattle.grid_model.specs.declared.marks.Mark.{Mark}
 use Rattle.grid_model.specs.declared.marks.Mark.TheVariants.{Ran, Fault, Bad}
 use Rattle.grid_model.specs.declared.refusal.Refusal.{Refusal}
@@ -97,9 +98,13 @@ module _ (at : State) (none : at.rules ≡ []) (user : Text) (op : Operation) wh
   marked : (d : Deed) (m : Mark) → row at.grid user op ≡ Ok (deed d) → fits d m ≡ true → operate at user op (begun at.grid (m ∷ [])) ≡ by_fit d m true
   marked d m is it_fits = alone (m ∷ []) (Ok (deed d)) is ∙ ap (by_fit d m) it_fits
 
+  pub ran_bad_so : (d : Deed) (word now : ℕ) (bad : List BadReplica) → row at.grid user op ≡ Ok (deed d) → fits d (Ran word now bad) ≡ true
+      → operate at user op (begun at.grid (Ran word now bad ∷ [])) ≡ gives (marked_work (d.ran word now bad) (Ran word now bad) (end.Done its_words))
+  ran_bad_so d word now bad is it_fits = marked d (Ran word now bad) is it_fits
+
   pub ran_so : (d : Deed) (word now : ℕ) → row at.grid user op ≡ Ok (deed d) → fits d (Ran word now []) ≡ true
       → operate at user op (begun at.grid (Ran word now [] ∷ [])) ≡ gives (marked_work (d.ran word now []) (Ran word now []) (end.Done its_words))
-  ran_so d word now is it_fits = marked d (Ran word now []) is it_fits
+  ran_so d word now is it_fits = ran_bad_so d word now [] is it_fits
 
   pub failed_so : (d : Deed) (slot sent : ℕ) → row at.grid user op ≡ Ok (deed d) → fits d (Fault slot sent) ≡ true
       → operate at user op (begun at.grid (Fault slot sent ∷ [])) ≡ gives (marked_work at.grid (Fault slot sent) (end.Refused (refusal.Fault slot)))

@@ -28,7 +28,7 @@ use Rattle.cmd_run.proofs.KeepLemmas.{apply_all-then, applied_last}
 use Rattle.cmd_run.proofs.Vaults.{some_vault}
 
 -- what is drawn for a plan, seen and kept
-like_drawn : (c d : Cat) (files : ℕ) → Draws c files d → grid_of d ≡ grid_of c → IsLike c d
+pub like_drawn : (c d : Cat) (files : ℕ) → Draws c files d → grid_of d ≡ grid_of c → IsLike c d
 like_drawn c d files draws grid = record {
   grid = grid;
   run = ap (λ (n : Numbers). n.run) draws.numbers;
@@ -39,7 +39,7 @@ like_drawn c d files draws grid = record {
   keeps = record { rises = omega (arith, ap (λ (n : Numbers). n.next_vault) draws.numbers); names = draws.names };
 }
 
-stays_drawn : (c d : Cat) (files : ℕ) → Draws c files d → StaysBeside c d
+pub stays_drawn : (c d : Cat) (files : ℕ) → Draws c files d → StaysBeside c d
 stays_drawn c d files draws = record {
   rules = draws.rules;
   stores = draws.stores;

@@ -2,7 +2,7 @@
 use Rattle.std.proofs.Common.{◌≡◌, inl, inr, ℕ, ◌≤◌, false, [], None, Some, Err, IsTrue, sym, subst}
 use Rattle.std.specs.Prelude.{Result, ⊤, Option}
 use Rattle.std.proofs.lemmas.Bool.{cases_lt}
-use Rattle.grid_outside.specs.Device.{IsSettled}
+use Rattle.grid_outside.specs.Device.{IsSettled, Leaves}
 use Rattle.grid_outside.specs.Disk.{DiskState}
 use Rattle.grid_outside.specs.Files.{StoreState}
 use Rattle.grid_outside.specs.Source.{SourceState}
@@ -25,6 +25,7 @@ use Rattle.cmd_run.specs.Keeps.{IsKeptSo, named}
 use Rattle.cmd_run.specs.Obeys.{Remembers}
 use Rattle.cmd_run.specs.Writes.{Kept, Writing, WriteEnds, EndsIn, IsWritten}
 use Rattle.cmd_run.proofs.ChangeLemmas.{names_named}
+use Rattle.cmd_run.proofs.DeedEnds.{ends_logs}
 use Rattle.cmd_run.proofs.Resting.{stands_still}
 
 -- the text stands for a catalogue without a pending command, in which what was named is named
@@ -69,36 +70,28 @@ later_remembers disk a b new s from to same le last held none goes then told set
   | inr before ↦ still_remembers disk a b s from same last held none told settled t main d late (goes.earlier t main before left) stands
 ]
 
--- a plan that writes files was carried out, or how far that came
-module _ {B : Type 0} (plugin : B → StoreState) (w : Writing) (old new : Kept B) (result : Result (Option ℕ) Ending) (server : Server)
-    (none : w.before.pending ≡ None) (mid_none : w.mid.pending ≡ None) (begins : KeepsNamed w.before w.mid) where
-  ends_in : (after : Cat) (answer : Option ℕ) → after.pending ≡ None → KeepsNamed w.before after → EndsIn plugin w old new result server after answer
-      → Remembers w.before w.from old.main new.main
-  ends_in after answer then_none keeps so told settled t main d late left stands = by (so.leaves told settled t main late left)
+-- a plan was carried out, or how far that came
+module _ (w : Writing) (old new : DiskState) (none : w.before.pending ≡ None) (mid_none : w.mid.pending ≡ None) (begins : KeepsNamed w.before w.mid) where
+  pub one_remembers : (after : Cat) → after.pending ≡ None → KeepsNamed w.before after → (IsTrue old.tells → IsSettled old → Leaves w.from (StandsOne w.before w.mid after) new)
+      → Remembers w.before w.from old new
+  one_remembers after then_none keeps leaves told settled t main d late left stands = by (leaves told settled t main late left)
     where
       by : StandsOne w.before w.mid after main → NamesCall d.pending × KeepsNamed w.before d
       by (inl (inl was)) = named_by main w.before w.before d none (keeps_self w.before) was stands
       by (inl (inr mid)) = named_by main w.before w.mid d mid_none begins mid stands
       by (inr now) = named_by main w.before after d then_none keeps now stands
 
+-- one that writes files
+module _ {B : Type 0} (plugin : B → StoreState) (w : Writing) (old new : Kept B) (result : Result (Option ℕ) Ending) (server : Server)
+    (none : w.before.pending ≡ None) (mid_none : w.mid.pending ≡ None) (begins : KeepsNamed w.before w.mid) where
   pub written_remembers : w.end.pending ≡ None → KeepsNamed w.mid w.end → IsWritten plugin w old new result server → Remembers w.before w.from old.main new.main
-  written_remembers end_none ends (inl so) = ends_in w.end None end_none (λ slot name is. ends slot name (begins slot name is)) so
-  written_remembers end_none ends (inr failed) = ends_in (named w.number w.mid) (Some failed.slot) mid_none (keeps_numbered w.number w.before w.mid begins) failed.ends
+  written_remembers end_none ends (inl so) = one_remembers w old.main new.main none mid_none begins w.end end_none (λ slot name is. ends slot name (begins slot name is)) so.leaves
+  written_remembers end_none ends (inr failed) = one_remembers w old.main new.main none mid_none begins (named w.number w.mid) mid_none (keeps_numbered w.number w.before w.mid begins) failed.ends.leaves
 
 -- numbers of vault files do not run out in it
 pub written_logs : {B : Type 0} (plugin : B → StoreState) (w : Writing) (old new : Kept B) (e : Ending) (server : Server) → IsWritten plugin w old new (Err e) server → (place : ℕ) → (let r : Result ⊤ Ending = Err e in r ≡ Err (Worn Vaults place)) → ⊥
-written_logs plugin w old new e server so place is = by so
-  where
-    vaults_end : (after : Cat) (answer : Option ℕ) → WriteEnds after answer old.main new.main (Err e) server → ⊥
-    vaults_end after answer ends =
-        let same : e ≡ Worn Vaults place = cc in
-        let E : Ending → Type 0 = λ x. WriteEnds after answer old.main new.main (Err x) server in
-        let at : Vaults ≡ Log = (subst E same ends).0 in
-        absurd cc
-
-    by : IsWritten plugin w old new (Err e) server → ⊥
-    by (inl done) = vaults_end w.end None done.ends
-    by (inr failed) = vaults_end (named w.number w.mid) (Some failed.slot) failed.ends.ends
+written_logs plugin w old new e server (inl done) place is = ends_logs {T = Option ℕ} w.end None old.main new.main e server done.ends place is
+written_logs plugin w old new e server (inr failed) place is = ends_logs {T = Option ℕ} (named w.number w.mid) (Some failed.slot) old.main new.main e server failed.ends.ends place is
 
 -- a source of which nothing is known
 abbrev pub no_source : SourceState

@@ -1,7 +1,8 @@
--- The file that a get reads, where the stores are whole.
+-- A file that is read, where the stores are whole.
 use Rattle.std.proofs.Common.{◌≡◌, ◌⊎◌, inl, inr, Bool, true, false, slice_get, ℕ, ◌+◌, ◌*◌, ◌≤◌, IsTrue, List, [], ◌++◌, length, take, drop, min, Some, refl, sym, ap, ◌∙◌, subst, arith, take-append-drop}
 use Rattle.std.specs.Prelude.{◌==◌}
 use Rattle.std.specs.Bool.{Decides}
+use Rattle.std.specs.List.{Contains}
 use Rattle.std.specs.Str.{bytes_eq}
 use Rattle.std.proofs.lemmas.Bool.{cases_lt}
 use Rattle.std.proofs.lemmas.Bool.Decides.{Decides-eqb}
@@ -12,7 +13,7 @@ use Rattle.grid_outside.specs.Files.{File, Files, StoreState, file_at, finished}
 use Rattle.grid_outside.specs.Sink.{SinkState}
 use Rattle.grid_outside.proofs.Spans.{same_place}
 use Rattle.grid_model.specs.Names.{Text, Path}
-use Rattle.grid_model.specs.Rows.{Cat}
+use Rattle.grid_model.specs.Rows.{Cat, object}
 use Rattle.grid_model.specs.Whole.{leaf_slot, HasGoodRows, IsLikeObject, IsFinishedAs, IsWhole}
 use Rattle.grid_model.specs.DataLines.{data_lines}
 use Rattle.grid_model.specs.Limits.{part_size}
@@ -27,7 +28,7 @@ use Rattle.file_laws.proofs.Members.{in_of}
 use Rattle.tables_laws.proofs.Rows.{in_from_all}
 use Rattle.grid_headline.specs.Worlds.{World}
 use Rattle.grid_headline.specs.Files.{IsKnown}
-use Rattle.plan_object.specs.Sending.{Sends}
+use Rattle.plan_object.specs.Sending.{Sends, ReadsFirst}
 
 -- The file is finished, and has the bytes that are recorded.
 pub record SentFile (file : OldFile) (files : Files) : Type 0 where
@@ -35,17 +36,56 @@ pub record SentFile (file : OldFile) (files : Files) : Type 0 where
   pub is : file_at files file.name ≡ finished text
   pub as_recorded : IsAsRecorded file text
 
+-- The file is that of a good replica of the rows, and what is recorded of it is what they say where they are good.
+pub record IsNamedFile (c : Cat) (file : OldFile) : Type 0 where
+  pub row : ReplicaRow
+  pub there : Contains c.replicas row
+  pub good : IsTrue row.good
+  pub vault_is : row.vault ≡ file.name
+  pub slot_is : leaf_slot c row.leaf ≡ Some file.slot
+  pub like : HasGoodRows c → (row.size ≡ file.size) × (row.digest ≡ file.digest)
+
+-- where its object has this row
+like_object : (c : Cat) (row : ReplicaRow) (o : ObjectRow) → Contains c.replicas row → IsTrue row.good → object c row.object ≡ Some o → HasGoodRows c → (row.size ≡ o.size) × (row.digest ≡ o.digest)
+like_object c row o there good of_object rows =
+    let like = in_from_all (λ (r : ReplicaRow). IsTrue r.good → IsLikeObject c r) c.replicas rows row (in_of c.replicas row there) good in
+    let both : Some like.row ≡ Some o = sym like.there ∙ of_object in
+    let same : like.row ≡ o = cc in
+    (like.size ∙ ap (λ (r : ObjectRow). r.size) same, like.digest ∙ ap (λ (r : ObjectRow). r.digest) same)
+
+-- the file that a get sends
+pub sent_named : (c : Cat) (user : Text) (p : Path) (asked : _) (file : OldFile) → Sends c user p asked file → IsNamedFile c file
+sent_named c user p asked file s = record {
+  row = s.row;
+  there = s.there;
+  good = s.good;
+  vault_is = s.vault_is;
+  slot_is = s.slot_is;
+  like = λ rows.
+      let of_it = like_object c s.row s.object_row s.there s.good s.of_object rows in
+      (of_it.0 ∙ sym s.size_row, of_it.1 ∙ sym s.digest_row);
+}
+
+-- the first one that can be read of an object
+pub first_named : (c : Cat) (o : ObjectRow) (asked : _) (file : OldFile) → object c o.id ≡ Some o → ReadsFirst c o asked file → IsNamedFile c file
+first_named c o asked file found s = record {
+  row = s.row;
+  there = s.there;
+  good = s.good;
+  vault_is = s.vault_is;
+  slot_is = s.slot_is;
+  like = λ rows.
+      let of_it = like_object c s.row o s.there s.good (ap (object c) s.of_object ∙ found) rows in
+      (of_it.0 ∙ sym s.size, of_it.1 ∙ sym s.digest);
+}
+
 -- where the rows are good and the store is whole
-pub sent_file : (c : Cat) (user : Text) (p : Path) (asked : _) (file : OldFile) (files : Files) → Sends c user p asked file → HasGoodRows c → IsWhole c file.slot files → SentFile file files
-sent_file c user p asked file files s rows whole =
+sent_file : (c : Cat) (file : OldFile) (files : Files) → IsNamedFile c file → HasGoodRows c → IsWhole c file.slot files → SentFile file files
+sent_file c file files s rows whole =
     let here = in_of c.replicas s.row s.there in
-    let like = in_from_all (λ (r : ReplicaRow). IsTrue r.good → IsLikeObject c r) c.replicas rows s.row here s.good in
     let held = in_from_all (λ (r : ReplicaRow). IsTrue r.good → leaf_slot c r.leaf ≡ Some file.slot → IsFinishedAs r.size r.digest (file_at files r.vault)) c.replicas whole.good s.row here s.good s.slot_is in
-    let both : Some like.row ≡ Some s.object_row = sym like.there ∙ s.of_object in
-    let same : like.row ≡ s.object_row = cc in
-    let size : length held.bytes ≡ file.size = held.has.size ∙ like.size ∙ ap (λ (r : ObjectRow). r.size) same ∙ sym s.size_row in
-    let digest : sha256 held.bytes ≡ file.digest = held.has.digest ∙ like.digest ∙ ap (λ (r : ObjectRow). r.digest) same ∙ sym s.digest_row in
-    record { text = held.bytes; is = ap (file_at files) (sym s.vault_is) ∙ held.is; as_recorded = record { size = size; digest = digest } }
+    let of_it = s.like rows in
+    record { text = held.bytes; is = ap (file_at files) (sym s.vault_is) ∙ held.is; as_recorded = record { size = held.has.size ∙ of_it.0; digest = held.has.digest ∙ of_it.1 } }
 
 module _ (file : OldFile) (files : Files) (f : SentFile file files) where
   -- the file that is there has its bytes
@@ -115,11 +155,11 @@ sent_or_not file files sent b = by_finished b.file.finished refl
     by_finished false begun = inr (λ f. (let done : b.file.finished ≡ true = finished_of f in cc))
 
 -- of a known slot
-pub known_text : {B : Type 0} (w : World B) (c : Cat) (user : Text) (p : Path) (asked : _) (file : OldFile) → Sends c user p asked file → (b : B) → slice_get w.stores file.slot ≡ Some b → (w.plugin b).last ≤ w.moments
+pub known_text : {B : Type 0} (w : World B) (c : Cat) (file : OldFile) → IsNamedFile c file → (b : B) → slice_get w.stores file.slot ≡ Some b → (w.plugin b).last ≤ w.moments
     → IsKnown w c file.slot → SentFile file (w.plugin b).holds × IsTrue (w.plugin b).tells
-known_text w c user p asked file sends b at last k =
+known_text w c file named b at last k =
     let same : b ≡ k.there.store = same_place w.stores file.slot k.there.store b k.there.is at in
     let T : _ → Type 0 = λ x. IsTrue (w.plugin x).tells in
     let told : IsTrue (w.plugin b).tells = subst T (sym same) k.there.tells in
     let whole = k.whole (w.moments + 1) (omega arith) in
-    (sent_file c user p asked file (w.plugin b).holds sends whole.rows (whole.files file.slot (w.plugin b).holds (record { store = b; is = at; tells = told; of_store = (w.plugin b).now told (w.moments + 1) (omega (arith, last)) })), told)
+    (sent_file c file (w.plugin b).holds named whole.rows (whole.files file.slot (w.plugin b).holds (record { store = b; is = at; tells = told; of_store = (w.plugin b).now told (w.moments + 1) (omega (arith, last)) })), told)

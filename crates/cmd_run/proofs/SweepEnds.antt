@@ -39,7 +39,7 @@ use Rattle.cmd_run.specs.Fits.{state_by, state_of, FitsMain, AreUsers}
 use Rattle.cmd_run.specs.Obeys.{Obeys, SaysOnly, NamesItsCall, handled}
 use Rattle.cmd_run.specs.Sweeping.{ForgetEnds, ForgetsOrphans}
 use Rattle.cmd_run.proofs.GotLemmas.{caused_none}
-use Rattle.cmd_run.proofs.PutEnds.{state_behind}
+use Rattle.cmd_run.proofs.DeedEnds.{state_behind}
 use Rattle.cmd_run.proofs.Resting.{like_self, gave_same, none_of}
 use Rattle.cmd_run.proofs.SayLemmas.{put_left}
 use Rattle.cmd_run.proofs.SweepLemmas.{gone_like}

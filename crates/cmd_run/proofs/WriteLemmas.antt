@@ -1,6 +1,6 @@
 -- The carrying out of a plan that writes files.
 use Rattle.std.proofs.Common.{◌≡◌, ◌⊎◌, inl, inr, ℕ, ◌<◌, ◌≤◌, [], Some, None, Ok, Err, IsTrue, refl, sym, subst}
-use Rattle.std.specs.Prelude.{Result, ⊤}
+use Rattle.std.specs.Prelude.{Option, Result, ⊤}
 use Rattle.std.proofs.lemmas.Bool.{cases_lt}
 use Rattle.grid_outside.specs.Device.{IsSettled, Leaves}
 use Rattle.grid_outside.specs.Disk.{DiskState}
@@ -25,7 +25,47 @@ use Rattle.cmd_run.specs.Writes.{Kept, Writing, WriteEnds, IsWritten}
 
 -- no change at all
 pub no_change : (c : Cat) → IsChange c [] c
-no_change c = record { applied = refl; spelled = refl; turns = turns_self [] [] c; numbers = refl; pending = refl; still = inl refl }
+no_change c = record { applied = refl; spelled = refl; turns = turns_self [] [] c; numbers = refl; pending = refl }
+
+-- a commit behind what was done
+pub kept_then : (before mid after : Cat) (from to : ℕ) (main_old main_mid main_new : DiskState) → (IsTrue main_old.tells → IsSettled main_old → Leaves from (StandsEither before mid) main_mid) → (IsTrue main_old.tells → IsSettled main_mid) → main_mid.tells ≡ main_old.tells → Goes to main_mid main_new
+    → (IsTrue main_mid.tells → IsSettled main_mid → Leaves to (StandsEither mid after) main_new) → IsTrue main_old.tells → IsSettled main_old → Leaves from (StandsOne before mid after) main_new
+kept_then before mid after from to main_old main_mid main_new first settled_mid tells goes then told settled t image late left = by (cases_lt to t)
+  where
+    either : StandsEither mid after image → StandsOne before mid after image
+    either (inl a) = inl (inr a)
+    either (inr b) = inr b
+
+    by : (to < t) ⊎ (t ≤ to) → StandsOne before mid after image
+    by (inl now) = either (then (subst IsTrue (sym tells) told) (settled_mid told) t image now left)
+    by (inr soon) = inl (first told settled t image late (goes.earlier t image soon left))
+
+-- how a commit ended is how the request did
+pub ends_err : {T B : Type 0} (plugin : B → StoreState) (w : Writing) (old mid_devices : Kept B) (store : Journal) (fin : Cat) (answer : T) (e : JournalError) (new_server : Server) → DeedEnds plugin old.stores mid_devices.stores w.before w.mid w.end w.files old.main mid_devices.main (Err e) store
+    → WriteEnds fin answer old.main mid_devices.main (Err (ending_of e)) new_server
+ends_err plugin w old mid_devices store fin answer journal.Memory new_server ends = tt
+ends_err plugin w old mid_devices store fin answer journal.DiskFault new_server ends = tt
+ends_err plugin w old mid_devices store fin answer (journal.Worn what place) new_server ends = (ends.0, ends.1, λ told. (ends.2 told).0)
+ends_err plugin w old mid_devices store fin answer (journal.NotEmpty side len) new_server ends = absurd ends
+ends_err plugin w old mid_devices store fin answer (journal.NotACatalogue side place) new_server ends = absurd ends
+
+pub one_of : (before mid end : Cat) (e : JournalError) (main : Text) → DeedLeaves before mid end (Err e) main → StandsOne before mid end main
+one_of before mid end journal.Memory main either = inl either
+one_of before mid end journal.DiskFault main one = one
+one_of before mid end (journal.Worn what place) main either = inl either
+one_of before mid end (journal.NotEmpty side len) main either = inl either
+one_of before mid end (journal.NotACatalogue side place) main either = inl either
+
+-- how the keeping ended
+pub ends_kept : {T : Type 0} (kept after : Cat) (answer : T) (main_old main_mid main_new : DiskState) → main_mid.tells ≡ main_old.tells → (e : Ending) (server : Server) → KeepEnds kept after main_mid main_new (Err e) server → WriteEnds after answer main_old main_new (Err e) server
+ends_kept kept after answer main_old main_mid main_new tells Disk server ends = tt
+ends_kept kept after answer main_old main_mid main_new tells Memory server ends = tt
+ends_kept kept after answer main_old main_mid main_new tells (Worn what place) server ends = (ends.0, ends.1, λ told. ends.2 (subst IsTrue (sym tells) told))
+ends_kept kept after answer main_old main_mid main_new tells Sink server ends = absurd ends
+
+-- what is kept since the devices were asked first
+pub kept_since : (after : Cat) (main_old main_mid main_new : DiskState) (store : Journal) → main_mid.tells ≡ main_old.tells → IsKept after main_mid main_new store → IsKept after main_old main_new store
+kept_since after main_old main_mid main_new store tells k = record { held = k.held; cat = k.cat; staged = k.staged; settled = λ told. k.settled (subst IsTrue (sym tells) told) }
 
 module _ {B : Type 0} (plugin : B → StoreState) (w : Writing) (old mid_devices : Kept B) (store : Journal) where
   -- all was written and kept
@@ -36,28 +76,13 @@ module _ {B : Type 0} (plugin : B → StoreState) (w : Writing) (old mid_devices
     leaves = done.leaves;
   })
 
-  ends_err : (e : JournalError) (new_server : Server) → DeedEnds plugin old.stores mid_devices.stores w.before w.mid w.end w.files old.main mid_devices.main (Err e) store
-      → WriteEnds w.end None old.main mid_devices.main (Err (ending_of e)) new_server
-  ends_err journal.Memory new_server ends = tt
-  ends_err journal.DiskFault new_server ends = tt
-  ends_err (journal.Worn what place) new_server ends = (ends.0, ends.1, λ told. (ends.2 told).0)
-  ends_err (journal.NotEmpty side len) new_server ends = absurd ends
-  ends_err (journal.NotACatalogue side place) new_server ends = absurd ends
-
-  one_of : (e : JournalError) (main : Text) → DeedLeaves w.before w.mid w.end (Err e) main → StandsOne w.before w.mid w.end main
-  one_of journal.Memory main either = inl either
-  one_of journal.DiskFault main one = one
-  one_of (journal.Worn what place) main either = inl either
-  one_of (journal.NotEmpty side len) main either = inl either
-  one_of (journal.NotACatalogue side place) main either = inl either
-
   pub wrote_err : (e : JournalError) (ending : Ending) (new_server : Server) → ending ≡ ending_of e → IsDone plugin w.before w.mid w.end w.files w.from old.main mid_devices.main old.stores mid_devices.stores (Err e) store
       → IsWritten plugin w old mid_devices (Err ending) new_server
   wrote_err e ending new_server is done =
       let R : Ending → Type 0 = λ x. IsWritten plugin w old mid_devices (Err x) new_server in
       subst R (sym is) (inl (record {
-        ends = ends_err e new_server done.ends;
-        leaves = λ told settled t image late left. one_of e image (done.leaves told settled t image late left);
+        ends = ends_err {T = Option ℕ} plugin w old mid_devices store w.end None e new_server done.ends;
+        leaves = λ told settled t image late left. one_of w.before w.mid w.end e image (done.leaves told settled t image late left);
       }))
 
   pub of_deed : (e : JournalError) → DeedEnds plugin old.stores mid_devices.stores w.before w.mid w.end w.files old.main mid_devices.main (Err e) store → IsOfCommit e
@@ -74,15 +99,7 @@ module _ {B : Type 0} (plugin : B → StoreState) (w : Writing) (old mid_devices
 
     leaves : (result : Result ⊤ Ending) (server : Server) → IsKeptSo w.mid (named w.number w.mid) to mid_devices.main main_new result server
         → IsTrue old.main.tells → IsSettled old.main → Leaves w.from (StandsOne w.before w.mid (named w.number w.mid)) main_new
-    leaves result server k told settled t image late left = by (cases_lt to t)
-      where
-        either : StandsEither w.mid (named w.number w.mid) image → StandsOne w.before w.mid (named w.number w.mid) image
-        either (inl a) = inl (inr a)
-        either (inr b) = inr b
-
-        by : (to < t) ⊎ (t ≤ to) → StandsOne w.before w.mid (named w.number w.mid) image
-        by (inl now) = either (k.leaves (subst IsTrue (sym tells) told) (done.ends.2.settled told) t image now left)
-        by (inr before) = inl (done.leaves told settled t image late (goes.earlier t image before left))
+    leaves result server k = kept_then w.before w.mid (named w.number w.mid) w.from to old.main mid_devices.main main_new done.leaves done.ends.2.settled tells goes k.leaves
 
     pub failed_kept : (server : Server) → IsKeptSo w.mid (named w.number w.mid) to mid_devices.main main_new (Ok tt) server → IsWritten plugin w old new (Ok (Some fault.slot)) server
     failed_kept server k = inr (record {
@@ -90,21 +107,15 @@ module _ {B : Type 0} (plugin : B → StoreState) (w : Writing) (old mid_devices
       among = done.ends.0;
       rose = done.ends.1;
       ends = record {
-        ends = (refl, record { held = k.ends.held; cat = k.ends.cat; staged = k.ends.staged; settled = λ told. k.ends.settled (subst IsTrue (sym tells) told) });
+        ends = (refl, kept_since (named w.number w.mid) old.main mid_devices.main main_new server.store tells k.ends);
         leaves = leaves (Ok tt) server k;
       };
     })
-
-    ends_failed : (e : Ending) (server : Server) → KeepEnds w.mid (named w.number w.mid) mid_devices.main main_new (Err e) server → WriteEnds (named w.number w.mid) (Some fault.slot) old.main main_new (Err e) server
-    ends_failed Disk server ends = tt
-    ends_failed Memory server ends = tt
-    ends_failed (Worn what place) server ends = (ends.0, ends.1, λ told. ends.2 (subst IsTrue (sym tells) told))
-    ends_failed Sink server ends = absurd ends
 
     pub failed_err : (e : Ending) (server : Server) → IsKeptSo w.mid (named w.number w.mid) to mid_devices.main main_new (Err e) server → IsWritten plugin w old new (Err e) server
     failed_err e server k = inr (record {
       slot = fault.slot;
       among = done.ends.0;
       rose = done.ends.1;
-      ends = record { ends = ends_failed e server k.ends; leaves = leaves (Err e) server k };
+      ends = record { ends = ends_kept w.mid (named w.number w.mid) (Some fault.slot) old.main mid_devices.main main_new tells e server k.ends; leaves = leaves (Err e) server k };
     })

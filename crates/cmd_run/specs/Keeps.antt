@@ -34,11 +34,14 @@ pub record IsKeptSo (kept after : Cat) (from : ℕ) (main_old main_new : DiskSta
   pub leaves : IsTrue main_old.tells → IsSettled main_old → Leaves from (StandsEither kept after) main_new
 
 -- The changes lead from the one catalogue to the other, may be kept, and name the same files; they change no number and no pending
--- command. They make another grid of it, or there are none.
+-- command.
 pub record IsChange (c : Cat) (deltas : List Delta) (after : Cat) : Type 0 where
   pub applied : apply_all c deltas ≡ Ok after
   pub spelled : IsTrue (list_all can_be_kept deltas)
   pub turns : Turns [] [] c after
   pub numbers : after.numbers ≡ c.numbers
   pub pending : after.pending ≡ c.pending
-  pub still : (deltas ≡ []) ⊎ (grid_of after ≢ grid_of c)
+
+-- they make another grid of it, or there are none
+abbrev pub ChangesOrNone : Cat → List Delta → Cat → Type 0
+ChangesOrNone c deltas after = (deltas ≡ []) ⊎ (grid_of after ≢ grid_of c)

@@ -1,6 +1,7 @@
 pub mod Around
 pub mod Answers
 pub mod Asking
+pub mod Copies
 pub mod Errors
 pub mod Fits
 pub mod Gets
@@ -10,5 +11,6 @@ pub mod Obeys
 pub mod Operating
 pub mod Passes
 pub mod Puts
+pub mod Sums
 pub mod Sweeping
 pub mod Writes

@@ -32,15 +32,20 @@ operation_of p = put p.path p.resource p.mode p.body
 abbrev pub wanted : Putting → Wanted
 wanted p = record { path = p.path; resource = p.resource; mode = p.mode; size = length p.body }
 
--- The request is this put by a session that is logged in, for which the line promised no more bytes than there may be.
-pub record AsksToPut (s : Server) (p : Putting) (request : Request) : Type 0 where
+-- The request is this operation of the user with this id, in a session that is logged in, and its line promised no more bytes than there
+-- may be.
+pub record AsksToDo (s : Server) (id : ℕ) (op : Operation) (request : Request) : Type 0 where
   pub session : ℕ
   pub count : ℕ
-  pub is : request ≡ Ok (session, works (operation_of p) count)
+  pub is : request ≡ Ok (session, works op count)
   pub of : Session
   pub logged_in : get (state_of s).sessions session ≡ Some of
-  pub user : of.user ≡ user_name s.store.cat p.user
+  pub user : of.user ≡ user_name s.store.cat id
   pub small : nat_le count object_size ≡ true
+
+-- the request is this put
+abbrev pub AsksToPut : Server → Putting → Request → Type 0
+AsksToPut s p request = AsksToDo s p.user (operation_of p) request
 
 -- The plan is that of the put for this word at this time: nothing is seen of its first changes, and behind its last ones the rows
 -- stand for the grid once the deed ran, as the command of this number left them.

@@ -31,7 +31,7 @@ pub record Writing : Type 0 where
   pub from : ℕ
 
 -- how it ended whose last commit leads to this catalogue
-abbrev pub WriteEnds : Cat → Option ℕ → DiskState → DiskState → Result (Option ℕ) Ending → Server → Type 0
+abbrev pub WriteEnds : {T : Type 0} → Cat → T → DiskState → DiskState → Result T Ending → Server → Type 0
 WriteEnds after answer main_old main_new (Ok given) new = (given ≡ answer) × IsKept after main_old main_new new.store
 WriteEnds after answer main_old main_new (Err Disk) new = Unit {0}
 WriteEnds after answer main_old main_new (Err Memory) new = Unit {0}

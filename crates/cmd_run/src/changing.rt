@@ -4,7 +4,7 @@ ghost use Rattle.grid_model.specs.Rows.{Cat};
 ghost use Rattle.grid_model.specs.Runs.{Request};
 ghost use Rattle.grid_deed.specs.Safe.{KeepWhole};
 ghost use Rattle.cmd_run.specs.Around.{around};
-ghost use Rattle.cmd_run.specs.Keeps.{IsChange};
+ghost use Rattle.cmd_run.specs.Keeps.{ChangesOrNone, IsChange};
 ghost use Rattle.cmd_run.specs.Passes.{AreReady, CallsPass};
 
 use crate::answers::{end_text, put_text, well};
@@ -31,7 +31,7 @@ impl Server {
         requires change { (after : Cat) × IsChange self.old.store.cat deltas after }
         requires ready { AreReady D.disk P.plugin K.sink 5 (record { outside = outside.old; sink = sink.old }) }
         ensures obeys { (source : SourceState) (request : Request) (after : Cat) → IsChange self.old.store.cat deltas after →
-            ChangesGrid (state_of self.old) self.old.store.cat request after →
+            ChangesOrNone self.old.store.cat deltas after → ChangesGrid (state_of self.old) self.old.store.cat request after →
             Obeys (around D.disk A.ambient P.plugin outside.old (K.sink sink.old) source)
             (around D.disk A.ambient P.plugin outside.new (K.sink sink.new) source)
             self.old number request result self.new }

@@ -4,6 +4,7 @@
 mod answers;
 mod asking;
 mod changing;
+mod copying;
 mod getting;
 mod keeping;
 mod listing;
@@ -11,8 +12,10 @@ mod logins;
 mod obeying;
 mod operations;
 mod putting;
+mod replicating;
 mod saying;
 mod server;
+mod summing;
 mod sweeping;
 mod tagging;
 mod working;

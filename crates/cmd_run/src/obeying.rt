@@ -85,6 +85,10 @@ impl Server {
                 };
                 self.put_line(alloc, outside, sink, number, session, line)
             }
+            Verb::Repl { path, resource } => {
+                self.repl(alloc, outside, sink, number, session, &path, &resource)
+            }
+            Verb::ChkSum { path } => { self.chksum(alloc, outside, sink, number, session, &path) }
             Verb::Sweep => self.sweep(alloc, outside, sink, number, session),
             Verb::AddMeta {
                 item,

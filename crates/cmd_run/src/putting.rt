@@ -24,7 +24,7 @@ use plan_object::{plan_put, put_targets};
 use std::alloc::{AllocError, Global};
 
 /// The greatest number that the next vault file may have where files are to be made, which is this project's own.
-const LAST_VAULT: u64 = 18_446_744_065_119_617_024;
+pub(crate) const LAST_VAULT: u64 = 18_446_744_065_119_617_024;
 
 /// More files than a plan makes: a list of so many does not fit into memory.
 const FEW: usize = 4_294_967_296;
@@ -203,8 +203,8 @@ impl Server {
     }
 }
 
-// The plan with these numbers and that of its command behind its last changes. Fails for want of memory alone.
-fn with_number(plan: Plan, numbers: Numbers, number: u64) -> Result<Plan, AllocError>
+/// The plan with these numbers and that of its command behind its last changes. Fails for want of memory alone.
+pub(crate) fn with_number(plan: Plan, numbers: Numbers, number: u64) -> Result<Plan, AllocError>
     requires { numbers.next_vault + length plan.files < 2 ^ 64 }
     ensures { let last = record numbers { next_vault = numbers.next_vault + length plan.files; last = number } in
         IfOk result (λ named. IsNamedPlan plan last named) }
@@ -224,8 +224,8 @@ fn with_number(plan: Plan, numbers: Numbers, number: u64) -> Result<Plan, AllocE
     })
 }
 
-// The reply to a body that was put.
-fn ran_text(alloc: Global, number: u64, word: u64, now: u64) -> Result<Text, AllocError>
+/// The reply to a deed that ran. Fails for want of memory alone.
+pub(crate) fn ran_text(alloc: Global, number: u64, word: u64, now: u64) -> Result<Text, AllocError>
     ensures { IfOk result (λ text. text ≡ mark_line number (Mark.Ran word now []) ++ end_line number well) }
 {
     let mark = Mark::Ran {
@@ -236,8 +236,8 @@ fn ran_text(alloc: Global, number: u64, word: u64, now: u64) -> Result<Text, All
     mark_and_end(alloc, number, &mark, well(alloc))
 }
 
-// The reply where a call of this slot failed.
-fn failed_text(alloc: Global, number: u64, slot: u8) -> Result<Text, AllocError>
+/// The reply where a call of this slot failed. Fails for want of memory alone.
+pub(crate) fn failed_text(alloc: Global, number: u64, slot: u8) -> Result<Text, AllocError>
     ensures { IfOk result (λ text. text ≡ mark_line number (Mark.Fault slot 0) ++ end_line number (End.Refused (Refusal.Fault slot))) }
 {
     mark_and_end(

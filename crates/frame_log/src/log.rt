@@ -68,7 +68,8 @@ impl FrameLog {
         ensures last { (D.disk disk.new).last ≤ moments.new }
 
         ensures cause { IsErrOf result LogError.DiskFault → Rose (D.disk disk.old).faults (D.disk disk.new).faults }
-        ensures unchanged { (e : LogError) → IsErrOf result e → e ≢ LogError.DiskFault → (e ≡ LogError.Memory) × (disk.new ≡ disk.old) × (moments.new ≡ moments.old) }
+        ensures unchanged { (error : LogError) → IsErrOf result error → error ≢ LogError.DiskFault
+            → (error ≡ LogError.Memory) × (disk.new ≡ disk.old) × (moments.new ≡ moments.old) }
         ensures drawn_from { moments.old ≤ moments.new }
         ensures drawn { moments.new ≤ moments.old + 2 }
     {
@@ -147,7 +148,8 @@ impl FrameLog {
         ensures settled { OnOk result (IsTrue (D.disk disk.old).tells → IsSettled (D.disk disk.new)) }
 
         // At each moment of the call, failed or not, every image reads as the old records, or with the new one.
-        ensures any_moment { IsTrue (D.disk disk.old).tells → IsSettled (D.disk disk.old) → (records : List (List ℕ)) → IsLogOf self.old records (D.disk disk.old).holds →
+        ensures any_moment { IsTrue (D.disk disk.old).tells → IsSettled (D.disk disk.old) → (records : List (List ℕ))
+            → IsLogOf self.old records (D.disk disk.old).holds →
             Leaves moments.old (IsOldOrNew self.old.base records body.now (D.disk disk.old).holds) (D.disk disk.new) }
         ensures afterwards { IsTrue (D.disk disk.old).tells → (records : List (List ℕ)) → IsLogOf self.old records (D.disk disk.old).holds →
             IsOldOrNew self.old.base records body.now (D.disk disk.old).holds (D.disk disk.new).holds }

@@ -18,7 +18,8 @@ pub fn level(tables: &Tables, user: u32, item: Item) -> Level
     requires user { IsTrue (has_user tables.now user) }
     requires gives { IsTrue (gives_access (kind_of item)) }
     requires there { IsTrue (item_there tables.now (kind_of item) (id_of item)) }
-    ensures { result ≡ level_at (grid_of tables.now) (user_name tables.now user) (item_place tables.now (collection_path tables.now) (kind_of item) (id_of item)) }
+    ensures { let place = item_place tables.now (collection_path tables.now) (kind_of item) (id_of item) in
+        result ≡ level_at (grid_of tables.now) (user_name tables.now user) place }
 {
     if is_admin(tables, user) {
         return Level::Own;
@@ -32,7 +33,8 @@ pub fn may(tables: &Tables, user: u32, item: Item, wanted: Level) -> bool
     requires user { IsTrue (has_user tables.now user) }
     requires gives { IsTrue (gives_access (kind_of item)) }
     requires there { IsTrue (item_there tables.now (kind_of item) (id_of item)) }
-    ensures { result ≡ may (grid_of tables.now) (user_name tables.now user) (item_place tables.now (collection_path tables.now) (kind_of item) (id_of item)) wanted }
+    ensures { let place = item_place tables.now (collection_path tables.now) (kind_of item) (id_of item) in
+        result ≡ may (grid_of tables.now) (user_name tables.now user) place wanted }
 {
     contains(level(tables, user, item), wanted)
 }

@@ -1,7 +1,7 @@
 -- What the carrying out of a plan leaves whose files are copied from another.
 use Rattle.std.proofs.Common.{◌≡◌, inl, inr, ℕ, List, [], None, Result, Ok, Err, IsTrue, refl, sym, subst}
-use Rattle.std.specs.Prelude.{⊤, ◌≢◌, ◌≤◌, All}
-use Rattle.grid_outside.specs.Device.{EachMember}
+use Rattle.std.specs.Prelude.{⊤, ◌≢◌, ◌⊎◌, ◌≤◌, All}
+use Rattle.grid_outside.specs.Device.{EachMember, IsSettled, Leaves}
 use Rattle.grid_outside.specs.Disk.{DiskState}
 use Rattle.grid_outside.specs.Files.{StoreState}
 use Rattle.grid_outside.specs.declared.outside.Outside.{Outside}
@@ -11,6 +11,7 @@ use Rattle.grid_model.specs.declared.plans.NewFile.{NewFile}
 use Rattle.grid_model.specs.declared.plans.OldFile.{OldFile}
 use Rattle.grid_model.specs.declared.plans.Plan.{Plan}
 use Rattle.grid_journal.specs.Journal.{Journal}
+use Rattle.grid_journal.specs.Stands.{StandsEither}
 use Rattle.grid_journal.specs.declared.error.JournalError.{JournalError}
 use Rattle.grid_journal.specs.declared.error.JournalError.TheVariants as journal
 use Rattle.grid_vault.specs.Copying.{CopiesOnly}
@@ -50,24 +51,38 @@ module _ {B : Type 0} (plugin : B → StoreState) {kept cat : Cat} {stores : ℕ
   copies_made (inr copies) = (copies.bytes, p.ends copies.bytes (λ some. copies.says), copies.stable refl)
 
 module _ {D A P : Type 0} (disk : D → DiskState) (plugin : P → StoreState) {kept cat : Cat} {stores : ℕ} {plan : Plan} {from : OldFile} (p : IsCopyPlan kept cat stores plan from) (o n : Outside D A P) where
+  -- what the first commit leaves where it failed
+  pub either_left : (e : JournalError) (old s : Journal) → IsCommitted kept p.mid o.moments old (disk o.main) (disk n.main) (Err e) s → IsTrue (disk o.main).tells → IsSettled (disk o.main) → Leaves o.moments (StandsEither kept p.mid) (disk n.main)
+  either_left journal.Memory old s c told settled t image late left = inl (c.leaves told settled t image late left)
+  either_left journal.DiskFault old s c told settled t image late left = c.leaves told settled t image late left
+  either_left (journal.Worn what place) old s c told settled t image late left = inl (c.leaves told settled t image late left)
+  either_left (journal.NotEmpty side len) old s c told settled t image late left = c.leaves told settled t image late left
+  either_left (journal.NotACatalogue side place) old s c told settled t image late left = c.leaves told settled t image late left
+
+  -- the last changes were not asked for, or they are in order for some body
+  abbrev IsTurned : Type 0
+  IsTurned = (IsTrue (disk o.main).tells → IsSettled (disk o.main) → Leaves o.moments (StandsEither kept p.mid) (disk n.main)) ⊎ ((body : Text) × Turns plan.files body p.mid p.end)
+
   -- a commit failed
-  pub copy_failed : (e : JournalError) (s : Journal) → IsDone plugin kept p.mid p.end plan.files o.moments (disk o.main) (disk n.main) o.stores.items n.stores.items (Err e) s → IsCopied disk plugin p o n (Err e) s
-  copy_failed e s d = record { ends = d.ends; says = tt; leaves = d.leaves }
+  pub copy_failed : (e : JournalError) (s : Journal) → IsDone plugin kept p.mid p.end plan.files o.moments (disk o.main) (disk n.main) o.stores.items n.stores.items (Err e) s → IsTurned → IsCopied disk plugin p o n (Err e) s
+  copy_failed e s d turned = record { ends = d.ends; says = tt; leaves = d.leaves; turned = turned }
 
   -- the files were made, and the last changes kept
   pub copy_done : (s : Journal) → IsDone plugin kept p.mid p.end plan.files o.moments (disk o.main) (disk n.main) o.stores.items n.stores.items (Ok None) s → CopySays plugin plan.files from o.stores.items n.stores.items Done → IsCopied disk plugin p o n (Ok Done) s
-  copy_done s d says = record { ends = d.ends; says = says; leaves = d.leaves }
+  copy_done s d says =
+      let made = copies_made plugin p o.stores.items n.stores.items says in
+      record { ends = d.ends; says = says; leaves = d.leaves; turned = inr (made.0, made.1) }
 
   module _ (old s : Journal) (c : IsCommitted kept p.mid o.moments old (disk o.main) (disk n.main) (Ok tt) s) where
     -- memory ran out after the first changes
     pub copy_stopped : (disk n.main).tells ≡ (disk o.main).tells → IsCopied disk plugin p o n (Err journal.Memory) s
-    copy_stopped tells = record { ends = λ told. inr (held_stands p.mid (disk n.main) s c.ends.held (subst IsTrue (sym tells) told)); says = tt; leaves = c.leaves }
+    copy_stopped tells = record { ends = λ told. inr (held_stands p.mid (disk n.main) s c.ends.held (subst IsTrue (sym tells) told)); says = tt; leaves = c.leaves; turned = inl c.leaves }
 
     -- a store failed, or what was read is not what is recorded
     pub copy_unmade : (answer : Copied) → answer ≢ Done → CopySays plugin plan.files from o.stores.items n.stores.items answer → IsCopied disk plugin p o n (Ok answer) s
     copy_unmade Done other says = absurd (other refl)
-    copy_unmade (copied.Fault fault) other says = record { ends = c.ends; says = says; leaves = c.leaves }
-    copy_unmade (Bad found) other says = record { ends = c.ends; says = says; leaves = c.leaves }
+    copy_unmade (copied.Fault fault) other says = record { ends = c.ends; says = says; leaves = c.leaves; turned = inl c.leaves }
+    copy_unmade (Bad found) other says = record { ends = c.ends; says = says; leaves = c.leaves; turned = inl c.leaves }
 
 -- the result of the last commit, as that of the deed
 abbrev pub copied_as : Result ⊤ JournalError → Result Copied JournalError
@@ -102,6 +117,7 @@ module _ {D A P : Type 0} (disk : D → DiskState) (plugin : P → StoreState) (
             (says_of plugin plan.files from o.stores.items m.stores.items w.stores.items e.stores.items Done same same_end says)
         copy_then (Err x) again =
             copy_failed disk plugin p o e x new (then_kept plugin kept p.mid p.end plan.files o.moments (disk o.main) old o.stores.items e.stores.items (disk m.main) s c w.moments (disk e.main) new first.main.tells goes (Err x) again)
+            (let made = copies_made plugin p m.stores.items w.stores.items says in inr (made.0, made.1))
 
         pub whole_then : EachMember (λ k store. (plugin store).last ≤ w.moments) w.stores.items → (result : Result ⊤ JournalError) → IsCommitted p.mid p.end w.moments s (disk m.main) (disk e.main) result new → KeepWhole plugin o.moments kept (disk o.main) (disk e.main) o.stores.items e.stores.items
         whole_then lasts result again =

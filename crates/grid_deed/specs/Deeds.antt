@@ -20,7 +20,7 @@ use Rattle.grid_vault.specs.Copying.{Copies}
 use Rattle.grid_vault.specs.Vault.{HasSlot, RoseAt}
 use Rattle.grid_vault.specs.declared.fault.Fault.{Fault}
 use Rattle.grid_vault.specs.Removal.{SplitInto, FewerThanFaults}
-use Rattle.file_laws.specs.Plans.{IsCopyPlan}
+use Rattle.file_laws.specs.Plans.{IsCopyPlan, Turns}
 use Rattle.file_laws.specs.Sweeps.{no_orphans}
 use Rattle.grid_deed.specs.declared.copying.Copied.{Copied}
 use Rattle.grid_deed.specs.declared.copying.Copied.TheVariants.{Done, Bad}
@@ -95,6 +95,9 @@ module _ {D A P : Type 0} (disk : D → DiskState) (plugin : P → StoreState) {
     pub ends : CopyEnds result journal
     pub says : IfOk result (CopySays plugin plan.files from old.stores.items new.stores.items)
     pub leaves : IsTrue (disk old.main).tells → IsSettled (disk old.main) → Leaves old.moments (CopyLeaves kept p.mid p.end result) (disk new.main)
+    -- the last changes were not asked for, or they are in order for some body
+    pub turned : (IsTrue (disk old.main).tells → IsSettled (disk old.main) → Leaves old.moments (StandsEither kept p.mid) (disk new.main))
+        ⊎ ((body : Text) × Turns plan.files body p.mid p.end)
 
 -- ---- the removal of an orphan's file
 

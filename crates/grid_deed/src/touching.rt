@@ -1,4 +1,5 @@
 ghost use Rattle.std.specs.Prelude.{◌≡◌, ℕ, ◌<◌, ◌≤◌, IfOk, IsErrOf, vec_len};
+ghost use Rattle.grid_outside.specs.Device.{EachPair, Looks};
 ghost use Rattle.grid_model.specs.Rows.{Cat};
 ghost use Rattle.grid_journal.specs.Journal.{Journal};
 ghost use Rattle.grid_vault.specs.Sending.{AtSlot};
@@ -28,6 +29,7 @@ pub fn check_file<D: Disk, A: Ambient, P: Plugin>(
     ensures whole { (kept : Cat) (store : Journal) → IsHeld kept (D.disk outside.old.main) store →
         KeepWhole P.plugin outside.old.moments kept (D.disk outside.old.main) (D.disk outside.new.main) outside.old.stores.items outside.new.stores.items }
     ensures frame { Frame D.disk P.plugin ⊥ outside.old outside.new }
+    ensures looks { EachPair (λ k before after. Looks (P.plugin before) (P.plugin after)) outside.old.stores.items outside.new.stores.items }
     ensures main { outside.new.main ≡ outside.old.main }
     ensures drawn { outside.new.moments ≡ outside.old.moments }
 {

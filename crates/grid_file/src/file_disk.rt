@@ -1,16 +1,19 @@
-ghost use Rattle.std.specs.Prelude.{◌≡◌, ◌≤◌};
+ghost use Rattle.std.specs.Prelude.{◌≡◌, ◌≤◌, Some};
 ghost use Rattle.grid_outside.specs.Fault.{Rose};
 ghost use Rattle.grid_file.specs.Untold.{untold_disk};
 
 use crate::lazy_file::LazyFile;
 use grid_outside::{Disk, DiskFault};
+use std::io;
 
-/// A disk that is a file of the folder in which the program was started. It is made at its first use.
+/// A disk that is a file of the folder in which the program was started. It is opened at its first use, made then if it
+/// is missing, and locked from then on. Where another process has it locked, every call faults.
 #[derive(Drop)]
 pub struct FileDisk {
     file: LazyFile,
     last: u128,
     faults: u64,
+    failure: Option<io::Error>,
 }
 
 impl FileDisk {
@@ -23,14 +26,24 @@ impl FileDisk {
             file: LazyFile::new(rt, name),
             last: 0,
             faults: 0,
+            failure: None,
         }
     }
 
-    fn fault(&mut self) -> DiskFault
+    /// Why the last call failed that did, or `None` where none has.
+    pub fn failure(&self) -> Option<io::Error>
+        ensures { result ≡ self.now.failure }
+    {
+        self.failure
+    }
+
+    fn fault(&mut self, failure: io::Error) -> DiskFault
         ensures later { self.old.faults ≤ self.new.faults }
         ensures rose { Rose self.old.faults self.new.faults }
         ensures last { self.new.last ≡ self.old.last }
+        ensures failure { self.new.failure ≡ Some failure }
     {
+        self.failure = Some(failure);
         self.faults = self.faults.saturating_add(1);
         DiskFault
     }
@@ -44,14 +57,14 @@ impl Disk for FileDisk {
     fn len(&mut self) -> Result<u64, DiskFault> {
         match self.file.len() {
             Ok(len) => Ok(len),
-            Err(_) => Err(self.fault()),
+            Err(failure) => Err(self.fault(failure)),
         }
     }
 
     fn read(&mut self, at: u64, buf: &mut [u8]) -> Result<usize, DiskFault> {
         match self.file.read(at, buf) {
             Ok(count) => Ok(count),
-            Err(_) => Err(self.fault()),
+            Err(failure) => Err(self.fault(failure)),
         }
     }
 
@@ -59,7 +72,7 @@ impl Disk for FileDisk {
         self.last = moment;
         match self.file.write(at, bytes) {
             Ok(()) => Ok(()),
-            Err(_) => Err(self.fault()),
+            Err(failure) => Err(self.fault(failure)),
         }
     }
 
@@ -67,7 +80,7 @@ impl Disk for FileDisk {
         self.last = moment;
         match self.file.cut(len) {
             Ok(()) => Ok(()),
-            Err(_) => Err(self.fault()),
+            Err(failure) => Err(self.fault(failure)),
         }
     }
 
@@ -75,7 +88,7 @@ impl Disk for FileDisk {
         self.last = moment;
         match self.file.sync() {
             Ok(()) => Ok(()),
-            Err(_) => Err(self.fault()),
+            Err(failure) => Err(self.fault(failure)),
         }
     }
 }

@@ -1,11 +1,12 @@
 ghost use Rattle.std.specs.Io.{ReadsAtMost};
 
 use crate::reading::fill;
+use crate::reporting::report;
 use std::fs::{self, File, OpenOptions};
 use std::io::{self, ErrorKind, Write};
 
 /// A folder of files whose names are numbers in decimal. It is looked for when it is first needed, and made then if
-/// it is missing. Where that fails, every call fails.
+/// it is missing. Where that fails, every call fails, with the error of that time.
 #[derive(Drop)]
 pub(crate) struct Folder {
     rt: HostRuntime,
@@ -19,7 +20,7 @@ pub(crate) struct Folder {
 enum State {
     Unused,
     There,
-    Failed,
+    Failed(io::Error),
 }
 
 impl Folder {
@@ -91,6 +92,11 @@ impl Folder {
         self.sync()
     }
 
+    /// Tells people on standard error that a call on the file of this name failed, and why.
+    pub(crate) fn report(&self, name: u64, failure: &io::Error) {
+        report(&self.rt, format_args!("{}/{name}", self.name), failure);
+    }
+
     // The begun file of this name is no longer among them.
     fn take_begun(&mut self, name: u64) -> io::Result<()> {
         match self.begun.iter().position(|begun| *begun == name) {
@@ -105,16 +111,17 @@ impl Folder {
     // The path of the file of this name, once the folder is there.
     fn path(&mut self, name: u64) -> io::Result<String> {
         if matches!(self.state, State::Unused) {
-            self.state = found(&self.rt, self.name.as_str()).map_or(
-                State::Failed,
-                |()| State::There,
-            );
+            self.state = match found(&self.rt, self.name.as_str()) {
+                Ok(()) => State::There,
+                Err(error) => State::Failed(error),
+            };
         }
         match self.state {
             State::There => format!(in self.rt.alloc(); "{}/{}", self.name, name).map_err(
                 no_memory,
             ),
-            State::Unused | State::Failed => Err(io::Error::from(ErrorKind::Other)),
+            State::Failed(error) => Err(error),
+            State::Unused => Err(io::Error::from(ErrorKind::Other)),
         }
     }
 

@@ -4,9 +4,11 @@ ghost use Rattle.grid_file.specs.Untold.{untold_store};
 
 use crate::folder::Folder;
 use grid_outside::{Plugin, StoreFault};
+use std::io;
 
 /// A store that is a folder of the one in which the program was started. It is made at its first use, and each file
-/// in it has its number in decimal as its name.
+/// in it has its number in decimal as its name. Its first fault is told on standard error, with the file and the
+/// system's reason.
 #[derive(Drop)]
 pub struct FolderStore {
     folder: Folder,
@@ -27,11 +29,15 @@ impl FolderStore {
         }
     }
 
-    fn fault(&mut self) -> StoreFault
+    // A call on the file of this name failed.
+    fn fault(&mut self, name: u64, failure: &io::Error) -> StoreFault
         ensures later { self.old.faults ≤ self.new.faults }
         ensures rose { Rose self.old.faults self.new.faults }
         ensures last { self.new.last ≡ self.old.last }
     {
+        if self.faults == 0 {
+            self.folder.report(name, failure);
+        }
         self.faults = self.faults.saturating_add(1);
         StoreFault
     }
@@ -46,7 +52,7 @@ impl Plugin for FolderStore {
         self.last = moment;
         match self.folder.create(name) {
             Ok(()) => Ok(()),
-            Err(_) => Err(self.fault()),
+            Err(failure) => Err(self.fault(name, &failure)),
         }
     }
 
@@ -54,7 +60,7 @@ impl Plugin for FolderStore {
         self.last = moment;
         match self.folder.append(name, bytes) {
             Ok(()) => Ok(()),
-            Err(_) => Err(self.fault()),
+            Err(failure) => Err(self.fault(name, &failure)),
         }
     }
 
@@ -62,21 +68,21 @@ impl Plugin for FolderStore {
         self.last = moment;
         match self.folder.finish(name) {
             Ok(()) => Ok(()),
-            Err(_) => Err(self.fault()),
+            Err(failure) => Err(self.fault(name, &failure)),
         }
     }
 
     fn read(&mut self, name: u64, at: u64, buf: &mut [u8]) -> Result<usize, StoreFault> {
         match self.folder.read(name, at, buf) {
             Ok(count) => Ok(count),
-            Err(_) => Err(self.fault()),
+            Err(failure) => Err(self.fault(name, &failure)),
         }
     }
 
     fn size(&mut self, name: u64) -> Result<u64, StoreFault> {
         match self.folder.size(name) {
             Ok(size) => Ok(size),
-            Err(_) => Err(self.fault()),
+            Err(failure) => Err(self.fault(name, &failure)),
         }
     }
 
@@ -84,7 +90,7 @@ impl Plugin for FolderStore {
         self.last = moment;
         match self.folder.remove(name) {
             Ok(()) => Ok(()),
-            Err(_) => Err(self.fault()),
+            Err(failure) => Err(self.fault(name, &failure)),
         }
     }
 }

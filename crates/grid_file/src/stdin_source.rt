@@ -1,8 +1,8 @@
-ghost use Rattle.std.specs.Prelude.{◌≡◌, ◌≤◌, length, IfSome};
+ghost use Rattle.std.specs.Prelude.{◌≡◌, ◌≤◌, length, IfOk};
 ghost use Rattle.grid_file.specs.Untold.{untold_source};
 
 use grid_outside::{Source, SourceFault};
-use std::io::{ErrorKind, Read};
+use std::io::{self, ErrorKind, Read};
 use std::rt::Stdin;
 
 /// Standard input as a source.
@@ -10,6 +10,7 @@ use std::rt::Stdin;
 pub struct StdinSource {
     stdin: Stdin,
     faults: u64,
+    failure: Option<io::Error>,
 }
 
 impl StdinSource {
@@ -20,7 +21,15 @@ impl StdinSource {
         StdinSource {
             stdin: rt.stdin(),
             faults: 0,
+            failure: None,
         }
+    }
+
+    /// Why the last read failed that did, or `None` where none has.
+    pub fn failure(&self) -> Option<io::Error>
+        ensures { result ≡ self.now.failure }
+    {
+        self.failure
     }
 }
 
@@ -31,8 +40,9 @@ impl Source for StdinSource {
 
     fn read(&mut self, buf: &mut [u8]) -> Result<usize, SourceFault> {
         match read_once(&mut self.stdin, buf) {
-            Some(count) => Ok(count),
-            None => {
+            Ok(count) => Ok(count),
+            Err(failure) => {
+                self.failure = Some(failure);
                 self.faults = self.faults.saturating_add(1);
                 Err(SourceFault)
             }
@@ -41,15 +51,15 @@ impl Source for StdinSource {
 }
 
 // One read, which is tried again where a signal interrupts it.
-pub(crate) fn read_once(reader: &mut impl Read, buf: &mut [u8]) -> Option<usize>
-    ensures { IfSome result (λ n. n ≤ length buf.new) }
+pub(crate) fn read_once(reader: &mut impl Read, buf: &mut [u8]) -> io::Result<usize>
+    ensures { IfOk result (λ n. n ≤ length buf.new) }
 {
     for _ in 0..u64::MAX {
         match reader.read(buf) {
-            Ok(count) => return Some(count),
+            Ok(count) => return Ok(count),
             Err(error) if error.kind() == ErrorKind::Interrupted => {}
-            Err(_) => return None,
+            Err(error) => return Err(error),
         }
     }
-    None
+    Err(io::Error::from(ErrorKind::Interrupted))
 }

@@ -2,7 +2,7 @@ ghost use Rattle.std.specs.Prelude.{◌≡◌};
 ghost use Rattle.grid_file.specs.Untold.{untold_sink};
 
 use grid_outside::{Sink, SinkFault};
-use std::io::Write;
+use std::io::{self, Write};
 use std::rt::Stdout;
 
 /// Standard output as a sink. Nothing is kept back.
@@ -11,6 +11,7 @@ pub struct StdoutSink {
     stdout: Stdout,
     last: u128,
     faults: u64,
+    failure: Option<io::Error>,
 }
 
 impl StdoutSink {
@@ -23,7 +24,15 @@ impl StdoutSink {
             stdout: rt.stdout(),
             last: 0,
             faults: 0,
+            failure: None,
         }
+    }
+
+    /// Why the last put failed that did, or `None` where none has.
+    pub fn failure(&self) -> Option<io::Error>
+        ensures { result ≡ self.now.failure }
+    {
+        self.failure
     }
 }
 
@@ -36,7 +45,8 @@ impl Sink for StdoutSink {
         self.last = moment;
         match self.stdout.write_all(bytes) {
             Ok(()) => Ok(()),
-            Err(_) => {
+            Err(failure) => {
+                self.failure = Some(failure);
                 self.faults = self.faults.saturating_add(1);
                 Err(SinkFault)
             }

@@ -1,7 +1,7 @@
 ghost use Rattle.std.specs.Prelude.{◌≡◌, ◌≤◌, length};
 
 use crate::stdin_source::read_once;
-use crate::{FileDisk, FolderStore, RealAmbient, StdinSource, StdoutSink};
+use crate::{FileDisk, FolderStore, RealAmbient, StdinSource, StdoutSink, StreamGuard, reason};
 use grid_outside::{Ambient, Disk, DiskFault, Plugin, Sink, Source, StoreFault};
 use std::fs;
 use std::io::{self, ErrorKind, Read};
@@ -17,6 +17,7 @@ fn a_disk_is_kept_in_its_file(rt: HostRuntime) -> Result<(), Fail> {
     assert_eq!(rt; disk.write_at(2, 2, b"xy"), Ok(()));
     assert_eq!(rt; disk.cut(3, 5), Ok(()));
     assert_eq!(rt; disk.sync(4), Ok(()));
+    drop(disk);
     let mut again = FileDisk::new(rt, name);
     let mut buf = [0u8; 8];
     assert_eq!(rt; again.len(), Ok(5));
@@ -28,7 +29,43 @@ fn a_disk_is_kept_in_its_file(rt: HostRuntime) -> Result<(), Fail> {
 }
 
 #[test]
-fn a_file_that_cannot_be_had_faults_at_each_call(rt: HostRuntime) {
+fn a_file_is_of_one_disk_at_a_time(rt: HostRuntime) -> Result<(), Fail> {
+    let name = "shared-file-of-a-test";
+    let _ = fs::remove_file(&rt, name);
+    let mut holder = FileDisk::new(rt, name);
+    assert_eq!(rt; holder.write_at(1, 0, b"abc"), Ok(()));
+    let mut late = FileDisk::new(rt, name);
+    let mut buf = [0u8; 8];
+    assert_eq!(rt; late.len(), Err(DiskFault));
+    assert_eq!(rt; late.read(0, &mut buf), Err(DiskFault));
+    assert_eq!(rt; late.write_at(1, 0, b"x"), Err(DiskFault));
+    assert_eq!(rt; late.cut(2, 0), Err(DiskFault));
+    assert_eq!(rt; late.sync(3), Err(DiskFault));
+    assert_eq!(rt;
+        words_of(rt, late.failure())?.as_str(),
+        "locked by another process"
+    );
+    assert_eq!(rt; holder.len(), Ok(3));
+    assert!(rt; holder.failure().is_none());
+    drop(holder);
+    assert_eq!(rt; late.len(), Err(DiskFault));
+    let mut next = FileDisk::new(rt, name);
+    assert_eq!(rt; next.read(0, &mut buf), Ok(3));
+    assert_eq!(rt; buf, *b"abc\0\0\0\0\0");
+    fs::remove_file(&rt, name)?;
+    Ok(())
+}
+
+// Why a call failed, in words, and none where none did.
+fn words_of(rt: HostRuntime, failure: Option<io::Error>) -> Result<String, Fail> {
+    match failure {
+        Some(error) => Ok(reason(rt.alloc(), &error)?),
+        None => Ok(String::new(rt.alloc())),
+    }
+}
+
+#[test]
+fn a_file_that_cannot_be_had_faults_at_each_call(rt: HostRuntime) -> Result<(), Fail> {
     let mut disk = FileDisk::new(rt, "no-folder-of-this-name/file");
     let mut buf = [0u8; 8];
     assert_eq!(rt; disk.len(), Err(DiskFault));
@@ -36,6 +73,11 @@ fn a_file_that_cannot_be_had_faults_at_each_call(rt: HostRuntime) {
     assert_eq!(rt; disk.write_at(1, 0, b"a"), Err(DiskFault));
     assert_eq!(rt; disk.cut(2, 0), Err(DiskFault));
     assert_eq!(rt; disk.sync(3), Err(DiskFault));
+    assert_eq!(rt;
+        words_of(rt, disk.failure())?.as_str(),
+        "No such file or directory"
+    );
+    Ok(())
 }
 
 // It is interrupted, gives one byte, and fails from then on.
@@ -62,14 +104,16 @@ impl Read for Stumbling {
 fn standard_input_is_read_in_parts(rt: HostRuntime) {
     let mut buf = [0u8; 4];
     let mut reader = Stumbling { calls: 0 };
-    assert_eq!(rt; read_once(&mut reader, &mut buf), Some(1));
+    assert_eq!(rt; read_once(&mut reader, &mut buf).ok(), Some(1));
     assert_eq!(rt; buf, *b"a\0\0\0");
-    assert_eq!(rt; read_once(&mut reader, &mut buf), None);
+    assert_eq!(rt; read_once(&mut reader, &mut buf).ok(), None);
     assert_eq!(rt; StdinSource::new(rt).read(&mut []), Ok(0));
 }
 
 #[test]
 fn standard_output_takes_what_is_put(rt: HostRuntime) {
+    let guard = StreamGuard::new(&rt);
+    assert!(rt; guard.is_ok());
     let mut sink = StdoutSink::new(rt);
     assert_eq!(rt; sink.put(1, b""), Ok(()));
     assert_eq!(rt; sink.put(2, b"a line of a test\n"), Ok(()));

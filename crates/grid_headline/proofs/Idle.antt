@@ -124,6 +124,7 @@ module _ {B : Type 0} (old : World B) (c : Cat) (rules : List Rule) where
       run = nothing has;
       shown = λ tells. shows;
       says = tt;
+      unharmed = tt;
       images = λ tells settled t i later left. one_image settled t i later left;
       whole = stay_whole;
       named = stay_named;

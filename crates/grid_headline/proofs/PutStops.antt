@@ -33,7 +33,7 @@ use Rattle.grid_model.specs.declared.requests.Verb.TheVariants as verb
 use Rattle.req_words.proofs.OneReading.{SpellsLine-unique}
 use Rattle.grid_headline.specs.Reads.{texts}
 use Rattle.grid_headline.specs.Numbers.{KeepsNumbers}
-use Rattle.grid_headline.specs.Served.{Run, reached, text_of}
+use Rattle.grid_headline.specs.Served.{Run, reached, run_text}
 use Rattle.grid_headline.specs.Stops.{OneImage, IsInterrupted}
 use Rattle.grid_headline.proofs.Scene.{rods, found, has_no_rules, login_line, put_line, abc, input, f, puts, ran}
 use Rattle.grid_headline.proofs.Scene.{logs_in_first, puts_then, login_done, put_done, logged, login_words, means_put, are_requests, after}
@@ -95,7 +95,7 @@ module _ (known : ℕ → Type 0) where
     no_stop = (is_no_stop, tt);
   }
 
-  its_text : text_of run ≡ codes "1 ok\n2 mark ran 7 1000\n2 ok\n"
+  its_text : run_text run ≡ codes "1 ok\n2 mark ran 7 1000\n2 ok\n"
   unfolding digits
   its_text = refl
 

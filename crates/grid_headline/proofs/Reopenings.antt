@@ -18,7 +18,7 @@ use Rattle.grid_model.specs.declared.marks.Mark.{Mark}
 use Rattle.grid_model.specs.declared.marks.Mark.TheVariants.{Ran, Stop}
 use Rattle.grid_model.specs.declared.replies.Passed.{Passed}
 use Rattle.grid_journal.specs.Stands.{Stands}
-use Rattle.grid_headline.specs.Served.{Run, reached, text_of}
+use Rattle.grid_headline.specs.Served.{Run, reached, run_text}
 use Rattle.grid_headline.specs.Stops.{OneImage, IsBeforeRun, IsInRun}
 use Rattle.grid_headline.proofs.Scene.{ran}
 use Rattle.grid_headline.proofs.PutStops.{the_catalogue}
@@ -58,7 +58,7 @@ module _ (known : ℕ → Type 0) where
     no_stop = tt;
   }
 
-  its_text : text_of run
+  its_text : run_text run
       ≡ codes "stopped 1 2\n2 mark ran 7 1000\n2 mark stop\n2 passed msiDataObjTrim /tempZone/home/rods/f d1 NoReplica\n2 err Stopped\n"
   unfolding digits
   its_text = refl
@@ -194,7 +194,7 @@ module _ (known : ℕ → Type 0) where
     no_stop = (is_no_stop 9 2000 [], tt);
   }
 
-  its_text_again : text_of run_again ≡ codes "stopped 1 2\n2 mark ran 7 1000\n2 mark stop\n2 mark ran 9 2000\n2 err Stopped\n"
+  its_text_again : run_text run_again ≡ codes "stopped 1 2\n2 mark ran 7 1000\n2 mark stop\n2 mark ran 9 2000\n2 err Stopped\n"
   unfolding digits
   its_text_again = refl
 

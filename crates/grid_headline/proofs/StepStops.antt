@@ -33,7 +33,7 @@ use Rattle.rule_parse.specs.Printed.{print_rules}
 use Rattle.grid_journal.specs.Stands.{Stands}
 use Rattle.grid_headline.specs.Reads.{MeansRequest}
 use Rattle.grid_headline.specs.Numbers.{KeepsNumbers}
-use Rattle.grid_headline.specs.Served.{Run, reached, text_of}
+use Rattle.grid_headline.specs.Served.{Run, reached, run_text}
 use Rattle.grid_headline.specs.Stops.{OneImage, IsInterrupted, IsTold, AreFirst}
 use Rattle.grid_headline.proofs.Scene.{rods, login_line, put_line, abc, asks_login, asks_put, f, puts}
 use Rattle.grid_headline.proofs.Scene.{ran, done_or, nothing_done, means_login, means_put, are_requests, input, logs_in_first}
@@ -111,7 +111,7 @@ module _ (known : ℕ → Type 0) where
     no_stop = (is_no_stop 7 1000 [], (is_no_stop 8 1001 [], tt));
   }
 
-  its_text : text_of run ≡ codes "1 ok\n2 mark ran 7 1000\n2 mark ran 8 1001\n2 ok\n"
+  its_text : run_text run ≡ codes "1 ok\n2 mark ran 7 1000\n2 mark ran 8 1001\n2 ok\n"
   unfolding digits
   its_text = refl
 

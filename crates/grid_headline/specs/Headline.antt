@@ -1,14 +1,15 @@
 -- What a run of `serve` over a catalogue is, whatever disks and stores refuse and wherever the server stops.
 use Rattle.std.specs.Prelude.{◌≡◌, ℕ, ◌+◌, ◌^◌, ◌<◌, ◌≤◌, ◌++◌, Ok, length, take, IsTrue}
+use Rattle.std.specs.List.{AllByRecursion}
 use Rattle.grid_outside.specs.Device.{IsSettled}
 use Rattle.grid_model.specs.Names.{Text}
 use Rattle.grid_model.specs.Rows.{Cat}
 use Rattle.grid_model.specs.Completing.{AreClean, AllEndByRows}
 use Rattle.grid_journal.specs.Stands.{Stands}
 use Rattle.grid_headline.specs.Worlds.{World, DevicesImage, LeavesImage}
-use Rattle.grid_headline.specs.Served.{Run, NoneSweeps, report_of, text_of, acknowledged, marks_of}
+use Rattle.grid_headline.specs.Served.{Run, NoneSweeps, report_of, run_text, acknowledged, marks_of}
 use Rattle.grid_headline.specs.Stops.{OneImage}
-use Rattle.grid_headline.specs.Files.{IsKnown, DisksAreSettled, AreSettled, WereWhole, AllStayWhole, StayNamed}
+use Rattle.grid_headline.specs.Files.{IsKnown, IsOfUnknown, DisksAreSettled, AreSettled, WereWhole, AllStayWhole, StayNamed}
 use Rattle.grid_headline.specs.Silence.{NoneIsSilent}
 use Rattle.grid_headline.specs.Causes.{AreCaused, NoneFailed, AllTell}
 use Rattle.grid_headline.specs.Draws.{DrawsMarks, shown_marks}
@@ -35,7 +36,7 @@ module _ {B : Type 0} {found : Cat} (old new : World B) (run : Run (IsKnown old 
     pub part : Text
     pub more : Text
     pub sink : new.sink.holds ≡ old.sink.holds ++ part
-    pub split : text_of run ≡ part ++ more
+    pub split : run_text run ≡ part ++ more
     -- at most one request, or the report, is not shown whole
     pub report_first : 0 < length run.begun → length (report_of run) ≤ length part
     pub all_but_one : length run.begun ≤ acknowledged run (length part) + 1
@@ -59,6 +60,8 @@ pub record Serves {B : Type 0} (old new : World B) (found : Cat) (end : RunEnd) 
   pub whole : DisksAreSettled old → WereWhole old old.moments found → AllStayWhole new old.moments
   -- no file is lost track of, on stores that tell nothing too, where none is asked to be removed: only a sweep does so
   pub named : NoneSweeps old.source.left → IsSettled old.main → StayNamed new old.moments found
+  -- no mark tells that a known file is not what is recorded
+  pub unharmed : AllByRecursion (IsOfUnknown (IsKnown old found) (length old.stores)) (marks_of run.begun)
   -- each fault that is told was counted
   pub caused : AreCaused old new (run.report ++ marks_of run.begun)
   pub completes : (tells : IsTrue old.sink.tells) → NoneFailed old new → AllTell old → DisksAreSettled old → WereWhole old old.moments found

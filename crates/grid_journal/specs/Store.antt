@@ -9,6 +9,10 @@ use Rattle.grid_model.specs.declared.grid.Side.{Side}
 use Rattle.grid_model.specs.declared.grid.Side.TheVariants.{Main, Spare}
 use Rattle.grid_journal.specs.Journal.{Journal}
 
+-- a disk that tells held nothing
+abbrev pub WasEmpty : DiskState → Type 0
+WasEmpty disk = IsTrue disk.tells → disk.holds ≡ []
+
 -- the first of main and spare that isn't empty, and how many bytes it has
 abbrev pub IsNotEmpty : DiskState → DiskState → ℕ → Side → Type 0
 IsNotEmpty main spare len Main = (0 < len) × (IsTrue main.tells → length main.holds ≡ len)

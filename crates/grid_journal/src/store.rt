@@ -17,7 +17,7 @@ ghost use Rattle.grid_journal.specs.Journal.{Keeps, AreSpelled, can_be_kept};
 ghost use Rattle.grid_journal.specs.Stands.{Stands, StandsEither};
 ghost use Rattle.grid_journal.specs.Start.{start, start_main};
 ghost use Rattle.grid_journal.specs.Replaying.{HasCatalogue, IsUnread};
-ghost use Rattle.grid_journal.specs.Store.{IsOpened, Stages, Commits, IsNotEmpty};
+ghost use Rattle.grid_journal.specs.Store.{IsOpened, Stages, Commits, IsNotEmpty, WasEmpty};
 ghost use Rattle.grid_journal.specs.declared.error.JournalError.{JournalError};
 
 use crate::JournalError;
@@ -85,9 +85,10 @@ impl Store {
         requires stores { (0 < stores) × (stores ≤ 16) }
 
         // Both disks were empty. Main stands for the catalogue of a new grid, byte by byte, and nothing is pending.
-        ensures was_empty { OnOk result ((IsTrue (D.disk main.old).tells → (D.disk main.old).holds ≡ []) × (IsTrue (D.disk spare.old).tells → (D.disk spare.old).holds ≡ [])) }
+        ensures was_empty { OnOk result (WasEmpty (D.disk main.old) × WasEmpty (D.disk spare.old)) }
         ensures written { OnOk result (IsTrue (D.disk main.old).tells → (D.disk main.new).holds ≡ start_main zone.now admin.now stores) }
-        ensures stands { OnOk result (IsTrue (D.disk main.old).tells → (other : TextOf) → Stands (D.disk main.new).holds other (Ok (start zone.now admin.now stores))) }
+        ensures stands { OnOk result (IsTrue (D.disk main.old).tells
+            → (other_text : TextOf) → Stands (D.disk main.new).holds other_text (Ok (start zone.now admin.now stores))) }
         ensures settled { OnOk result (IsTrue (D.disk main.old).tells → IsSettled (D.disk main.new)) }
 
         // Spare is only looked at. Before the write main is too, which stays as it was if it was not empty.
@@ -96,13 +97,15 @@ impl Store {
         ensures span { Between moments.old moments.new (Torn 0 (length (start_main zone.now admin.now stores))) (D.disk main.old) (D.disk main.new) }
 
         // The first disk that is not empty is named. A fault comes only of a disk whose count rose.
-        ensures not_empty { (side : SideOf) (len : ℕ) → IsErrOf result (JournalError.NotEmpty side len) → IsNotEmpty (D.disk main.old) (D.disk spare.old) len side }
+        ensures not_empty { (side : SideOf) (n : ℕ) → IsErrOf result (JournalError.NotEmpty side n) → IsNotEmpty (D.disk main.old) (D.disk spare.old) n side }
         ensures cause { IsErrOf result JournalError.DiskFault
             → Rose (D.disk main.old).faults (D.disk main.new).faults ⊎ Rose (D.disk spare.old).faults (D.disk spare.new).faults }
         ensures main_later { (D.disk main.old).faults ≤ (D.disk main.new).faults }
         ensures spare_later { (D.disk spare.old).faults ≤ (D.disk spare.new).faults }
-        ensures unchanged { (e : JournalError) → IsErrOf result e → e ≢ JournalError.DiskFault → Looks (D.disk main.old) (D.disk main.new) × (moments.new ≡ moments.old) }
-        ensures no_other { (side : SideOf) (what : Wear) (at : ℕ) → (¬ IsErrOf result (JournalError.NotACatalogue side at)) × (¬ IsErrOf result (JournalError.Worn what at)) }
+        ensures unchanged { (error : JournalError) → IsErrOf result error → error ≢ JournalError.DiskFault
+            → Looks (D.disk main.old) (D.disk main.new) × (moments.new ≡ moments.old) }
+        ensures no_other { (side : SideOf) (what : Wear) (position : ℕ)
+            → (¬ IsErrOf result (JournalError.NotACatalogue side position)) × (¬ IsErrOf result (JournalError.Worn what position)) }
         ensures drawn_from { moments.old ≤ moments.new }
         ensures drawn { moments.new ≤ moments.old + 2 }
     {
@@ -148,7 +151,8 @@ impl Store {
         ensures spare { spare.new ≡ spare.old }
         ensures later { (D.disk main.old).faults ≤ (D.disk main.new).faults }
         ensures cause { IsErrOf result JournalError.DiskFault → Rose (D.disk main.old).faults (D.disk main.new).faults }
-        ensures no_other { (side : SideOf) (what : Wear) (at : ℕ) → (¬ IsErrOf result (JournalError.NotEmpty side at)) × (¬ IsErrOf result (JournalError.Worn what at)) }
+        ensures no_other { (side : SideOf) (what : Wear) (position : ℕ)
+            → (¬ IsErrOf result (JournalError.NotEmpty side position)) × (¬ IsErrOf result (JournalError.Worn what position)) }
     {
         let mut head = [0; READ];
         let count = main.read(0, &mut head)?;
@@ -262,12 +266,14 @@ impl Store {
         ensures last { (D.disk main.new).last ≤ moments.new }
         ensures spare { spare.new ≡ spare.old }
 
-        ensures worn { (what : Wear) (at : ℕ) → IsErrOf result (JournalError.Worn what at) ↔ ((what ≡ Wear.Log) × (at ≡ self.old.log.gate) × (2 ^ 62 < self.old.log.gate)) }
+        ensures worn { (what : Wear) (position : ℕ) → IsErrOf result (JournalError.Worn what position)
+            ↔ ((what ≡ Wear.Log) × (position ≡ self.old.log.gate) × (2 ^ 62 < self.old.log.gate)) }
         ensures worn_same { (what : Wear) (at : ℕ) → IsErrOf result (JournalError.Worn what at) → self.new ≡ self.old }
         ensures unsound { (e : JournalError) → IsErrOf result e → ((e ≡ JournalError.Memory) ⊎ (e ≡ JournalError.DiskFault)) → self.new.sound ≡ false }
         ensures cause { IsErrOf result JournalError.DiskFault → Rose (D.disk main.old).faults (D.disk main.new).faults }
         ensures unchanged { (e : JournalError) → IsErrOf result e → e ≢ JournalError.DiskFault → (main.new ≡ main.old) × (moments.new ≡ moments.old) }
-        ensures no_other { (side : SideOf) (at : ℕ) → (¬ IsErrOf result (JournalError.NotEmpty side at)) × (¬ IsErrOf result (JournalError.NotACatalogue side at)) }
+        ensures no_other { (side : SideOf) (position : ℕ)
+            → (¬ IsErrOf result (JournalError.NotEmpty side position)) × (¬ IsErrOf result (JournalError.NotACatalogue side position)) }
         ensures drawn_from { moments.old ≤ moments.new }
         ensures drawn { moments.new ≤ moments.old + 4 }
     {

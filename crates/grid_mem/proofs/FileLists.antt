@@ -12,7 +12,7 @@ use Rattle.std.proofs.lemmas.Iterator.Adapters.{position_from-zero}
 use Rattle.grid_outside.specs.Files.{File, Files, file_at}
 use Rattle.grid_mem.specs.declared.mem_file.MemFile.{MemFile}
 use Rattle.grid_mem.specs.MemFile.{file_of, entry_of, files_of, IsCopy}
-use Rattle.grid_mem.specs.StoreCalls.{IsDoneIfFit, put, appended, can_append, is_begun, bytes_of}
+use Rattle.grid_mem.specs.StoreCalls.{IsDoneIfFit, with_file, appended, can_append, is_begun, bytes_of}
 use Rattle.grid_mem.specs.CallLaws.{both}
 use Rattle.grid_outside.proofs.Spans.{nat_cases}
 use Rattle.grid_mem.specs.FilesLaws.{at_same, at_other, at_removed, at_kept, same_files}
@@ -175,7 +175,7 @@ append_done ms name i d new bytes is item fits named same mark =
 
 -- the file at that place was finished
 pub finish_done : (ms : List MemFile) (name i : ℕ) (d new : MemFile) → position (has_name name) ms ≡ Some i → d ≡ get_or ms i d
-    → new.name ≡ d.name → new.bytes.items ≡ d.bytes.items → new.finished ≡ true → files_of (set ms i new) ≡ put (files_of ms) name (bytes_of (file_at (files_of ms) name)) true
+    → new.name ≡ d.name → new.bytes.items ≡ d.bytes.items → new.finished ≡ true → files_of (set ms i new) ≡ with_file (files_of ms) name (bytes_of (file_at (files_of ms) name)) true
 finish_done ms name i d new is item named same mark =
     changed_at_place ms name i d new is (named ∙ ap (λ (m : MemFile). m.name) item)
     ∙ ap (insert (files_of ms) name) (λ j. record { bytes = (same ∙ ap bytes_of (sym (at_item ms name i d is item))) j; finished = mark j })

@@ -4,7 +4,7 @@ use Rattle.std.proofs.lemmas.Result.{on_ok_weaker, on_err_weaker}
 use Rattle.grid_outside.specs.Device.{Acts}
 use Rattle.grid_mem.specs.declared.call.Call.{Call}
 use Rattle.grid_mem.specs.Calls.{Adds, History, Records, Kind, call_fits, held, held_after, is_record, Left, LeftAfter}
-use Rattle.grid_mem.specs.Recorded.{state_of}
+use Rattle.grid_mem.specs.Recorded.{state_in}
 use Rattle.grid_mem.specs.CallLaws.{Laws, is_record-push, is_record-later, Left-push, held-push, steady_from}
 
 module _ {Deed C : Type 0} (kind : Kind Deed C) (laws : Laws kind) (tells : Bool) (start now : C) (calls : List (Call Deed)) (faults last : ℕ) (is : is_record kind 0 last start calls ≡ true) (now_is : now ≡ held kind start calls) where
@@ -16,7 +16,7 @@ module _ {Deed C : Type 0} (kind : Kind Deed C) (laws : Laws kind) (tells : Bool
           let P : List (Call Deed) → Type 0 = λ cs. Left kind t (λ x. x ≡ start) start cs image in
           ((λ left. push.0 (subst P more_is left)), (λ left. subst P (sym more_is) (push.1 left)))
 
-      pub recorded : Acts moment (kind.May call.deed) (state_of kind laws tells faults last start now calls is now_is) (state_of kind laws tells faults_after moment start next more is_more next_is)
+      pub recorded : Acts moment (kind.May call.deed) (state_in kind laws tells faults last start now calls is now_is) (state_in kind laws tells faults_after moment start next more is_more next_is)
       recorded = record {
         last = refl;
         tells = refl;
@@ -39,7 +39,7 @@ module _ {Deed C : Type 0} (kind : Kind Deed C) (laws : Laws kind) (tells : Bool
           subst P (sym same) (step.3 (omega (arith, at, late)))
 
     -- it was not recorded, and nothing was done
-    pub not_recorded : (change : C → C → Type 0) → ((x : C) → change x x) → more ≡ calls → next ≡ now → Acts moment change (state_of kind laws tells faults last start now calls is now_is) (state_of kind laws tells faults_after moment start next more is_more next_is)
+    pub not_recorded : (change : C → C → Type 0) → ((x : C) → change x x) → more ≡ calls → next ≡ now → Acts moment change (state_in kind laws tells faults last start now calls is now_is) (state_in kind laws tells faults_after moment start next more is_more next_is)
     not_recorded change nothing same next_same =
         let P : ℕ → C → List (Call Deed) → Type 0 = λ t image cs. Left kind t (λ x. x ≡ start) start cs image in
         record {
@@ -69,7 +69,7 @@ module _ {Deed C : Type 0} (kind : Kind Deed C) (laws : Laws kind) (tells : Bool
         subst P (sym next_is) (laws.may call.deed call.done now fits)
 
     pub acts_more : (faults_after : ℕ) (is_more : is_record kind 0 moment start more ≡ true) (now_more : next ≡ held kind start more)
-        → Acts moment (kind.May call.deed) (state_of kind laws tells faults last start now calls is now_is) (state_of kind laws tells faults_after moment start next more is_more now_more)
+        → Acts moment (kind.May call.deed) (state_in kind laws tells faults last start now calls is now_is) (state_in kind laws tells faults_after moment start next more is_more now_more)
     acts_more faults_after is_more now_more = recorded moment faults_after next more after is_more now_more call at more_is may_more
 
     pub sure_more : (t : ℕ) (image : C) → moment < t → Left kind t (λ x. x ≡ start) start more image → kind.Sure call.deed call.done next image
@@ -86,7 +86,7 @@ module _ {Deed C : Type 0} (kind : Kind Deed C) (laws : Laws kind) (tells : Bool
     same_none = next_is ∙ now_is ∙ sym (ap (held kind start) more_is)
 
     pub acts_none : (faults_after : ℕ) (is_more : is_record kind 0 moment start more ≡ true) (now_more : next ≡ held kind start more) (change : C → C → Type 0) → ((x : C) → change x x)
-        → Acts moment change (state_of kind laws tells faults last start now calls is now_is) (state_of kind laws tells faults_after moment start next more is_more now_more)
+        → Acts moment change (state_in kind laws tells faults last start now calls is now_is) (state_in kind laws tells faults_after moment start next more is_more now_more)
     acts_none faults_after is_more now_more change nothing = not_recorded moment faults_after next more after is_more now_more change nothing more_is next_is
 
 adds_as : {Deed : Type 0} (moment : ℕ) (narrow wide : Deed → Type 0) (done : Bool) (old new : List (Call Deed)) → ((deed : Deed) → narrow deed → wide deed) → Adds moment narrow done old new → Adds moment wide done old new

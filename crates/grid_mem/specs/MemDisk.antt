@@ -6,12 +6,12 @@ use Rattle.grid_mem.specs.declared.disk_deed.DiskDeed.{DiskDeed}
 use Rattle.grid_mem.specs.declared.mem_disk.MemDisk.{MemDisk}
 use Rattle.grid_mem.specs.declared.schedule.Schedule.{Schedule}
 use Rattle.grid_mem.specs.DiskCalls.{disk_kind}
-use Rattle.grid_mem.specs.Recorded.{state_of}
+use Rattle.grid_mem.specs.Recorded.{state_in}
 use Rattle.grid_mem.specs.DiskLaws.{disk_laws}
 
 -- its meaning as a disk
 unfoldable pub disk_of : MemDisk → DiskState
-disk_of d = state_of disk_kind disk_laws true d.faults d.last d.start.items d.bytes.items d.calls.items d.valid d.same
+disk_of d = state_in disk_kind disk_laws true d.faults d.last d.start.items d.bytes.items d.calls.items d.valid d.same
 
 -- the bytes at the start, and the calls with a moment since
 abbrev pub disk_history : MemDisk → History DiskDeed (List ℕ)

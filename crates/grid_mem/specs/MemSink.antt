@@ -5,13 +5,13 @@ use Rattle.grid_outside.specs.Sink.{SinkState}
 use Rattle.grid_mem.specs.Calls.{History}
 use Rattle.grid_mem.specs.declared.mem_sink.MemSink.{MemSink}
 use Rattle.grid_mem.specs.declared.schedule.Schedule.{Schedule}
-use Rattle.grid_mem.specs.Recorded.{state_of}
+use Rattle.grid_mem.specs.Recorded.{state_in}
 use Rattle.grid_mem.specs.SinkCalls.{sink_kind}
 use Rattle.grid_mem.specs.SinkLaws.{sink_laws}
 
 -- its meaning as a sink
 unfoldable pub sink_of : MemSink → SinkState
-sink_of s = state_of sink_kind sink_laws true s.faults s.last s.start.items s.bytes.items s.calls.items s.valid s.same
+sink_of s = state_in sink_kind sink_laws true s.faults s.last s.start.items s.bytes.items s.calls.items s.valid s.same
 
 -- the bytes at the start, and the puts since, each by its bytes
 abbrev pub sink_history : MemSink → History (Vec ℕ Global) (List ℕ)

@@ -8,14 +8,14 @@ use Rattle.grid_mem.specs.declared.mem_store.MemStore.{MemStore}
 use Rattle.grid_mem.specs.declared.schedule.Schedule.{Schedule}
 use Rattle.grid_mem.specs.declared.store_deed.StoreDeed.{StoreDeed}
 use Rattle.grid_mem.specs.MemFiles.{contents}
-use Rattle.grid_mem.specs.Recorded.{state_of}
+use Rattle.grid_mem.specs.Recorded.{state_in}
 use Rattle.grid_mem.specs.Schedule.{next_number}
 use Rattle.grid_mem.specs.StoreCalls.{store_kind}
 use Rattle.grid_mem.specs.StoreLaws.{store_laws}
 
 -- Its meaning as a store. One that may lie never tells.
 unfoldable pub store_of : MemStore → StoreState
-store_of s = state_of store_kind store_laws (is_none s.lies) s.faults s.last (contents s.history.start) (contents s.files) s.history.calls.items s.valid s.same
+store_of s = state_in store_kind store_laws (is_none s.lies) s.faults s.last (contents s.history.start) (contents s.files) s.history.calls.items s.valid s.same
 
 -- the files at the start, and the calls with a moment since
 abbrev pub store_history : MemStore → History StoreDeed Files

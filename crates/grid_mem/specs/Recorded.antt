@@ -9,9 +9,9 @@ use Rattle.grid_mem.specs.CallLaws.{Laws, steady_from, now_from, none_at_zero}
 module _ {Deed C : Type 0} (kind : Kind Deed C) (laws : Laws kind) (tells : Bool) where
   -- A device that held this at the start, was called so since and holds that now. A stop at a moment may leave what
   -- the calls leave then.
-  abbrev pub state_of : (faults last : ℕ) (start now : C) (calls : List (Call Deed)) → is_record kind 0 last start calls ≡ true → now ≡ held kind start calls
+  abbrev pub state_in : (faults last : ℕ) (start now : C) (calls : List (Call Deed)) → is_record kind 0 last start calls ≡ true → now ≡ held kind start calls
       → DeviceState C
-  state_of faults last start now calls is now_is = record {
+  state_in faults last start now calls is now_is = record {
     faults = faults;
     tells = tells;
     holds = now;

@@ -19,8 +19,8 @@ is_begun None = false
 is_begun (Some f) = not f.finished
 
 -- the files with this one put in its place
-abbrev pub put : Files → ℕ → List ℕ → Bool → Files
-put files name bytes mark = insert files name (record { bytes = bytes; finished = mark })
+abbrev pub with_file : Files → ℕ → List ℕ → Bool → Files
+with_file files name bytes mark = insert files name (record { bytes = bytes; finished = mark })
 
 -- the file takes these bytes more: it is there, not finished, and stays short
 abbrev pub can_append : Files → ℕ → List ℕ → Bool
@@ -28,13 +28,13 @@ can_append files name bytes = is_begun (file_at files name) && nat_lt (length (b
 
 -- the files with these bytes at the end of that one
 abbrev pub appended : Files → ℕ → List ℕ → Files
-appended files name bytes = put files name (bytes_of (file_at files name) ++ bytes) false
+appended files name bytes = with_file files name (bytes_of (file_at files name) ++ bytes) false
 
 -- the files after a deed that was done
 abbrev pub store_done : Files → StoreDeed → Files
-store_done files (Create name) = put files name [] false
+store_done files (Create name) = with_file files name [] false
 store_done files (Append name written) = appended files name written.items
-store_done files (Finish name) = put files name (bytes_of (file_at files name)) true
+store_done files (Finish name) = with_file files name (bytes_of (file_at files name)) true
 store_done files (Remove name) = remove files name
 
 -- the file is in the state that the deed needs

@@ -2,7 +2,7 @@ ghost use Rattle.std.specs.Prelude.{◌≡◌, ◌==◌, true, false, [], positi
 ghost use Rattle.std.specs.FinMap.{remove};
 ghost use Rattle.grid_outside.specs.Files.{file_at};
 ghost use Rattle.grid_mem.specs.MemFile.{files_of, file_of};
-ghost use Rattle.grid_mem.specs.StoreCalls.{store_fits, store_done, IsDoneIfFit, put, can_append, appended, is_begun, bytes_of as file_bytes};
+ghost use Rattle.grid_mem.specs.StoreCalls.{store_fits, store_done, IsDoneIfFit, with_file, can_append, appended, is_begun, bytes_of as file_bytes};
 
 use crate::{MemFile, StoreDeed};
 use std::alloc::{AllocError, Global};
@@ -77,7 +77,7 @@ impl MemFiles {
 
     fn create(&mut self, alloc: Global, name: u64) -> Result<bool, AllocError>
         ensures ok { IfOk result (λ done. IsDoneIfFit (is_none (file_at (contents self.old) name))
-            (put (contents self.old) name [] false)
+            (with_file (contents self.old) name [] false)
             (contents self.old) done (contents self.new)) }
         ensures err { OnErr result (contents self.new ≡ contents self.old) }
     {
@@ -110,7 +110,7 @@ impl MemFiles {
 
     fn finish(&mut self, name: u64) -> bool
         ensures { IsDoneIfFit (is_begun (file_at (contents self.old) name))
-            (put (contents self.old) name (file_bytes (file_at (contents self.old) name)) true)
+            (with_file (contents self.old) name (file_bytes (file_at (contents self.old) name)) true)
             (contents self.old) result (contents self.new) }
     {
         let Some(place) = self.place(name) else {

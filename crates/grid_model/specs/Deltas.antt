@@ -113,8 +113,10 @@ digest d = record { fits = (length d == 32) && list_all is_byte d; bytes = d }
 
 -- how many members there are, and the parts of each
 abbrev pub each : {A : Type 0} → (A → List Part) → List A → Part
-each parts xs =
-    record { fits = nat_lt (length xs) (2 ^ 64) && list_all (λ x. all_fit (parts x)) xs; bytes = eight_bytes (length xs) ++ flat_map (λ x. joined (parts x)) xs }
+each parts xs = record {
+  fits = nat_lt (length xs) (2 ^ 64) && list_all (λ x. all_fit (parts x)) xs;
+  bytes = eight_bytes (length xs) ++ flat_map (λ x. joined (parts x)) xs;
+}
 
 -- ---- kinds and levels, as their numbers
 

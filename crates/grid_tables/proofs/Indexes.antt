@@ -17,7 +17,7 @@ use Rattle.grid_model.proofs.Comparing.{text_cmp_total, same_text-Decides}
 use Rattle.grid_model.proofs.TableLemmas.{with_row-before, IsTable-with_row}
 use Rattle.grid_model.proofs.FoundRows.{none_is_found, none_passes, none_any}
 use Rattle.tables_laws.proofs.Rows.{IsIn, in_from_any, any_from_in, in_from_all, all_from_in, in_from_find, find_from_in, in_from_filter, filter_from_in, in_from_with_row, new_in_with_row, old_in_with_row, in_once, apart_in_with_row}
-use Rattle.grid_tables.specs.Indexes.{IsIndex, place_cmp, place_of, is_placed, found_order, side_at, IsPlacedOnce}
+use Rattle.grid_tables.specs.Indexes.{IsIndex, place_cmp, order_at, is_placed, found_order, side_at, IsPlacedOnce}
 use Rattle.grid_tables.specs.Places.{IsPlace, Falls, passes}
 use Rattle.grid_tables.specs.Probes.{same_number, is_eq_then, tied}
 use Rattle.grid_tables.specs.Items.{falls_by}
@@ -122,11 +122,11 @@ module _ {X : Type 0} (number : X → ℕ) (row_cmp : X → X → Ordering) (tot
   places_total : IsTotalOrder (place_cmp parent name)
   places_total = then_total (on_total parent nat_cmp_total) (on_total name text_cmp_total)
 
-  pub below_place : (above : ℕ) (called : Text) (a b : X) → place_cmp parent name a b ≡ Less → IsTrue (is_le (place_of parent name above called a)) → place_of parent name above called b ≡ Less
+  pub below_place : (above : ℕ) (called : Text) (a b : X) → place_cmp parent name a b ≡ Less → IsTrue (is_le (order_at parent name above called a)) → order_at parent name above called b ≡ Less
   below_place above called a b less le =
       le_lt_trans (then_total (on_total (λ (p : ℕ × Text). p.0) nat_cmp_total) (on_total (λ (p : ℕ × Text). p.1) text_cmp_total)) (above, called) (parent a, name a) (parent b, name b) le less
 
-  pub placed_decides : (above : ℕ) (called : Text) (r : X) → is_placed parent name above called r ≡ is_eq (place_of parent name above called r)
+  pub placed_decides : (above : ℕ) (called : Text) (r : X) → is_placed parent name above called r ≡ is_eq (order_at parent name above called r)
   placed_decides above called r =
       ap (λ b. b && same_text (name r) called) (same_number above (parent r)) ∙ ap (λ b. is_eq (nat_cmp above (parent r)) && b) (tied text_cmp_total called (name r))
       ∙ sym (is_eq_then (nat_cmp above (parent r)) (text_cmp called (name r)))
@@ -137,10 +137,10 @@ module _ {X : Type 0} (number : X → ℕ) (row_cmp : X → X → Ordering) (tot
   -- what a search among the ids answers
   pub sought : (rows : List X) → IsStrictlySortedBy row_cmp rows → (above : ℕ) (called : Text) (kept : X → Bool) (ids : List ℕ)
       (index : IsIndex number (place_cmp parent name) (filter kept rows) ids) (place : Result ℕ ℕ) → IsSearchInRange place (length ids)
-      → IsBinarySearchResult (λ id. ordering_reverse (found_order (place_of parent name above called) (find (λ r. number r == id) rows))) ids place
-      → IsPlace (place_of parent name above called) index.named place
+      → IsBinarySearchResult (λ id. ordering_reverse (found_order (order_at parent name above called) (find (λ r. number r == id) rows))) ids place
+      → IsPlace (order_at parent name above called) index.named place
   sought rows sorted above called kept ids index place inside found =
-      let key = place_of parent name above called in
+      let key = order_at parent name above called in
       let within : (x : X) → IsIn index.named x → IsIn rows x = λ x here. (in_from_filter kept rows x (index.none_else x here)).0 in
       let size : length ids ≡ length index.named = ap length index.ids_are ∙ length-map index.named number in
       place_among number row_cmp total by_number (place_cmp parent name) key (below_place above called) rows sorted index.named within index.ordered place
@@ -156,35 +156,35 @@ module _ {X : Type 0} (number : X → ℕ) (row_cmp : X → X → Ordering) (tot
         → list_any (λ r. is_placed parent name above called r && test r) rows ≡ passes test (find (λ r. is_placed parent name above called r) rows)
     placed_alone above called test = any_found (is_placed parent name above called) test rows (one_place above called)
 
-    pub found_by_id : (above : ℕ) (called : Text) (i e : ℕ) → IsPlace (place_of parent name above called) index.named (Ok i)
+    pub found_by_id : (above : ℕ) (called : Text) (i e : ℕ) → IsPlace (order_at parent name above called) index.named (Ok i)
         → find (λ r. number r == slice_index_or ids i e) rows ≡ find (λ r. is_placed parent name above called r) rows
     found_by_id above called i e place =
         let row = at_index index.named i place.0 in
         let here : IsIn rows row.0 = index.none_else row.0 row.1 in
         let placed : is_placed parent name above called row.0 ≡ true =
-        placed_decides above called row.0 ∙ ap is_eq (ap (place_of parent name above called) (sym (row.2 row.0)) ∙ place.1 row.0) in
+        placed_decides above called row.0 ∙ ap is_eq (ap (order_at parent name above called) (sym (row.2 row.0)) ∙ place.1 row.0) in
         let id : slice_index_or ids i e ≡ number row.0 =
         ap (λ (l : List ℕ). slice_index_or l i e) index.ids_are ∙ get_or-map number index.named i row.0 e place.0 ∙ ap number (row.2 row.0) in
         ap (λ n. find (λ r. number r == n) rows) id ∙ found_itself number row_cmp total by_number rows sorted row.0 here
         ∙ sym (find_from_in (is_placed parent name above called) rows row.0 here placed (λ y there other. one_place above called y row.0 there here other placed))
 
     -- a place that is free is none of a row's
-    pub none_placed : (above : ℕ) (called : Text) (i : ℕ) → IsPlace (place_of parent name above called) index.named (Err i) → (x : X) → IsIn rows x → is_placed parent name above called x ≡ false
+    pub none_placed : (above : ℕ) (called : Text) (i : ℕ) → IsPlace (order_at parent name above called) index.named (Err i) → (x : X) → IsIn rows x → is_placed parent name above called x ≡ false
     none_placed above called i place x here =
-        let none = (at-Err (place_cmp parent name) (place_of parent name above called) (below_place above called) (is_placed parent name above called) (placed_decides above called)
+        let none = (at-Err (place_cmp parent name) (order_at parent name above called) (below_place above called) (is_placed parent name above called) (placed_decides above called)
         index.named i index.ordered place).found in
         in_from_all (λ y. is_placed parent name above called y ≡ false) index.named (none_passes _ index.named none) x (index.all x here)
 
-    pub none_found : (above : ℕ) (called : Text) (i : ℕ) → IsPlace (place_of parent name above called) index.named (Err i) → find (λ r. is_placed parent name above called r) rows ≡ None
+    pub none_found : (above : ℕ) (called : Text) (i : ℕ) → IsPlace (order_at parent name above called) index.named (Err i) → find (λ r. is_placed parent name above called r) rows ≡ None
     none_found above called i place = none_is_found _ rows (all_from_in _ rows (none_placed above called i place))
 
     -- the index without a row
-    pub index-removed : (row : X) (i : ℕ) → IsIn rows row → IsPlace (place_of parent name (parent row) (name row)) index.named (Ok i)
+    pub index-removed : (row : X) (i : ℕ) → IsIn rows row → IsPlace (order_at parent name (parent row) (name row)) index.named (Ok i)
         → IsIndex number (place_cmp parent name) (filter (λ r. not (number r == number row)) rows) (remove ids i)
     index-removed row i here place =
         let placed = is_placed parent name (parent row) (name row) in
         let rest : filter (λ r. not (placed r)) index.named ≡ remove index.named i =
-        (at-Ok (place_cmp parent name) (place_of parent name (parent row) (name row)) (below_place (parent row) (name row)) placed (placed_decides (parent row) (name row))
+        (at-Ok (place_cmp parent name) (order_at parent name (parent row) (name row)) (below_place (parent row) (name row)) placed (placed_decides (parent row) (name row))
         index.named i row index.ordered place).others in
         record {
           named = filter (λ r. not (placed r)) index.named;
@@ -213,7 +213,7 @@ module _ {X : Type 0} (number : X → ℕ) (row_cmp : X → X → Ordering) (tot
         other_number x there false e other = refl
 
     -- no place is free where a row is
-    pub row_placed : (row : X) (i : ℕ) → IsIn rows row → IsPlace (place_of parent name (parent row) (name row)) index.named (Err i) → ⊥
+    pub row_placed : (row : X) (i : ℕ) → IsIn rows row → IsPlace (order_at parent name (parent row) (name row)) index.named (Err i) → ⊥
     row_placed row i here place =
         let no : is_placed parent name (parent row) (name row) row ≡ false = none_placed (parent row) (name row) i place row here in
         let yes : is_placed parent name (parent row) (name row) row ≡ true = placed_itself row in
@@ -221,7 +221,7 @@ module _ {X : Type 0} (number : X → ℕ) (row_cmp : X → X → Ordering) (tot
 
   -- the index with a row, which takes the place of the one with its id
   pub index-put : (rows : List X) → IsStrictlySortedBy row_cmp rows → (row : X) (ids : List ℕ) (index : IsIndex number (place_cmp parent name) (filter (λ r. not (number r == number row)) rows) ids)
-      (i : ℕ) → IsPlace (place_of parent name (parent row) (name row)) index.named (Err i) → IsIndex number (place_cmp parent name) (with_row row_cmp rows row) (insert ids i (number row))
+      (i : ℕ) → IsPlace (order_at parent name (parent row) (name row)) index.named (Err i) → IsIndex number (place_cmp parent name) (with_row row_cmp rows row) (insert ids i (number row))
   index-put rows sorted row ids index i place =
       let new : with_row (place_cmp parent name) index.named row ≡ insert index.named i row = with_row-before (place_cmp parent name) index.named row i place.0 place.1 place.2 in
       record {
@@ -254,7 +254,7 @@ module _ {X : Type 0} (number : X → ℕ) (row_cmp : X → X → Ordering) (tot
 
       free : (x : X) → IsIn index.named x → place_cmp parent name row x ≡ Equal → ⊥
       free x here same =
-          let none = (at-Err (place_cmp parent name) (place_of parent name (parent row) (name row)) (below_place (parent row) (name row)) (is_placed parent name (parent row) (name row))
+          let none = (at-Err (place_cmp parent name) (order_at parent name (parent row) (name row)) (below_place (parent row) (name row)) (is_placed parent name (parent row) (name row))
           (placed_decides (parent row) (name row)) index.named i index.ordered place).found in
           let no : is_placed parent name (parent row) (name row) x ≡ false =
           in_from_all (λ y. is_placed parent name (parent row) (name row) y ≡ false) index.named (none_passes _ index.named none) x here in
@@ -297,44 +297,44 @@ module _ {X : Type 0} (number : X → ℕ) (row_cmp : X → X → Ordering) (tot
     (parent : X → ℕ) (name : X → Text) (rows : List X) (sorted : IsStrictlySortedBy row_cmp rows) (row : X) where
   -- the index without the row of an id, where its place was sought
   pub index-forgot : (ids : List ℕ) (index : IsIndex number (place_cmp parent name) rows ids) (id above : ℕ) (called : Text) (i : ℕ) → Some row ≡ find (λ r. number r == id) rows
-      → above ≡ parent row → called ≡ name row → IsPlace (place_of parent name above called) index.named (Ok i) → IsIndex number (place_cmp parent name) (filter (λ r. not (number r == id)) rows) (remove ids i)
+      → above ≡ parent row → called ≡ name row → IsPlace (order_at parent name above called) index.named (Ok i) → IsIndex number (place_cmp parent name) (filter (λ r. not (number r == id)) rows) (remove ids i)
   index-forgot ids index id above called i found at_is called_is place =
       let here = in_from_find (λ r. number r == id) rows row (sym found) in
-      let there = subst (λ n. IsPlace (place_of parent name n called) index.named (Ok i)) at_is place in
-      let placed = subst (λ (t : Text). IsPlace (place_of parent name (parent row) t) index.named (Ok i)) called_is there in
+      let there = subst (λ n. IsPlace (order_at parent name n called) index.named (Ok i)) at_is place in
+      let placed = subst (λ (t : Text). IsPlace (order_at parent name (parent row) t) index.named (Ok i)) called_is there in
       subst (λ n. IsIndex number (place_cmp parent name) (filter (λ r. not (number r == n)) rows) (remove ids i)) (eqb-true _ _ here.1)
       (index-removed number row_cmp total by_number parent name rows sorted ids index row i here.0 placed)
 
   -- its place is not free
   pub place_taken : (ids : List ℕ) (index : IsIndex number (place_cmp parent name) rows ids) (id above : ℕ) (called : Text) (i : ℕ) → Some row ≡ find (λ r. number r == id) rows
-      → above ≡ parent row → called ≡ name row → IsPlace (place_of parent name above called) index.named (Err i) → ⊥
+      → above ≡ parent row → called ≡ name row → IsPlace (order_at parent name above called) index.named (Err i) → ⊥
   place_taken ids index id above called i found at_is called_is place =
       let here = in_from_find (λ r. number r == id) rows row (sym found) in
-      let there = subst (λ n. IsPlace (place_of parent name n called) index.named (Err i)) at_is place in
-      let placed = subst (λ (t : Text). IsPlace (place_of parent name (parent row) t) index.named (Err i)) called_is there in
+      let there = subst (λ n. IsPlace (order_at parent name n called) index.named (Err i)) at_is place in
+      let placed = subst (λ (t : Text). IsPlace (order_at parent name (parent row) t) index.named (Err i)) called_is there in
       row_placed number row_cmp total by_number parent name rows sorted ids index row i here.0 placed
 
   -- the index with a row, where its place was sought
   pub index-added : (id above : ℕ) (called : Text) → id ≡ number row → above ≡ parent row → called ≡ name row
       → (ids : List ℕ) (index : IsIndex number (place_cmp parent name) (filter (λ r. not (number r == id)) rows) ids) (i : ℕ)
-      → IsPlace (place_of parent name above called) index.named (Err i) → IsIndex number (place_cmp parent name) (with_row row_cmp rows row) (insert ids i id)
+      → IsPlace (order_at parent name above called) index.named (Err i) → IsIndex number (place_cmp parent name) (with_row row_cmp rows row) (insert ids i id)
   index-added id above called id_is at_is called_is =
       subst (λ n. (ids : List ℕ) (index : IsIndex number (place_cmp parent name) (filter (λ r. not (number r == n)) rows) ids) (i : ℕ)
-      → IsPlace (place_of parent name above called) index.named (Err i) → IsIndex number (place_cmp parent name) (with_row row_cmp rows row) (insert ids i n)) (sym id_is)
+      → IsPlace (order_at parent name above called) index.named (Err i) → IsIndex number (place_cmp parent name) (with_row row_cmp rows row) (insert ids i n)) (sym id_is)
       (λ ids index i place.
-      let there = subst (λ n. IsPlace (place_of parent name n called) index.named (Err i)) at_is place in
-      let placed = subst (λ (t : Text). IsPlace (place_of parent name (parent row) t) index.named (Err i)) called_is there in
+      let there = subst (λ n. IsPlace (order_at parent name n called) index.named (Err i)) at_is place in
+      let placed = subst (λ (t : Text). IsPlace (order_at parent name (parent row) t) index.named (Err i)) called_is there in
       index-put number row_cmp total by_number parent name rows sorted row ids index i placed)
 
   -- a place that no other row has is free
   pub place_free : (id above : ℕ) (called : Text) → id ≡ number row → above ≡ parent row → called ≡ name row
       → list_any (λ o. is_placed parent name (parent row) (name row) o && not (number o == number row)) rows ≡ false
-      → (ids : List ℕ) (index : IsIndex number (place_cmp parent name) (filter (λ r. not (number r == id)) rows) ids) (i : ℕ) → IsPlace (place_of parent name above called) index.named (Ok i) → ⊥
+      → (ids : List ℕ) (index : IsIndex number (place_cmp parent name) (filter (λ r. not (number r == id)) rows) ids) (i : ℕ) → IsPlace (order_at parent name above called) index.named (Ok i) → ⊥
   place_free id above called id_is at_is called_is free ids index i place =
       let found = at_index index.named i place.0 in
       let kept = in_from_filter (λ r. not (number r == id)) rows found.0 (index.none_else found.0 found.1) in
       let placed : is_placed parent name above called found.0 ≡ true =
-      placed_decides number row_cmp total by_number parent name above called found.0 ∙ ap is_eq (ap (place_of parent name above called) (sym (found.2 found.0)) ∙ place.1 found.0) in
+      placed_decides number row_cmp total by_number parent name above called found.0 ∙ ap is_eq (ap (order_at parent name above called) (sym (found.2 found.0)) ∙ place.1 found.0) in
       let here : is_placed parent name (parent row) (name row) found.0 ≡ true =
       ap (λ n. is_placed parent name n (name row) found.0) (sym at_is) ∙ ap (λ (t : Text). is_placed parent name above t found.0) (sym called_is) ∙ placed in
       let other : not (number found.0 == number row) ≡ true = ap (λ n. not (number found.0 == n)) (sym id_is) ∙ kept.1 in

@@ -1,9 +1,11 @@
 mod Descending
 mod Finding
 mod IndexKeys
+mod GroupLists
 mod Indexes
 mod Locating
 mod Runs
+mod SamePlaces
 mod Searching
 mod SharedAttributes
 mod Trees

@@ -13,8 +13,8 @@ module _ {X : Type 0} (parent : X → ℕ) (name : X → Text) where
   place_cmp a b = ordering_then (nat_cmp (parent a) (parent b)) (text_cmp (name a) (name b))
 
   -- how a name in a parent stands to a row
-  abbrev pub place_of : ℕ → Text → X → Ordering
-  place_of above called r = ordering_then (nat_cmp above (parent r)) (text_cmp called (name r))
+  abbrev pub order_at : ℕ → Text → X → Ordering
+  order_at above called r = ordering_then (nat_cmp above (parent r)) (text_cmp called (name r))
 
   -- a row has this name in this parent
   abbrev pub is_placed : ℕ → Text → X → Bool

@@ -22,7 +22,7 @@ use Rattle.grid_tables.specs.declared.index_key.ReplicaOnLeaf.{ReplicaOnLeaf}
 use Rattle.grid_tables.specs.declared.index_key.ItemWithAttribute.{ItemWithAttribute}
 use Rattle.grid_tables.specs.Items.{falls_by}
 
-first_tie : (a b : Ordering) → ordering_then a b ≡ Equal → a ≡ Equal
+pub first_tie : (a b : Ordering) → ordering_then a b ≡ Equal → a ≡ Equal
 first_tie Less b e = absurd (cc)
 first_tie Equal b e = refl
 first_tie Greater b e = absurd (cc)
@@ -32,7 +32,7 @@ rest_tie Less b e = absurd (cc)
 rest_tie Equal b e = e
 rest_tie Greater b e = absurd (cc)
 
-number_whole : (m n : ℕ) → nat_cmp m n ≡ Equal → m ≡ n
+pub number_whole : (m n : ℕ) → nat_cmp m n ≡ Equal → m ≡ n
 number_whole m n e = ranked m n Equal (sym e)
 
 pub kind_whole : (a b : ItemKind) → item_number a ≡ item_number b → a ≡ b

@@ -2,6 +2,8 @@ pub mod Counts
 pub mod Descending
 pub mod KeyOrders
 pub mod IndexKeys
+pub mod GroupLaws
+pub mod GroupLists
 pub mod Indexes
 pub mod Items
 pub mod Places

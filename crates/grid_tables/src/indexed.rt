@@ -9,23 +9,23 @@ ghost use Rattle.grid_model.specs.Names.{same_text};
 ghost use Rattle.grid_tables.specs.IndexKeys.{AreKeysOf};
 ghost use Rattle.grid_tables.specs.Places.{IsPlace, Falls, StartsAt, RowsAtFront, passes};
 
+use crate::grouped::{GroupKey, Grouped, InOneGroup};
+use crate::groups::Groups;
 use crate::index_key::{Front, IndexKey, ItemWithAttribute, OwnKey};
-use crate::probe::Probe;
 use crate::row::{Numbered, OfItem, Row};
-use crate::table::Table;
 use grid_model::{ItemKind, Text, TripleRow};
 use std::alloc::{AllocError, Global};
 use std::marker::Model;
 
 /// Rows in rising order of their keys, and other keys of theirs in an order of their own.
 #[derive(Debug, Drop)]
-pub(crate) struct Indexed<T: Row, K: IndexKey<T>> {
-    rows: Table<T>,
+pub(crate) struct Indexed<T: Grouped, K: IndexKey<T>> {
+    rows: Groups<T>,
     keys: Vec<K>,
     alloc: Global,
 }
 
-impl<T: Row, K: IndexKey<T>> Model for Indexed<T, K> {
+impl<T: Grouped, K: IndexKey<T>> Model for Indexed<T, K> {
     ghost use Rattle.std.specs.Prelude.{List};
     ghost use Rattle.grid_tables.specs.IndexKeys.{AreKeysOf};
 
@@ -45,12 +45,16 @@ fn key_place<T: Row, K: IndexKey<T>>(keys: &[K], row: &T) -> Result<usize, usize
 }
 
 // Takes the key of a row out, where no other row has it.
-fn forget_key<T: Row, K: OwnKey<T> + Drop, Q: Probe<T>>(rows: &Table<T>, keys: &mut Vec<K>, key: Q)
+fn forget_key<T: Grouped, K: OwnKey<T> + Drop, Q: GroupKey<T>>(
+    rows: &Groups<T>,
+    keys: &mut Vec<K>,
+    key: Q,
+)
     ensures index { let are = AreKeysOf K.of K.row_cmp in are rows.now keys.old.items → are (filter (λ r. not (Q.is_key_of key r)) rows.now) keys.new.items }
     ensures unchanged { list_any (λ r. Q.is_key_of key r) rows.now ≡ false → keys.new.items ≡ keys.old.items }
     ensures room { vec_len keys.old < vec_capacity keys.old → vec_len keys.new < vec_capacity keys.new }
 {
-    let _rows = rows.as_slice();
+    rows.in_order();
     match rows.get(key) {
         Some(row) => match key_place(keys.as_slice(), row) {
             Ok(at) => {
@@ -78,28 +82,28 @@ fn first_of_front<K: Row, F: Front<K>>(keys: &[K], front: F) -> usize
     keys.partition_point(|key| front.side(key).is_eq())
 }
 
-impl<T: Row, K: IndexKey<T>> Indexed<T, K> {
+impl<T: Grouped, K: IndexKey<T>> Indexed<T, K> {
     /// No rows. It takes no memory.
     pub(crate) fn empty(alloc: Global) -> Indexed<T, K>
         ensures { result ≡ [] }
     {
         Indexed {
-            rows: Table::empty(alloc),
+            rows: Groups::empty(alloc),
             keys: Vec::new(alloc),
             alloc,
         }
     }
 
-    /// The rows.
-    pub(crate) fn as_slice(&self) -> &[T]
-        ensures rows { result.now ≡ self.now }
-        ensures table { IsTable T.row_cmp T.fits self.now }
+    /// The keys of the rows strictly rise. It does nothing.
+    pub(crate) fn in_order(&self)
+        ensures { IsTable T.row_cmp T.fits self.now }
     {
-        self.rows.as_slice()
+        let _keys = &self.keys;
+        self.rows.in_order();
     }
 
     /// The row with this key.
-    pub(crate) fn get<Q: Probe<T>>(&self, key: Q) -> Option<&T>
+    pub(crate) fn get<Q: GroupKey<T>>(&self, key: Q) -> Option<&T>
         ensures row { option_copied result ≡ find (λ r. Q.is_key_of key r) self.now }
         ensures fits { IfSome result (λ row. IsTrue (T.fits row.now)) }
         ensures alone { (test : T → Bool) → list_any (λ r. Q.is_key_of key r && test r) self.now ≡ passes test (option_copied result) }
@@ -108,7 +112,7 @@ impl<T: Row, K: IndexKey<T>> Indexed<T, K> {
     }
 
     /// Whether a row has this key.
-    pub(crate) fn has<Q: Probe<T>>(&self, key: Q) -> bool
+    pub(crate) fn has<Q: GroupKey<T>>(&self, key: Q) -> bool
         ensures { result ≡ list_any (λ r. Q.is_key_of key r) self.now }
     {
         self.rows.has(key)
@@ -135,7 +139,17 @@ impl<T: Row, K: IndexKey<T>> Indexed<T, K> {
     }
 }
 
-impl<T: Numbered, K: IndexKey<T>> Indexed<T, K> {
+impl<T: InOneGroup, K: IndexKey<T>> Indexed<T, K> {
+    /// The rows.
+    pub(crate) fn as_slice(&self) -> &[T]
+        ensures rows { result.now ≡ self.now }
+        ensures table { IsTable T.row_cmp T.fits self.now }
+    {
+        self.rows.as_slice()
+    }
+}
+
+impl<T: InOneGroup + Numbered, K: IndexKey<T>> Indexed<T, K> {
     /// The row with the greatest id.
     pub(crate) fn last(&self) -> Option<&T>
         ensures greatest { IfSome result (λ row. (id : ℕ) → T.number row.now < id → list_any (λ r. T.number r == id) self.now ≡ false) }
@@ -163,7 +177,7 @@ impl<T: OfItem, K: IndexKey<T>> Indexed<T, K> {
     }
 }
 
-impl<T: Row + Drop, K: OwnKey<T> + Drop> Indexed<T, K> {
+impl<T: Grouped + Drop, K: OwnKey<T> + Drop> Indexed<T, K> {
     /// Puts a row in the place of the one with its key, or where it belongs. Fails for want of memory alone, and then
     /// nothing is put.
     pub(crate) fn put(&mut self, row: T) -> Result<(), AllocError>
@@ -171,7 +185,7 @@ impl<T: Row + Drop, K: OwnKey<T> + Drop> Indexed<T, K> {
         ensures put { OnOk result (self.new ≡ with_row T.row_cmp self.old row) }
         ensures failed { OnErr result (self.new ≡ self.old) }
     {
-        let _rows = self.rows.as_slice();
+        self.rows.in_order();
         let key = K::key_of(self.alloc, &row)?;
         self.keys.reserve(1)?;
         forget_key(&self.rows, &mut self.keys, &row);
@@ -187,7 +201,7 @@ impl<T: Row + Drop, K: OwnKey<T> + Drop> Indexed<T, K> {
     }
 
     /// Drops the row with this key, where there is one.
-    pub(crate) fn remove<Q: Probe<T>>(&mut self, key: Q)
+    pub(crate) fn remove<Q: GroupKey<T>>(&mut self, key: Q)
         ensures { self.new ≡ filter (λ r. not (Q.is_key_of key r)) self.old }
     {
         forget_key(&self.rows, &mut self.keys, key);
@@ -214,7 +228,7 @@ fn drop_key<T: Row, K: IndexKey<T> + Drop>(keys: &mut Vec<K>, row: &T)
     }
 }
 
-impl<T: Row + Drop, K: IndexKey<T> + Drop> Indexed<T, K> {
+impl<T: Grouped + Drop, K: IndexKey<T> + Drop> Indexed<T, K> {
     /// Puts a row that is not there where it belongs. Fails for want of memory alone, and then nothing is put.
     pub(crate) fn put_new(&mut self, row: T) -> Result<(), AllocError>
         requires fits { IsTrue (T.fits row) }
@@ -222,7 +236,7 @@ impl<T: Row + Drop, K: IndexKey<T> + Drop> Indexed<T, K> {
         ensures put { OnOk result (self.new ≡ with_row T.row_cmp self.old row) }
         ensures failed { OnErr result (self.new ≡ self.old) }
     {
-        let _rows = self.rows.as_slice();
+        self.rows.in_order();
         let key = K::key_of(self.alloc, &row)?;
         self.keys.reserve(1)?;
         let place = key_place(self.keys.as_slice(), &row);
@@ -242,7 +256,7 @@ impl Indexed<TripleRow, ItemWithAttribute> {
     pub(crate) fn remove_triple(&mut self, row: &TripleRow)
         ensures { self.new ≡ filter (λ r. not (eq_by_cmp triple_cmp r row.now)) self.old }
     {
-        let _rows = self.rows.as_slice();
+        self.rows.in_order();
         self.rows.remove(row);
         let shared = has_attribute(self.rows.of_item(row.kind, row.id), &row.attribute);
         if !shared {

@@ -5,6 +5,8 @@ mod access;
 mod collections;
 mod counts;
 mod error;
+mod grouped;
+mod groups;
 mod index_key;
 mod indexed;
 mod keyed;

@@ -221,7 +221,7 @@ impl Tables {
         let _members = self.members.as_slice();
         let _collections = self.collections.len();
         let _objects = self.objects.len();
-        let _replicas = self.replicas.as_slice();
+        self.replicas.in_order();
         let _triples = self.triples.as_slice();
         let _entries = self.entries.as_slice();
         let _resources = self.resources.as_slice();

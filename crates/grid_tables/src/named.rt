@@ -5,7 +5,7 @@ ghost use Rattle.std.specs.List.Sorted.{IsPartitionedBy, IsSearchInRange, IsStri
 ghost use Rattle.std.specs.Ordering.{is_eq};
 ghost use Rattle.std.specs.Option.{option_copied};
 ghost use Rattle.grid_model.specs.Rows.{IsTable, with_row};
-ghost use Rattle.grid_tables.specs.Indexes.{IsIndex, IsNameIndex, place_cmp, place_of, is_placed, found_order, side_at, IsPlacedOnce};
+ghost use Rattle.grid_tables.specs.Indexes.{IsIndex, IsNameIndex, place_cmp, order_at, is_placed, found_order, side_at, IsPlacedOnce};
 ghost use Rattle.grid_tables.specs.Places.{IsPlace, Falls, StartsAt, RowsAtFront, passes};
 
 use crate::keyed::Keyed;
@@ -35,7 +35,7 @@ impl<T: Placed> Model for Named<T> {
 
 // How a place stands to that of the row with this id.
 fn order_at<T: Placed>(rows: &Keyed<T>, id: u64, parent: u64, name: &Text) -> Ordering
-    ensures { result ≡ found_order (place_of T.parent T.name parent name.now) (find (λ r. T.number r == id) rows.now) }
+    ensures { result ≡ found_order (order_at T.parent T.name parent name.now) (find (λ r. T.number r == id) rows.now) }
 {
     match rows.get(id) {
         Some(row) => parent.cmp(&row.parent()).then(name.cmp(row.name())),
@@ -46,7 +46,7 @@ fn order_at<T: Placed>(rows: &Keyed<T>, id: u64, parent: u64, name: &Text) -> Or
 // Where a place belongs among ids in the order of theirs, by a binary search.
 fn seek<T: Placed>(rows: &Keyed<T>, ids: &[u64], parent: u64, name: &Text) -> Result<usize, usize>
     ensures within { IsSearchInRange result (length ids.now) }
-    ensures place { let place = place_of T.parent T.name parent name.now in (kept : T → Bool)
+    ensures place { let place = order_at T.parent T.name parent name.now in (kept : T → Bool)
         → (index : IsNameIndex T.number T.parent T.name (filter kept rows.now) ids.now) → IsPlace place index.named result }
 {
     let _count = rows.len();
@@ -55,7 +55,8 @@ fn seek<T: Placed>(rows: &Keyed<T>, ids: &[u64], parent: u64, name: &Text) -> Re
 
 // Takes the id of a row out.
 fn forget<T: Placed>(rows: &Keyed<T>, ids: &mut Vec<u64>, id: u64)
-    ensures index { let named = IsNameIndex T.number T.parent T.name in named rows.now ids.old.items → named (filter (λ r. not (T.number r == id)) rows.now) ids.new.items }
+    ensures index { let is_index = IsNameIndex T.number T.parent T.name in
+        is_index rows.now ids.old.items → is_index (filter (λ r. not (T.number r == id)) rows.now) ids.new.items }
     ensures unchanged { list_any (λ r. T.number r == id) rows.now ≡ false → ids.new.items ≡ ids.old.items }
     ensures room { vec_len ids.old < vec_capacity ids.old → vec_len ids.new < vec_capacity ids.new }
 {
@@ -180,10 +181,26 @@ impl<T: Placed> Named<T> {
     }
 }
 
+impl<T: Placed> Named<T> {
+    // Whether the row with this one's id has its name and its parent.
+    fn is_in_place(&self, row: &T) -> bool
+        ensures { result ≡ is_eq (found_order (λ r. place_cmp T.parent T.name r row.now) (find (λ r. T.number r == T.number row.now) self.now)) }
+    {
+        match self.rows.get(row.number()) {
+            Some(old) => old
+                .parent()
+                .cmp(&row.parent())
+                .then(old.name().cmp(row.name()))
+                .is_eq(),
+            None => false,
+        }
+    }
+}
+
 impl<T: Placed + Drop> Named<T> {
-    /// Puts a row in the place of the one with its id, or where it belongs, where no other row has its name in its
-    /// parent. Fails for want of memory alone, and then nothing is put.
-    pub(crate) fn put(&mut self, row: T) -> Result<(), AllocError>
+    // Takes the id of the row with this one's id out, and puts the row where it belongs. Fails for want of memory alone,
+    // and then nothing is put.
+    fn put_anew(&mut self, row: T) -> Result<(), AllocError>
         requires fits { IsTrue (T.fits row) }
         requires free { list_any (λ o. is_placed T.parent T.name (T.parent row) (T.name row) o && not (T.number o == T.number row)) self.old ≡ false }
         ensures put { OnOk result (self.new ≡ with_row T.row_cmp self.old row) }
@@ -207,6 +224,21 @@ impl<T: Placed + Drop> Named<T> {
             Ok(_) => {}
         }
         Ok(())
+    }
+
+    /// Puts a row in the place of the one with its id, or where it belongs, where no other row has its name in its
+    /// parent. Fails for want of memory alone, and then nothing is put.
+    pub(crate) fn put(&mut self, row: T) -> Result<(), AllocError>
+        requires fits { IsTrue (T.fits row) }
+        requires free { list_any (λ o. is_placed T.parent T.name (T.parent row) (T.name row) o && not (T.number o == T.number row)) self.old ≡ false }
+        ensures put { OnOk result (self.new ≡ with_row T.row_cmp self.old row) }
+        ensures failed { OnErr result (self.new ≡ self.old) }
+    {
+        let _count = self.rows.len();
+        if self.is_in_place(&row) {
+            return self.rows.put(row);
+        }
+        self.put_anew(row)
     }
 
     /// Drops the row with this id, where there is one.

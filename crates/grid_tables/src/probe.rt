@@ -109,7 +109,7 @@ impl Probe<EntryRow> for EntryKey {
 
     ghost decides = { λ q r. same_entry (item_number q.kind) q.id q.user (item_number r.kind) r.id r.user };
 
-    ghost below_greater = { λ q a b less le. below_entry (item_number q.kind) q.id q.user (item_number a.kind) a.id a.user (item_number b.kind) b.id b.user le less };
+    ghost below_greater = { λ q a b l m. below_entry (item_number q.kind) q.id q.user (item_number a.kind) a.id a.user (item_number b.kind) b.id b.user m l };
 
     fn compare(&self, row: &EntryRow) -> Ordering {
         item_number(self.kind)

@@ -12,7 +12,9 @@ ghost use Rattle.grid_model.proofs.RowOrders.{user_cmp_total, member_cmp_total, 
 ghost use Rattle.grid_model.proofs.RowOrders.{triple_cmp_total, entry_cmp_total, resource_cmp_total, orphan_cmp_total};
 ghost use Rattle.grid_tables.specs.Roots.{is_whole_collection};
 ghost use Rattle.grid_tables.specs.Items.{order_of_item, belongs_to, replica_falls, triple_falls, entry_falls};
+ghost use Rattle.grid_tables.specs.GroupLaws.{item_leads};
 
+use crate::grouped::Grouped;
 use crate::kinds::{item_number, order_of_item};
 use grid_model::{
     CollectionRow, EntryRow, ItemKind, MemberRow, ObjectRow, OrphanRow, ReplicaRow, ResourceRow,
@@ -154,18 +156,26 @@ impl Row for OrphanRow {
 }
 
 /// A row that belongs to an item. The rows of one item stand next to one another.
-pub(crate) trait OfItem: Row {
+pub(crate) trait OfItem: Grouped {
     ghost is_of: { Self → ItemKind → ℕ → Bool };
 
     ghost item_order: { ItemKind → ℕ → Self → Ordering };
+
+    ghost item_group: { ItemKind → ℕ → ℕ };
 
     /// How the item of this kind and id stands to the one that it belongs to.
     fn item_order(&self, kind: ItemKind, id: u64) -> Ordering
         ensures { result ≡ item_order kind id self.now };
 
+    /// The number of the group that the rows of an item are in.
+    fn item_group(kind: ItemKind, id: u64) -> u64
+        ensures { result ≡ item_group kind id };
+
     ghost belongs: { (kind : ItemKind) (id : ℕ) (r : Self) → is_of r kind id ≡ is_eq (item_order kind id r) };
 
-    ghost falls: { (kind : ItemKind) (id : ℕ) (a b : Self) → Self.row_cmp a b ≡ Less → ordering_index (item_order kind id b) ≤ ordering_index (item_order kind id a) };
+    ghost falls: { (k : ItemKind) (i : ℕ) (a b : Self) → Self.Row.row_cmp a b ≡ Less → ordering_index (item_order k i b) ≤ ordering_index (item_order k i a) };
+
+    ghost in_group: { (kind : ItemKind) (id : ℕ) (r : Self) → is_of r kind id ≡ true → Self.group r ≡ item_group kind id };
 }
 
 impl OfItem for ReplicaRow {
@@ -177,8 +187,16 @@ impl OfItem for ReplicaRow {
 
     ghost falls = { λ kind id a b. replica_falls kind id a b };
 
+    ghost item_group = { λ _ id. id };
+
+    ghost in_group = { λ kind id r same. item_leads kind id r.object same };
+
     fn item_order(&self, kind: ItemKind, id: u64) -> Ordering {
         order_of_item(kind, id, ItemKind::Object, self.object)
+    }
+
+    fn item_group(_kind: ItemKind, id: u64) -> u64 {
+        id
     }
 }
 
@@ -191,8 +209,16 @@ impl OfItem for TripleRow {
 
     ghost falls = { λ kind id a b. triple_falls kind id a b };
 
+    ghost item_group = { λ _ _. 0 };
+
+    ghost in_group = { λ kind id r same. refl };
+
     fn item_order(&self, kind: ItemKind, id: u64) -> Ordering {
         order_of_item(kind, id, self.kind, self.id)
+    }
+
+    fn item_group(_kind: ItemKind, _id: u64) -> u64 {
+        0
     }
 }
 
@@ -205,8 +231,16 @@ impl OfItem for EntryRow {
 
     ghost falls = { λ kind id a b. entry_falls kind id a b };
 
+    ghost item_group = { λ _ _. 0 };
+
+    ghost in_group = { λ kind id r same. refl };
+
     fn item_order(&self, kind: ItemKind, id: u64) -> Ordering {
         order_of_item(kind, id, self.kind, self.id)
+    }
+
+    fn item_group(_kind: ItemKind, _id: u64) -> u64 {
+        0
     }
 }
 

@@ -11,9 +11,9 @@ ghost use Rattle.grid_model.specs.Rows.{IsTable, replica_cmp, replicas_of, with_
 
 use crate::index_key::ReplicaOnLeaf;
 use crate::indexed::Indexed;
+use crate::keyed::Keyed;
 use crate::probe::ReplicaKey;
 use crate::row::{Numbered, Row};
-use crate::table::Table;
 use grid_model::{ItemKind, ReplicaRow};
 use std::alloc::{AllocError, Global};
 use std::cmp::Ordering;
@@ -53,7 +53,7 @@ impl Numbered for Vault {
 #[derive(Debug, Drop)]
 pub(crate) struct Replicas {
     rows: Indexed<ReplicaRow, ReplicaOnLeaf>,
-    vaults: Table<Vault>,
+    vaults: Keyed<Vault>,
 }
 
 impl Model for Replicas {
@@ -76,16 +76,16 @@ impl Replicas {
     {
         Replicas {
             rows: Indexed::empty(alloc),
-            vaults: Table::empty(alloc),
+            vaults: Keyed::empty(alloc),
         }
     }
 
-    /// The replicas.
-    pub(crate) fn as_slice(&self) -> &[ReplicaRow]
-        ensures rows { result.now ≡ self.now }
-        ensures table { IsTable ⟦<ReplicaRow as Row>⟧.row_cmp ⟦<ReplicaRow as Row>⟧.fits self.now }
+    /// The keys of the replicas strictly rise. It does nothing.
+    pub(crate) fn in_order(&self)
+        ensures { IsTable ⟦<ReplicaRow as Row>⟧.row_cmp ⟦<ReplicaRow as Row>⟧.fits self.now }
     {
-        self.rows.as_slice()
+        let _vaults = &self.vaults;
+        self.rows.in_order();
     }
 
     /// The replicas of an object, by number.
@@ -121,7 +121,7 @@ impl Replicas {
     pub(crate) fn has_other_with_vault(&self, row: &ReplicaRow) -> bool
         ensures { result ≡ list_any (λ o. (o.vault == row.now.vault) && not (is_replica row.now.object row.now.number o)) self.now }
     {
-        let _rows = self.rows.as_slice();
+        self.rows.in_order();
         match vault_of(&self.rows, row.object, row.number) {
             Some(own) => {
                 if own == row.vault {
@@ -140,7 +140,7 @@ impl Replicas {
         ensures put { OnOk result (self.new ≡ with_row replica_cmp self.old row) }
         ensures failed { OnErr result (self.new ≡ self.old) }
     {
-        let _rows = self.rows.as_slice();
+        self.rows.in_order();
         let vault = row.vault;
         let known = self.vaults.has(vault);
         let before = vault_of(&self.rows, row.object, row.number);
@@ -162,7 +162,7 @@ impl Replicas {
     pub(crate) fn remove(&mut self, object: u64, number: u32)
         ensures { self.new ≡ filter (λ r. not (is_replica object number r)) self.old }
     {
-        let _rows = self.rows.as_slice();
+        self.rows.in_order();
         let before = vault_of(&self.rows, object, number);
         self.rows.remove(ReplicaKey { object, number });
         match before {
@@ -183,7 +183,7 @@ fn vault_of(rows: &Indexed<ReplicaRow, ReplicaOnLeaf>, object: u64, number: u32)
 }
 
 // Drops a vault number where the flag says so.
-fn drop_where(vaults: &mut Table<Vault>, is_dropped: bool, vault: u64)
+fn drop_where(vaults: &mut Keyed<Vault>, is_dropped: bool, vault: u64)
     ensures { (n : ℕ) → list_any (λ v. v.vault == n) vaults.new ≡ list_any (λ v. v.vault == n) vaults.old && not (is_dropped && (n == vault)) }
 {
     if is_dropped {
@@ -192,7 +192,7 @@ fn drop_where(vaults: &mut Table<Vault>, is_dropped: bool, vault: u64)
 }
 
 // Drops the vault number from before where it is another one.
-fn drop_other(vaults: &mut Table<Vault>, before: Option<u64>, vault: u64)
+fn drop_other(vaults: &mut Keyed<Vault>, before: Option<u64>, vault: u64)
     ensures { (n : ℕ) → list_any (λ v. v.vault == n) vaults.new ≡ list_any (λ v. v.vault == n) vaults.old && not (is_left before vault n) }
 {
     match before {

@@ -43,7 +43,7 @@ pub fn has_targets(alloc: Global, tables: &Tables, resource: u32) -> Result<bool
 fn all_below(alloc: Global, tables: &Tables, level: &[u32]) -> Result<Vec<u32>, AllocError>
     requires made { IsMade tables.now }
     requires there { AllByRecursion (λ id. IsTrue (has_resource tables.now id)) level.now }
-    ensures { IfOk result (λ next. AreNamed tables.now next.items (flat_map (below (grid_of tables.now).resources) (map (resource_name tables.now) level.now))) }
+    ensures { IfOk result (λ it. AreNamed tables.now it.items (flat_map (below (grid_of tables.now).resources) (map (resource_name tables.now) level.now))) }
 {
     let mut next = Vec::new(alloc);
     for id in level {

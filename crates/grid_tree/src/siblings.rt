@@ -43,7 +43,8 @@ pub fn children_in_order(
 
 // The children of a resource, by id in the order of their rows.
 fn found_below(alloc: Global, tables: &Tables, parent: u32) -> Result<Vec<Child>, AllocError>
-    ensures { IfOk result (λ found. found.items ≡ map (λ (r : ResourceRow). record { place = r.place; id = r.id }) (filter (lies_below parent) tables.now.resources)) }
+    ensures { IfOk result (λ found. found.items ≡ map (λ (resource : ResourceRow). record { place = resource.place; id = resource.id })
+        (filter (lies_below parent) tables.now.resources)) }
 {
     tables
         .resources()

@@ -1,9 +1,11 @@
 use crate::ending::exit_status;
+use crate::telling::{Failures, complaint};
 use crate::words::program_words;
 use grid_model::Side;
 use grid_outside::Wear;
 use grid_server::Status;
 use std::env::{Env, FillError};
+use std::io::Error;
 use std::test::Fail;
 
 // A program with a long word, and one that is no text.
@@ -43,29 +45,73 @@ fn words_are_read_byte_for_byte(rt: HostRuntime) -> Result<(), Fail> {
     Ok(())
 }
 
+// An end with the exit status that it has, and the line that people are told of it.
+#[derive(Clone, Copy)]
+struct End {
+    status: Status,
+    exit: u8,
+    line: &'static str,
+}
+
+const fn told(status: Status, exit: u8, line: &'static str) -> End {
+    End { status, exit, line }
+}
+
 #[test]
-fn each_end_has_its_exit_status(rt: HostRuntime) {
+fn each_end_is_told(rt: HostRuntime) -> Result<(), Fail> {
     let side = Side::Main;
-    for (status, exit) in [
-        (Status::Done, 0),
-        (Status::Usage, 2),
-        (Status::NotACatalogue { side, at: 7 }, 3),
-        (Status::NotEmpty { side, len: 7 }, 3),
-        (Status::Stores { kept: 1, given: 8 }, 3),
-        (Status::NotPlain, 3),
-        (Status::DiskFault, 4),
-        (Status::SourceFault, 5),
-        (Status::SinkFault, 6),
-        (Status::Memory, 7),
-        (Status::Long { taken: 7 }, 8),
-        (
-            Status::Worn {
-                what: Wear::Log,
-                at: 7,
-            },
+    let what = Wear::Log;
+    let failures = Failures {
+        main: None,
+        spare: Some(Error::from_raw_os_error(5)),
+        source: Some(Error::from_raw_os_error(21)),
+        sink: Some(Error::from_raw_os_error(32)),
+    };
+    for end in [
+        told(Status::Done, 0, ""),
+        told(
+            Status::Usage,
+            2,
+            "wrong arguments, or a command that is not built",
+        ),
+        told(
+            Status::NotACatalogue { side, at: 7 },
+            3,
+            "catalogue.a: no catalogue, as byte 7 shows",
+        ),
+        told(
+            Status::NotEmpty { side, len: 7 },
+            3,
+            "catalogue.a: not empty, it has 7 bytes",
+        ),
+        told(
+            Status::Stores { kept: 1, given: 8 },
+            3,
+            "catalogue.a: made for 1 stores, and there are 8",
+        ),
+        told(
+            Status::NotPlain,
+            3,
+            "catalogue.a: it has rules, or a command that is not done",
+        ),
+        told(Status::DiskFault, 4, "catalogue.b: Input/output error"),
+        told(Status::SourceFault, 5, "standard input: Is a directory"),
+        told(Status::SinkFault, 6, "standard output: Broken pipe"),
+        told(Status::Memory, 7, "out of memory"),
+        told(
+            Status::Long { taken: 7 },
+            8,
+            "standard input: more than 2^48 bytes",
+        ),
+        told(
+            Status::Worn { what, at: 7 },
             9,
+            "catalogue.a: no room is left in its log",
         ),
     ] {
-        assert_eq!(rt; exit_status(status), exit, "{status:?}");
+        assert_eq!(rt; exit_status(end.status), end.exit, "{:?}", end.status);
+        let line = complaint(rt.alloc(), end.status, &failures)?;
+        assert_eq!(rt; line.as_ref().map_or("", |line| line.as_str()), end.line);
     }
+    Ok(())
 }

@@ -6,3 +6,4 @@ mod listing;
 mod rows;
 
 pub use listing::list_rows;
+pub use rows::{digest_text, number_text, path_text};

@@ -87,8 +87,8 @@ fn replica_row(
     Ok(Texts::from_vec(vec![in alloc; kind, path, number, leaf, size, status, digest]?))
 }
 
-// A path as it is printed.
-fn path_text(alloc: Global, path: &Path) -> Result<Text, AllocError>
+/// A path as it is printed, which may stand in a reply. Fails for want of memory alone.
+pub fn path_text(alloc: Global, path: &Path) -> Result<Text, AllocError>
     ensures text { IfOk result (λ text. text ≡ print_path path.now) }
     ensures word { IfOk result (λ text. IsTrue (is_word text)) }
 {
@@ -96,8 +96,8 @@ fn path_text(alloc: Global, path: &Path) -> Result<Text, AllocError>
     path.print(alloc)
 }
 
-// A digest as it is printed.
-fn digest_text(alloc: Global, digest: Digest) -> Result<Text, AllocError>
+/// A digest as it is printed. Fails for want of memory alone.
+pub fn digest_text(alloc: Global, digest: Digest) -> Result<Text, AllocError>
     ensures text { IfOk result (λ text. text ≡ checksum digest) }
     ensures word { IfOk result (λ text. IsTrue (is_word text)) }
 {
@@ -105,8 +105,8 @@ fn digest_text(alloc: Global, digest: Digest) -> Result<Text, AllocError>
     digest.print(alloc)
 }
 
-// A number in decimal.
-fn number_text(alloc: Global, number: u64) -> Result<Text, AllocError>
+/// A number in decimal. Fails for want of memory alone.
+pub fn number_text(alloc: Global, number: u64) -> Result<Text, AllocError>
     ensures text { IfOk result (λ text. text ≡ decimal number) }
     ensures word { IfOk result (λ text. IsTrue (is_word text)) }
 {

@@ -157,7 +157,7 @@ module _ (c : Cat) (s : IsSound c) (thing : Thing) (i : Item) (its : IsItemOf c 
       ∙ less
 
   -- the triples of the thing are those of the rows of the item, in order
-  triples_are : triples_at (grid_of c) thing ≡ map at (triples_of c (kind_of i) (id_of i))
+  pub triples_are : triples_at (grid_of c) thing ≡ map at (triples_of c (kind_of i) (id_of i))
   triples_are =
       sym (keys-keep of_thing (grid_of c).triples)
       ∙ ap (λ (m : Map thing_triple_cmp ⊤). keys m)
@@ -174,7 +174,7 @@ module _ (c : Cat) (s : IsSound c) (thing : Thing) (i : Item) (its : IsItemOf c 
 
 -- ---- their words
 
-row_words : (t : TripleRow) → can_be_kept (delta.NoTriple t) ≡ true → list_all is_word (triple_words t) ≡ true
+pub row_words : (t : TripleRow) → can_be_kept (delta.NoTriple t) ≡ true → list_all is_word (triple_words t) ≡ true
 row_words t e =
     let fits = (and_parts (all_fit (parts_of (delta.NoTriple t))) (sets_no_rules (delta.NoTriple t)) e).0 in
     let number = and_parts (u64 t.id).fits ((text t.attribute).fits && ((text t.value).fits && ((text t.unit).fits && true))) fits in

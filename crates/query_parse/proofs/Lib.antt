@@ -1,3 +1,6 @@
+pub mod EachText
+pub mod FoundFronts
+pub mod FoundWords
 pub mod FrontLemmas
 pub mod LexLemmas
 pub mod LiteralLemmas

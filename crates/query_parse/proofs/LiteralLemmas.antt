@@ -21,7 +21,7 @@ pub reaches_none : (behind : Text) → Reaches behind [] behind
 reaches_none behind = record { lifts = λ more left h. h; lowers = λ whole left h. (whole, h) }
 
 -- where a text begins with one apostrophe and no second, the literal is closed there
-closes_behind : {b : ℕ} {rest more whole left : Text} → SpellsLiteralByte rest b more → Closes rest whole left → (later : Text) × Closes more later left
+pub closes_behind : {b : ℕ} {rest more whole left : Text} → SpellsLiteralByte rest b more → Closes rest whole left → (later : Text) × Closes more later left
 closes_behind (itself is differs) (closed e open_still) = absurd (differs (head_is (sym is ∙ e)))
 closes_behind {left = left} (itself is differs) (plain {inner = inner} c e different h) = (inner, subst (λ t. Closes t inner left) (tail_is (sym e ∙ is)) h)
 closes_behind (itself is differs) (twice e h) = absurd (differs (head_is (sym is ∙ e)))
@@ -29,7 +29,7 @@ closes_behind (doubled is b_is) (closed {rest = rest} e open_still) = absurd (bo
 closes_behind (doubled is b_is) (plain c e different h) = absurd (different (head_is (sym e ∙ is)))
 closes_behind {left = left} (doubled is b_is) (twice {inner = inner} e h) = (inner, subst (λ t. Closes t inner left) (tail_is (tail_is (sym e ∙ is))) h)
 
-closes_before : {b : ℕ} {rest more : Text} → SpellsLiteralByte rest b more → (inner left : Text) → Closes more inner left → Closes rest (b ∷ inner) left
+pub closes_before : {b : ℕ} {rest more : Text} → SpellsLiteralByte rest b more → (inner left : Text) → Closes more inner left → Closes rest (b ∷ inner) left
 closes_before {b = b} (itself is differs) inner left h = plain b is differs h
 closes_before {rest = rest} (doubled is b_is) inner left h = subst (λ x. Closes rest (x ∷ inner) left) (sym b_is) (twice is h)
 

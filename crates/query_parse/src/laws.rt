@@ -1,6 +1,8 @@
 ghost use Rattle.std.specs.Prelude.{◌≡◌, ◌↔◌, ℕ, List};
+ghost use Rattle.grid_model.specs.QueryOrders.{ReadsQuery};
 ghost use Rattle.grid_model.specs.QueryText.{IsQueryText, IsRefusedQuery, HaveSameTokens, SpellsQuery, HasText};
 ghost use Rattle.grid_model.specs.QueryTokens.{Token};
+ghost use Rattle.grid_model.specs.Refusing.{Or};
 ghost use Rattle.grid_model.specs.declared.queries.Query.{Query};
 
 /// A text spells one query.
@@ -23,4 +25,9 @@ pub fn same_query_of_same_tokens()
 /// Tokens that spell a query stand in some text. So where tokens begin no query, they begin no text that spells one.
 pub fn each_query_has_a_text()
     ensures { (tokens : List Token) (q : Query) → SpellsQuery tokens q → HasText tokens }
+{}
+
+/// Each text spells a query, or is refused at some place.
+pub fn each_text_is_read()
+    ensures { (text : List ℕ) → (query : Or Query) × ReadsQuery text query }
 {}

@@ -19,7 +19,10 @@ mod token;
 mod words;
 
 pub use error::QueryError;
-pub use laws::{each_query_has_a_text, one_place_of_refusal, one_query, same_query_of_same_tokens};
+pub use laws::{
+    each_query_has_a_text, each_text_is_read, one_place_of_refusal, one_query,
+    same_query_of_same_tokens,
+};
 pub use query::read_query;
 
 #[cfg(test)]

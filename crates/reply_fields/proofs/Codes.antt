@@ -8,7 +8,7 @@ use Rattle.grid_model.specs.Names.{Text}
 use Rattle.grid_model.specs.Places.{Begins}
 use Rattle.reply_fields.specs.declared.error.ReplyError.{ReplyError}
 use Rattle.reply_fields.specs.declared.error.ReplyError.TheVariants.{BadReply, Memory}
-use Rattle.reply_fields.specs.Fronts.{IsFront, IsNoFront, IsRead, IsUnread, ReadsFrom, Then}
+use Rattle.reply_fields.specs.Fronts.{IsFieldFront, IsNoFieldFront, IsRead, IsUnreadField, ReadsFrom, Then}
 
 -- ---- two texts that begin one text
 
@@ -47,8 +47,8 @@ module _ {A : Type 0} (P : Text → A → Type 0) where
       size = length-take-le m text (omega (arith, less, within))
 
   -- Where the longest front is seen by its next byte.
-  pub IsNoFront-next : IsCode → (text : Text) (n : ℕ) → n ≤ length text → Begins P (take n text) → ((a : A) → ¬ P (take n text) a) → (n < length text → ¬ Begins P (take (n + 1) text)) → IsNoFront P text n
-  IsNoFront-next code text n within begins unspelled next = record { within = within; begins = begins; none = none; longest = longest }
+  pub IsNoFieldFront-next : IsCode → (text : Text) (n : ℕ) → n ≤ length text → Begins P (take n text) → ((a : A) → ¬ P (take n text) a) → (n < length text → ¬ Begins P (take (n + 1) text)) → IsNoFieldFront P text n
+  IsNoFieldFront-next code text n within begins unspelled next = record { within = within; begins = begins; none = none; longest = longest }
     where
       longest : (k : ℕ) → n < k → k ≤ length text → ¬ Begins P (take k text)
       longest k more short b = next (omega (arith, more, short)) (Begins-fewer text (n + 1) k (omega (arith, more)) short b)
@@ -82,25 +82,25 @@ module _ {A : Type 0} (P : Text → A → Type 0) where
 
   -- ---- from a place of a text on
 
-  pub IsUnread-at : (text : Text) (from n : ℕ) → IsNoFront P (drop from text) n → IsUnread P text from (from + n)
-  IsUnread-at text from n h = record { forward = omega arith; none = let count : n ≡ from + n - from = omega arith in subst (IsNoFront P (drop from text)) count h }
+  pub IsUnreadField-at : (text : Text) (from n : ℕ) → IsNoFieldFront P (drop from text) n → IsUnreadField P text from (from + n)
+  IsUnreadField-at text from n h = record { forward = omega arith; none = let count : n ≡ from + n - from = omega arith in subst (IsNoFieldFront P (drop from text)) count h }
 
-  pub IsRead-at : (text : Text) (from n : ℕ) (a : A) → from ≤ length text → n ≤ length (drop from text) → IsFront P (drop from text) a (drop n (drop from text)) → IsRead P text from a (from + n)
+  pub IsRead-at : (text : Text) (from n : ℕ) (a : A) → from ≤ length text → n ≤ length (drop from text) → IsFieldFront P (drop from text) a (drop n (drop from text)) → IsRead P text from a (from + n)
   IsRead-at text from n a inside within f = record {
     forward = omega arith;
     within = omega (arith, inside, within, length-drop from text);
-    front = subst (IsFront P (drop from text) a) (drop-drop n from text) f;
+    front = subst (IsFieldFront P (drop from text) a) (drop-drop n from text) f;
   }
 
   -- the same of the rest as a slice gives it
-  pub IsUnread-rest : (text : Text) (from n place : ℕ) → place ≡ from + n → IsNoFront P (take (length text - from) (drop from text)) n → IsUnread P text from place
-  IsUnread-rest text from n place is h = subst (IsUnread P text from) (sym is) (IsUnread-at text from n (subst (λ t. IsNoFront P t n) (take_rest text from) h))
+  pub IsUnreadField-rest : (text : Text) (from n place : ℕ) → place ≡ from + n → IsNoFieldFront P (take (length text - from) (drop from text)) n → IsUnreadField P text from place
+  IsUnreadField-rest text from n place is h = subst (IsUnreadField P text from) (sym is) (IsUnreadField-at text from n (subst (λ t. IsNoFieldFront P t n) (take_rest text from) h))
 
   pub IsRead-rest : (text : Text) (from n to : ℕ) (a : A) → from ≤ length text → n ≤ length (take (length text - from) (drop from text)) → to ≡ from + n
-      → IsFront P (take (length text - from) (drop from text)) a (drop n (take (length text - from) (drop from text))) → IsRead P text from a to
+      → IsFieldFront P (take (length text - from) (drop from text)) a (drop n (take (length text - from) (drop from text))) → IsRead P text from a to
   IsRead-rest text from n to a inside within is f =
       subst (IsRead P text from a) (sym is) (IsRead-at text from n a inside (omega (arith, within, ap length (take_rest text from)))
-      (subst (λ t. IsFront P t a (drop n t)) (take_rest text from) f))
+      (subst (λ t. IsFieldFront P t a (drop n t)) (take_rest text from) f))
 
 -- ---- the same spellings under another name
 
@@ -142,15 +142,15 @@ module _ {A B : Type 0} (P : Text → A → Type 0) (Q : A → Text → B → Ty
           let then = (second q.begun).only p.second q.second u v a b rest (subst (λ x. Q x p.second a) begun.1 p.spells_second) q.spells_second in
           (p.split ∙ (λ i. begun.0 i ++ then.0 i) ∙ sym q.split, then.1)
 
-  pub IsFront-Then : (text rest last : Text) (a : A) (b : B) → IsFront P text a rest → IsFront (Q a) rest b last → IsFront (Then P Q) text b last
-  IsFront-Then text rest last a b p q = record {
+  pub IsFieldFront-Then : (text rest last : Text) (a : A) (b : B) → IsFieldFront P text a rest → IsFieldFront (Q a) rest b last → IsFieldFront (Then P Q) text b last
+  IsFieldFront-Then text rest last a b p q = record {
     spelled = p.spelled ++ q.spelled;
     split = p.split ∙ ap (λ t. p.spelled ++ t) q.split ∙ sym (append_assoc p.spelled q.spelled last);
     spells = record { first = p.spelled; second = q.spelled; begun = a; split = refl; spells_first = p.spells; spells_second = q.spells };
   }
 
   -- what is no front of the first part
-  none_first : (text : Text) (n : ℕ) → IsNoFront P text n → ((s : Text) (a : A) → P s a → Begins (Q a) []) → IsNoFront (Then P Q) text n
+  none_first : (text : Text) (n : ℕ) → IsNoFieldFront P text n → ((s : Text) (a : A) → P s a → Begins (Q a) []) → IsNoFieldFront (Then P Q) text n
   none_first text n h some = record {
     within = h.within;
     begins =
@@ -179,7 +179,7 @@ module _ {A B : Type 0} (P : Text → A → Type 0) (Q : A → Text → B → Ty
           (sym (take-append-drop k text) ∙ ap (λ t. t ++ drop k text) front ∙ append_assoc p.first (drop (length p.first) (take k text)) (drop k text)) p.spells_first
 
   -- a front of the first part, and then no front of the second
-  none_second : IsCode P → (text rest : Text) (a : A) (n : ℕ) (f : IsFront P text a rest) → IsNoFront (Q a) rest n → IsNoFront (Then P Q) text (length f.spelled + n)
+  none_second : IsCode P → (text rest : Text) (a : A) (n : ℕ) (f : IsFieldFront P text a rest) → IsNoFieldFront (Q a) rest n → IsNoFieldFront (Then P Q) text (length f.spelled + n)
   none_second code text rest a n f h = record {
     within = omega (arith, size, h.within);
     begins = record {
@@ -227,12 +227,12 @@ module _ {A B : Type 0} (P : Text → A → Type 0) (Q : A → Text → B → Ty
   reads_then code text from to a first (Ok read) r = record {
     forward = omega (arith, first.forward, r.forward);
     within = r.within;
-    front = IsFront-Then (drop from text) (drop to text) (drop read.1 text) a read.0 first.front r.front;
+    front = IsFieldFront-Then (drop from text) (drop to text) (drop read.1 text) a read.0 first.front r.front;
   }
   reads_then code text from to a first (Err (BadReply place)) r =
       let f = first.front in
       let size : length f.spelled ≡ to - from =
       omega (arith, first.forward, first.within, ap length f.split, length-append f.spelled (drop to text), length-drop from text, length-drop to text) in
       let count : length f.spelled + (place - to) ≡ place - from = omega (arith, size, first.forward, r.forward) in
-      record { forward = omega (arith, first.forward, r.forward); none = subst (IsNoFront (Then P Q) (drop from text)) count (none_second code (drop from text) (drop to text) a (place - to) f r.none) }
+      record { forward = omega (arith, first.forward, r.forward); none = subst (IsNoFieldFront (Then P Q) (drop from text)) count (none_second code (drop from text) (drop to text) a (place - to) f r.none) }
   reads_then code text from to a first (Err Memory) r = tt

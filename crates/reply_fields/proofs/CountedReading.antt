@@ -6,10 +6,10 @@ use Rattle.std.proofs.lemmas.List.{append_cancel_left, take_all, take_at, take_m
 use Rattle.grid_model.specs.Names.{Text}
 use Rattle.grid_model.specs.Places.{Begins}
 use Rattle.reply_fields.specs.declared.error.ReplyError.{ReplyError}
-use Rattle.reply_fields.specs.Fronts.{IsNoFront, IsRead, IsUnread, ReadsFrom, Then}
+use Rattle.reply_fields.specs.Fronts.{IsNoFieldFront, IsRead, IsUnreadField, ReadsFrom, Then}
 use Rattle.reply_fields.specs.Spelled.{IsNumber, is_among_bytes}
 use Rattle.reply_fields.specs.Counted.{IsCounted, IsDataPart}
-use Rattle.reply_fields.proofs.Codes.{IsCode, IsCode-Then, IsCode-same, IsNoFront-next, ReadsFrom-same, reads_first, reads_then}
+use Rattle.reply_fields.proofs.Codes.{IsCode, IsCode-Then, IsCode-same, IsNoFieldFront-next, ReadsFrom-same, reads_first, reads_then}
 use Rattle.reply_fields.proofs.NumberReading.{Bounds, IsCode-number}
 
 same_front : (s t u v : Text) → length s ≡ length t → s ++ u ≡ t ++ v → (s ≡ t) × (u ≡ v)
@@ -40,16 +40,16 @@ short_of : (n : ℕ) (front : Text) → length front ≤ n → (bytes : Text) �
 short_of n front less bytes p = omega (arith, less, ap length p.is, p.count_is, length-append bytes (0x0A ∷ []))
 
 -- the text ends within the bytes
-IsNoFront-missing : (n : ℕ) (rest : Text) → length rest ≤ n → IsNoFront (IsCounted n) rest (length rest)
-IsNoFront-missing n rest less =
+IsNoFieldFront-missing : (n : ℕ) (rest : Text) → length rest ≤ n → IsNoFieldFront (IsCounted n) rest (length rest)
+IsNoFieldFront-missing n rest less =
     let whole : take (length rest) rest ≡ rest = take_all (length rest) rest (omega arith) in
-    IsNoFront-next (IsCounted n) (IsCode-counted n) rest (length rest) (omega arith) (begun n (take (length rest) rest) (omega (arith, less, ap length whole)))
+    IsNoFieldFront-next (IsCounted n) (IsCode-counted n) rest (length rest) (omega arith) (begun n (take (length rest) rest) (omega (arith, less, ap length whole)))
     (short_of n (take (length rest) rest) (omega (arith, less, ap length whole))) (λ h. absurd (omega (arith, h)))
 
 -- another byte stands where the newline should
-IsNoFront-newline : (n : ℕ) (rest : Text) → n < length rest → get_or rest n 0 ≢ 0x0A → IsNoFront (IsCounted n) rest n
-IsNoFront-newline n rest within other =
-    IsNoFront-next (IsCounted n) (IsCode-counted n) rest n (omega (arith, within)) (begun n (take n rest) (omega (arith, cut))) (short_of n (take n rest) (omega (arith, cut))) next
+IsNoFieldFront-newline : (n : ℕ) (rest : Text) → n < length rest → get_or rest n 0 ≢ 0x0A → IsNoFieldFront (IsCounted n) rest n
+IsNoFieldFront-newline n rest within other =
+    IsNoFieldFront-next (IsCounted n) (IsCode-counted n) rest n (omega (arith, within)) (begun n (take n rest) (omega (arith, cut))) (short_of n (take n rest) (omega (arith, cut))) next
   where
     cut : length (take n rest) ≡ n
     cut = length-take-le n rest (omega (arith, within))
@@ -62,26 +62,26 @@ IsNoFront-newline n rest within other =
         let same = same_front (take n rest) b.value (get_or rest n 0 ∷ b.more) (0x0A ∷ []) (cut ∙ sym p.count_is) whole in
         other (ap (λ t. get_or t 0 0) same.1)
 
-pub counted_missing : (text : Text) (start n : ℕ) → start ≤ length text → length text - start < n → IsUnread (IsCounted n) text start (length text)
+pub counted_missing : (text : Text) (start n : ℕ) → start ≤ length text → length text - start < n → IsUnreadField (IsCounted n) text start (length text)
 counted_missing text start n inside less = record {
   forward = inside;
-  none = subst (IsNoFront (IsCounted n) (drop start text)) (length-drop start text) (IsNoFront-missing n (drop start text) (omega (arith, less, length-drop start text)));
+  none = subst (IsNoFieldFront (IsCounted n) (drop start text)) (length-drop start text) (IsNoFieldFront-missing n (drop start text) (omega (arith, less, length-drop start text)));
 }
 
-pub counted_ends : (text : Text) (start n : ℕ) → start + n ≤ length text → (start + n < length text → get_or text (start + n) 0 ≢ 0x0A) → IsUnread (IsCounted n) text start (start + n)
+pub counted_ends : (text : Text) (start n : ℕ) → start + n ≤ length text → (start + n < length text → get_or text (start + n) 0 ≢ 0x0A) → IsUnreadField (IsCounted n) text start (start + n)
 counted_ends text start n inside other = record {
   forward = omega arith;
-  none = subst (IsNoFront (IsCounted n) (drop start text)) count (by (cases_lt n (length (drop start text))));
+  none = subst (IsNoFieldFront (IsCounted n) (drop start text)) count (by (cases_lt n (length (drop start text))));
 }
   where
     count : n ≡ start + n - start
     count = omega arith
 
-    by : (n < length (drop start text)) ⊎ (length (drop start text) ≤ n) → IsNoFront (IsCounted n) (drop start text) n
-    by (inl more) = IsNoFront-newline n (drop start text) more (λ e. other (omega (arith, more, length-drop start text)) (sym (get_or-drop start text n 0) ∙ e))
+    by : (n < length (drop start text)) ⊎ (length (drop start text) ≤ n) → IsNoFieldFront (IsCounted n) (drop start text) n
+    by (inl more) = IsNoFieldFront-newline n (drop start text) more (λ e. other (omega (arith, more, length-drop start text)) (sym (get_or-drop start text n 0) ∙ e))
     by (inr all) =
         let size : length (drop start text) ≡ n = omega (arith, all, inside, length-drop start text) in
-        subst (IsNoFront (IsCounted n) (drop start text)) size (IsNoFront-missing n (drop start text) (omega (arith, all)))
+        subst (IsNoFieldFront (IsCounted n) (drop start text)) size (IsNoFieldFront-missing n (drop start text) (omega (arith, all)))
 
 -- ---- a data line behind its name
 

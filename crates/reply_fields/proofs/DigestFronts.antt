@@ -8,7 +8,7 @@ use Rattle.base64.specs.Rfc4648.{encode_symbols, padding_len}
 use Rattle.base64.specs.Alphabets.{standard}
 use Rattle.grid_model.specs.Names.{Text}
 use Rattle.grid_model.specs.Digests.{Digest, SpellsDigest, checksum}
-use Rattle.reply_fields.specs.Fronts.{IsFront, IsNoFront}
+use Rattle.reply_fields.specs.Fronts.{IsFieldFront, IsNoFieldFront}
 use Rattle.reply_fields.specs.PrintedDigests.{is_symbol, is_last_symbol, may_stand_in_digest, HasDigestFront}
 use Rattle.reply_fields.proofs.Codes.{IsCode}
 use Rattle.reply_fields.proofs.Base64.{below, same_bytes, Decoded, decoded, Encoded, encoded}
@@ -214,8 +214,8 @@ wrong rest s x y d n k f small more short p e =
     sym (get_or_append_left s y 0 n (omega (arith, small, size))) ∙ ap (λ t. get_or t n 0) (sym e) ∙ get_or_append_left (take k rest) x 0 n (omega (arith, more, length-take-le k rest short)) ∙ get_or-take k rest n 0 more in
     false≢true (sym (f.ends small (omega (arith, more, short))) ∙ ap (may_stand_in_digest n) (sym same) ∙ digest_stands s d p n small)
 
-pub IsNoFront-digest : (rest : Text) (n : ℕ) → HasDigestFront rest n → n < 49 → IsNoFront SpellsDigest rest n
-IsNoFront-digest rest n f small = record {
+pub IsNoFieldFront-digest : (rest : Text) (n : ℕ) → HasDigestFront rest n → n < 49 → IsNoFieldFront SpellsDigest rest n
+IsNoFieldFront-digest rest n f small = record {
   within = f.within;
   begins = let d = digest_of (take n rest ++ drop n some_digest) (completed rest n f) in record { more = drop n some_digest; value = d.0; spells = d.1 };
   none = λ s last d split p.
@@ -224,8 +224,8 @@ IsNoFront-digest rest n f small = record {
   longest = λ k more short b. wrong rest (take k rest ++ b.more) b.more [] b.value n k f small more short b.spells (sym (append-nil (take k rest ++ b.more)));
 }
 
-pub IsFront-digest : (rest : Text) (d : Digest) → SpellsDigest (take 49 rest) d → IsFront SpellsDigest rest d (drop 49 rest)
-IsFront-digest rest d p = record { spelled = take 49 rest; split = sym (take-append-drop 49 rest); spells = p }
+pub IsFieldFront-digest : (rest : Text) (d : Digest) → SpellsDigest (take 49 rest) d → IsFieldFront SpellsDigest rest d (drop 49 rest)
+IsFieldFront-digest rest d p = record { spelled = take 49 rest; split = sym (take-append-drop 49 rest); spells = p }
 
 -- what has all its bytes is a digest
 pub some_digest_there : (rest : Text) (n : ℕ) → HasDigestFront rest n → 49 ≤ n → ((d : Digest) → ¬ SpellsDigest (take 49 rest) d) → ⊥

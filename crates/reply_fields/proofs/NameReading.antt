@@ -6,7 +6,7 @@ use Rattle.std.proofs.lemmas.Bool.{cases_lt, and_parts, false≢true}
 use Rattle.std.proofs.lemmas.List.{take_all, take-append-drop, take_at, get_or-take, length-take-le}
 use Rattle.grid_model.specs.Names.{Text}
 use Rattle.grid_model.specs.Places.{Begins}
-use Rattle.reply_fields.specs.Fronts.{IsFront, IsNoFront}
+use Rattle.reply_fields.specs.Fronts.{IsFieldFront, IsNoFieldFront}
 use Rattle.reply_fields.specs.Spelled.{SharesFirst, IsNameOf, is_apart, are_apart}
 use Rattle.reply_fields.proofs.Codes.{IsCode}
 
@@ -92,8 +92,8 @@ Tried-more rest names i furthest next n within t s short which = by which
     by (inr h) = subst (Tried rest names (i + 1)) (sym h.1) (record { within = s.in_left; begins = Begins-shared rest names i n within s; each = λ j k. one n j k (omega arith) (omega (arith, h.0)) })
 
 -- no name stands there
-pub IsNoFront-tried : (rest : Text) (names : List Text) (i furthest : ℕ) → length names ≤ i → Tried rest names i furthest → IsNoFront (IsNameOf names) rest furthest
-IsNoFront-tried rest names i furthest all t = record {
+pub IsNoFieldFront-tried : (rest : Text) (names : List Text) (i furthest : ℕ) → length names ≤ i → Tried rest names i furthest → IsNoFieldFront (IsNameOf names) rest furthest
+IsNoFieldFront-tried rest names i furthest all t = record {
   within = t.within;
   begins = t.begins;
   none = λ s last j split p.
@@ -110,8 +110,8 @@ IsNoFront-tried rest names i furthest all t = record {
       omega (arith, more, (t.each b.value k (omega (arith, p.within, all)) short size same).0);
 }
 
-pub IsFront-name : (rest : Text) (names : List Text) (i n : ℕ) → i < length names → SharesFirst rest (get_or names i []) n → n ≡ length (get_or names i []) → IsFront (IsNameOf names) rest i (drop n rest)
-IsFront-name rest names i n within s whole = record {
+pub IsFieldFront-name : (rest : Text) (names : List Text) (i n : ℕ) → i < length names → SharesFirst rest (get_or names i []) n → n ≡ length (get_or names i []) → IsFieldFront (IsNameOf names) rest i (drop n rest)
+IsFieldFront-name rest names i n within s whole = record {
   spelled = take n rest;
   split = sym (take-append-drop n rest);
   spells = record { within = within; is = s.same ∙ take_all n (get_or names i []) (omega (arith, whole)) };

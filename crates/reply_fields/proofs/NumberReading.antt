@@ -8,9 +8,9 @@ use Rattle.std.proofs.lemmas.List.{take_more, take-append-drop}
 use Rattle.std.proofs.lemmas.Fmt.{decimal_digit, decimal_nonempty}
 use Rattle.grid_model.specs.Names.{Text}
 use Rattle.grid_model.specs.Places.{Begins}
-use Rattle.reply_fields.specs.Fronts.{IsFront, IsNoFront}
+use Rattle.reply_fields.specs.Fronts.{IsFieldFront, IsNoFieldFront}
 use Rattle.reply_fields.specs.Spelled.{IsNumber, is_no_digit, is_among_bytes}
-use Rattle.reply_fields.proofs.Codes.{IsCode, IsNoFront-next}
+use Rattle.reply_fields.proofs.Codes.{IsCode, IsNoFieldFront-next}
 use Rattle.reply_fields.proofs.Decimals.{decimal_some, digits-decimal, one_decimal, decimal-push, decimal-prefix, decimal-zero, same_digits, more_digits, among_all, first_among}
 
 -- digits at the front of the rest were read
@@ -93,8 +93,8 @@ module _ (least most : ℕ) (ends : List ℕ) (bounds : Bounds least most ends) 
     next h = take_more rest len 0 h
 
     -- the next byte ends no number
-    pub IsNoFront-ended : (len < length rest → is_ascii_digit (get_or rest len 0) ≡ false) → (0 < len → len < length rest → ¬ (is_among_bytes ends (get_or rest len 0) ≡ true)) → IsNoFront (IsNumber least most ends) rest len
-    IsNoFront-ended no_digit no_end = IsNoFront-next (IsNumber least most ends) IsCode-number rest len t.short begun unspelled stops
+    pub IsNoFieldFront-ended : (len < length rest → is_ascii_digit (get_or rest len 0) ≡ false) → (0 < len → len < length rest → ¬ (is_among_bytes ends (get_or rest len 0) ≡ true)) → IsNoFieldFront (IsNumber least most ends) rest len
+    IsNoFieldFront-ended no_digit no_end = IsNoFieldFront-next (IsNumber least most ends) IsCode-number rest len t.short begun unspelled stops
       where
         stops : len < length rest → Begins (IsNumber least most ends) (take (len + 1) rest) → ⊥
         stops h b =
@@ -111,8 +111,8 @@ module _ (least most : ℕ) (ends : List ℕ) (bounds : Bounds least most ends) 
             by (inr more) same end some = no_end more h end
 
     -- a digit more makes no number
-    pub IsNoFront-digit : (d first : ℕ) → len < length rest → get_or rest len 0 ≡ 48 + d → d < 10 → IsLeast least len first → ¬ ((first ≤ value * 10 + d) × (value * 10 + d ≤ most)) → IsNoFront (IsNumber least most ends) rest len
-    IsNoFront-digit d first h digit small least_is none_more = IsNoFront-next (IsNumber least most ends) IsCode-number rest len t.short begun unspelled (λ h b. stops b)
+    pub IsNoFieldFront-digit : (d first : ℕ) → len < length rest → get_or rest len 0 ≡ 48 + d → d < 10 → IsLeast least len first → ¬ ((first ≤ value * 10 + d) × (value * 10 + d ≤ most)) → IsNoFieldFront (IsNumber least most ends) rest len
+    IsNoFieldFront-digit d first h digit small least_is none_more = IsNoFieldFront-next (IsNumber least most ends) IsCode-number rest len t.short begun unspelled (λ h b. stops b)
       where
         is_digit : is_ascii_digit (get_or rest len 0) ≡ true
         is_digit = grind (arith, digit, small)
@@ -184,8 +184,8 @@ module _ (least most : ℕ) (ends : List ℕ) (bounds : Bounds least most ends) 
               digits = λ x. next h ∙ (λ i. t.digits g i ++ digit i ∷ []) ∙ decimal-push value d some small (omega (arith, t.most_is g, bounds.fits)) ∙ ap decimal (sym is);
             }
 
-    pub IsFront-number : 0 < len → len < length rest → is_among_bytes ends (get_or rest len 0) ≡ true → IsFront (IsNumber least most ends) rest (value, get_or rest len 0) (drop (len + 1) rest)
-    IsFront-number some h end = record {
+    pub IsFieldFront-number : 0 < len → len < length rest → is_among_bytes ends (get_or rest len 0) ≡ true → IsFieldFront (IsNumber least most ends) rest (value, get_or rest len 0) (drop (len + 1) rest)
+    IsFieldFront-number some h end = record {
       spelled = take (len + 1) rest;
       split = sym (take-append-drop (len + 1) rest);
       spells = record { least_is = t.least_is some; most_is = t.most_is some; ends_is = end; is = next h ∙ ap (λ x. x ++ get_or rest len 0 ∷ []) (t.digits some) };

@@ -8,7 +8,7 @@ use Rattle.std.proofs.lemmas.List.{drop_more, get_or-drop, get_or-take, length-d
 use Rattle.grid_model.specs.Names.{Text}
 use Rattle.reply_fields.specs.declared.error.ReplyError.{ReplyError}
 use Rattle.reply_fields.specs.declared.error.ReplyError.TheVariants.{BadReply, Memory}
-use Rattle.reply_fields.specs.Fronts.{IsNoFront, IsRead, ReadsFrom}
+use Rattle.reply_fields.specs.Fronts.{IsNoFieldFront, IsRead, ReadsFrom}
 use Rattle.reply_fields.specs.Spelled.{IsNumber}
 use Rattle.reply_fields.specs.SignedLines.{IsSignedLine, at_least_zero, below_zero}
 use Rattle.reply_fields.proofs.Codes.{IsCode}
@@ -46,7 +46,7 @@ no_minus n x t small e = by (decimal n) (decimal_some n (omega (arith, small))) 
         let first : 0x2D ≡ d = cc in
         false≢true (ap is_ascii_digit first ∙ (and_parts (is_ascii_digit d) (all_ascii_digits ds) all).0)
 
-plus_none : (rest : Text) (n : ℕ) → (0 < length rest → get_or rest 0 0 ≢ 0x2D) → IsNoFront Plus rest n → IsNoFront IsSignedLine rest n
+plus_none : (rest : Text) (n : ℕ) → (0 < length rest → get_or rest 0 0 ≢ 0x2D) → IsNoFieldFront Plus rest n → IsNoFieldFront IsSignedLine rest n
 plus_none rest n other h = record {
   within = h.within;
   begins = record { more = h.begins.more; value = pos h.begins.value.0; spells = from_plus (take n rest ++ h.begins.more) h.begins.value h.begins.spells };
@@ -66,7 +66,7 @@ plus_none rest n other h = record {
         let first : get_or (take k rest ++ x) 0 0 ≡ get_or rest 0 0 = get_or_append_left (take k rest) x 0 0 (omega (arith, more, length-take-le k rest short)) ∙ get_or-take k rest 0 0 (omega (arith, more)) in
         other (omega (arith, more, short)) (sym first ∙ ap (λ t. get_or t 0 0) is)
 
-minus_none : (rest : Text) (n : ℕ) → IsNoFront Minus rest n → IsNoFront IsSignedLine (0x2D ∷ rest) (suc n)
+minus_none : (rest : Text) (n : ℕ) → IsNoFieldFront Minus rest n → IsNoFieldFront IsSignedLine (0x2D ∷ rest) (suc n)
 minus_none rest n h = record {
   within = omega (arith, h.within);
   begins = record { more = h.begins.more; value = negsuc (h.begins.value.0 - 1); spells = from_minus (take n rest ++ h.begins.more) h.begins.value h.begins.spells };
@@ -113,7 +113,7 @@ minus_read text at next r z within minus h is = subst (λ v. IsRead IsSignedLine
 pub minus_unread : (text : Text) (at : ℕ) (e : ReplyError) → at < length text → get_or text at 0 ≡ 0x2D → ReadsFrom (IsNumber 1 9223372036854775808 (0x0A ∷ [])) text (at + 1) (Err e) → ReadsFrom IsSignedLine text at (Err e)
 minus_unread text at (BadReply place) within minus h =
     let count : suc (place - (at + 1)) ≡ place - at = omega (arith, h.forward) in
-    record { forward = omega (arith, h.forward); none = subst (IsNoFront IsSignedLine (drop at text)) count (subst (λ t. IsNoFront IsSignedLine t (suc (place - (at + 1)))) (sym (behind_minus text at within minus)) (minus_none (drop (at + 1) text) (place - (at + 1)) h.none)) }
+    record { forward = omega (arith, h.forward); none = subst (IsNoFieldFront IsSignedLine (drop at text)) count (subst (λ t. IsNoFieldFront IsSignedLine t (suc (place - (at + 1)))) (sym (behind_minus text at within minus)) (minus_none (drop (at + 1) text) (place - (at + 1)) h.none)) }
 minus_unread text at Memory within minus h = tt
 
 -- ---- none begins another one

@@ -10,9 +10,9 @@ use Rattle.grid_model.specs.Names.{Text}
 use Rattle.grid_model.specs.Places.{Begins}
 use Rattle.grid_model.specs.Words.{is_bare, is_bare_byte, is_escaped, is_word_byte, quote_byte, quoted_word}
 use Rattle.grid_model.specs.Writable.{is_word}
-use Rattle.reply_fields.specs.Fronts.{IsFront, IsNoFront}
+use Rattle.reply_fields.specs.Fronts.{IsFieldFront, IsNoFieldFront}
 use Rattle.reply_fields.specs.Spelled.{IsEndedWord, IsNoInnerByte, HasBareFront, is_among_bytes}
-use Rattle.reply_fields.proofs.Codes.{IsNoFront-next}
+use Rattle.reply_fields.proofs.Codes.{IsNoFieldFront-next}
 use Rattle.reply_fields.proofs.Decimals.{first_among}
 use Rattle.reply_fields.proofs.WordReading.{Blanks, IsCode-word, Inside, Opened, opened, GoesOn, closes, escape, stands, goes_on, same_bare, bare_word_parts, bare_from_parts, written_bare, written_quoted, ended, tells}
 
@@ -88,8 +88,8 @@ module _ (ends : List ℕ) (blanks : Blanks ends) where
   opened_front front acc tail x a is p = opened acc (tail ++ x) a.0 a.1 (sym (append_assoc (0x22 ∷ flat_map quote_byte acc) tail x) ∙ ap (λ t. t ++ x) (sym is) ∙ p.is)
 
   no_front : (rest acc tail : Text) (n : ℕ) → n ≤ length rest → take n rest ≡ 0x22 ∷ flat_map quote_byte acc ++ tail → length tail ≤ 1 → Begins (IsEndedWord ends) (take n rest)
-      → (n < length rest → (x : Text) (a : Text × ℕ) → Opened acc (tail ++ get_or rest n 0 ∷ x) a.0 a.1 → is_word a.0 ≡ true → is_among_bytes ends a.1 ≡ true → ⊥) → IsNoFront (IsEndedWord ends) rest n
-  no_front rest acc tail n within is short begun stops = IsNoFront-next (IsEndedWord ends) (IsCode-word ends blanks) rest n within begun unspelled next
+      → (n < length rest → (x : Text) (a : Text × ℕ) → Opened acc (tail ++ get_or rest n 0 ∷ x) a.0 a.1 → is_word a.0 ≡ true → is_among_bytes ends a.1 ≡ true → ⊥) → IsNoFieldFront (IsEndedWord ends) rest n
+  no_front rest acc tail n within is short begun stops = IsNoFieldFront-next (IsEndedWord ends) (IsCode-word ends blanks) rest n within begun unspelled next
     where
       unspelled : (a : Text × ℕ) → ¬ IsEndedWord ends (take n rest) a
       unspelled a p =
@@ -110,12 +110,12 @@ module _ (ends : List ℕ) (blanks : Blanks ends) where
     with_next c h is = take_more rest len 0 h ∙ ap (λ x. take len rest ++ x ∷ []) is
 
     -- the text ends there
-    pub IsNoFront-open : len ≡ length rest → IsNoFront (IsEndedWord ends) rest len
-    IsNoFront-open all = no_front rest acc [] len i.short front_is (omega arith) (begun_inside rest acc len i) (λ h. absurd (omega (arith, h, all)))
+    pub IsNoFieldFront-open : len ≡ length rest → IsNoFieldFront (IsEndedWord ends) rest len
+    IsNoFieldFront-open all = no_front rest acc [] len i.short front_is (omega arith) (begun_inside rest acc len i) (λ h. absurd (omega (arith, h, all)))
 
     -- a quote that may not close the word yet
-    pub IsNoFront-quote : get_or rest len 0 ≡ 0x22 → is_bare acc ≡ true → IsNoFront (IsEndedWord ends) rest len
-    IsNoFront-quote quote bare = no_front rest acc [] len i.short front_is (omega arith) (begun_inside rest acc len i)
+    pub IsNoFieldFront-quote : get_or rest len 0 ≡ 0x22 → is_bare acc ≡ true → IsNoFieldFront (IsEndedWord ends) rest len
+    IsNoFieldFront-quote quote bare = no_front rest acc [] len i.short front_is (omega arith) (begun_inside rest acc len i)
         (λ h x a o words end. stops x a o (goes_on (get_or rest len 0) x o.more (a.1 ∷ []) o.rest_is))
       where
         stops : (x : Text) (a : Text × ℕ) (o : Opened acc (get_or rest len 0 ∷ x) a.0 a.1) → GoesOn (get_or rest len 0) x o.more (a.1 ∷ []) → ⊥
@@ -124,8 +124,8 @@ module _ (ends : List ℕ) (blanks : Blanks ends) where
         stops x a o (stands v plain is) = false≢true (sym plain ∙ ap is_escaped quote)
 
     -- a byte that may not stand there
-    pub IsNoFront-inner : len < length rest → get_or rest len 0 ≢ 0x22 → (place : ℕ) → IsNoInnerByte rest len place → IsNoFront (IsEndedWord ends) rest place
-    IsNoFront-inner h no_quote place (inl none) = subst (IsNoFront (IsEndedWord ends) rest) (sym none.0)
+    pub IsNoFieldFront-inner : len < length rest → get_or rest len 0 ≢ 0x22 → (place : ℕ) → IsNoInnerByte rest len place → IsNoFieldFront (IsEndedWord ends) rest place
+    IsNoFieldFront-inner h no_quote place (inl none) = subst (IsNoFieldFront (IsEndedWord ends) rest) (sym none.0)
         (no_front rest acc [] len i.short front_is (omega arith) (begun_inside rest acc len i)
         (λ h x a o words end. stops x a o words (goes_on (get_or rest len 0) x o.more (a.1 ∷ []) o.rest_is)))
       where
@@ -135,7 +135,7 @@ module _ (ends : List ℕ) (blanks : Blanks ends) where
         stops x a o words (stands v plain is) =
             let later = (and_parts (is_word acc) (is_word (get_or rest len 0 ∷ v)) (sym (list_all-append is_word_byte acc (get_or rest len 0 ∷ v)) ∙ ap is_word (ap (λ t. acc ++ t) (sym is) ∙ sym o.word_is) ∙ words)).1 in
             false≢true (sym none.2 ∙ (and_parts (is_word_byte (get_or rest len 0)) (is_word v) later).0)
-    IsNoFront-inner h no_quote place (inr none) = subst (IsNoFront (IsEndedWord ends) rest) (sym none.0)
+    IsNoFieldFront-inner h no_quote place (inr none) = subst (IsNoFieldFront (IsEndedWord ends) rest) (sym none.0)
         (no_front rest acc (0x5C ∷ []) (len + 1) (omega (arith, h)) front (omega arith) (subst (Begins (IsEndedWord ends)) (sym (with_next 0x5C h none.1)) (begun_escape rest acc len i))
         (λ h x a o words end. stops h x a o (goes_on 0x5C (get_or rest (len + 1) 0 ∷ x) o.more (a.1 ∷ []) o.rest_is)))
       where
@@ -148,8 +148,8 @@ module _ (ends : List ℕ) (blanks : Blanks ends) where
         stops h x a o (stands v plain is) = false≢true (sym plain)
 
     -- what stands behind the quote that closed the word ends none
-    pub IsNoFront-closed : len < length rest → get_or rest len 0 ≡ 0x22 → is_bare acc ≡ false → (len + 1 < length rest → ¬ (is_among_bytes ends (get_or rest (len + 1) 0) ≡ true)) → IsNoFront (IsEndedWord ends) rest (len + 1)
-    IsNoFront-closed h quote quotes none =
+    pub IsNoFieldFront-closed : len < length rest → get_or rest len 0 ≡ 0x22 → is_bare acc ≡ false → (len + 1 < length rest → ¬ (is_among_bytes ends (get_or rest (len + 1) 0) ≡ true)) → IsNoFieldFront (IsEndedWord ends) rest (len + 1)
+    IsNoFieldFront-closed h quote quotes none =
         no_front rest acc (0x22 ∷ []) (len + 1) (omega (arith, h)) (with_next 0x22 h quote ∙ ap (λ t. t ++ 0x22 ∷ []) i.front) (omega arith) (subst (Begins (IsEndedWord ends)) (sym (with_next 0x22 h quote)) (begun_closed rest acc len i quotes))
         (λ g x a o words end. stops g x a o end (goes_on 0x22 (get_or rest (len + 1) 0 ∷ x) o.more (a.1 ∷ []) o.rest_is))
       where
@@ -158,8 +158,8 @@ module _ (ends : List ℕ) (blanks : Blanks ends) where
         stops g x a o end (escape d u c esc r) = omega (arith, c)
         stops g x a o end (stands v plain is) = false≢true (sym plain)
 
-    pub IsFront-quoted : len + 1 < length rest → get_or rest len 0 ≡ 0x22 → is_bare acc ≡ false → is_among_bytes ends (get_or rest (len + 1) 0) ≡ true → IsFront (IsEndedWord ends) rest (acc, get_or rest (len + 1) 0) (drop (len + 1 + 1) rest)
-    IsFront-quoted h quote quotes end = record {
+    pub IsFieldFront-quoted : len + 1 < length rest → get_or rest len 0 ≡ 0x22 → is_bare acc ≡ false → is_among_bytes ends (get_or rest (len + 1) 0) ≡ true → IsFieldFront (IsEndedWord ends) rest (acc, get_or rest (len + 1) 0) (drop (len + 1 + 1) rest)
+    IsFieldFront-quoted h quote quotes end = record {
       spelled = take (len + 1 + 1) rest;
       split = sym (take-append-drop (len + 1 + 1) rest);
       spells = subst (λ t. IsEndedWord ends t (acc, get_or rest (len + 1) 0))
@@ -212,8 +212,8 @@ module _ (ends : List ℕ) (blanks : Blanks ends) where
         by x e = last (quoted_word a.0) (ap (list_all is_bare_byte) (sym p.is) ∙ f.bare)
 
     -- the next byte ends no word
-    pub IsNoFront-bare : (0 < n → n < length rest → ¬ (is_among_bytes ends (get_or rest n 0) ≡ true)) → IsNoFront (IsEndedWord ends) rest n
-    IsNoFront-bare none = IsNoFront-next (IsEndedWord ends) (IsCode-word ends blanks) rest n f.within begun_bare unspelled_bare next
+    pub IsNoFieldFront-bare : (0 < n → n < length rest → ¬ (is_among_bytes ends (get_or rest n 0) ≡ true)) → IsNoFieldFront (IsEndedWord ends) rest n
+    IsNoFieldFront-bare none = IsNoFieldFront-next (IsEndedWord ends) (IsCode-word ends blanks) rest n f.within begun_bare unspelled_bare next
       where
         next : n < length rest → Begins (IsEndedWord ends) (take (n + 1) rest) → ⊥
         next h b =
@@ -226,8 +226,8 @@ module _ (ends : List ℕ) (blanks : Blanks ends) where
             let same = same_bare (take n rest) b.value.0 c b.value.1 b.more [] f.bare parts.1 (f.ends h) (ended ends blanks b.value.1 p.ends_is) (whole ∙ ap (λ t. t ++ b.value.1 ∷ []) (written_bare b.value.0 bare)) in
             none (omega (arith, parts.0, ap length same.0, length-take-le n rest f.within)) h (ap (is_among_bytes ends) same.1 ∙ p.ends_is)
 
-    pub IsFront-bare : 0 < n → n < length rest → is_among_bytes ends (get_or rest n 0) ≡ true → IsFront (IsEndedWord ends) rest (take n rest, get_or rest n 0) (drop (n + 1) rest)
-    IsFront-bare some h end = record {
+    pub IsFieldFront-bare : 0 < n → n < length rest → is_among_bytes ends (get_or rest n 0) ≡ true → IsFieldFront (IsEndedWord ends) rest (take n rest, get_or rest n 0) (drop (n + 1) rest)
+    IsFieldFront-bare some h end = record {
       spelled = take (n + 1) rest;
       split = sym (take-append-drop (n + 1) rest);
       spells = record {

@@ -11,7 +11,7 @@ use Rattle.reply_fields.specs.declared.error.ReplyError.{ReplyError}
 use Rattle.reply_fields.specs.Fronts.{IsRead, ReadsFrom, Then}
 use Rattle.reply_fields.specs.Spelled.{IsNameOf, IsNumber, is_among_bytes, is_no_digit, are_apart}
 use Rattle.reply_fields.proofs.Codes.{IsCode, IsCode-Then, reads_then}
-use Rattle.reply_fields.proofs.DigestFronts.{IsCode-digest, IsNoFront-digest}
+use Rattle.reply_fields.proofs.DigestFronts.{IsCode-digest, IsNoFieldFront-digest}
 use Rattle.reply_fields.proofs.NameReading.{IsCode-names}
 use Rattle.reply_fields.proofs.NumberReading.{IsCode-number}
 use Rattle.reply_reader.specs.Fields.{IsDigestField, IsField, IsPrinted}
@@ -71,7 +71,7 @@ module _ (most end : ℕ) where
 -- ---- digests
 
 pub begins_digest : Begins SpellsDigest []
-begins_digest = (IsNoFront-digest [] 0 (record { within = omega arith; most = omega arith; each = λ i h. absurd (omega (arith, h)); ends = λ g h. absurd (omega (arith, h)) }) (omega arith)).begins
+begins_digest = (IsNoFieldFront-digest [] 0 (record { within = omega arith; most = omega arith; each = λ i h. absurd (omega (arith, h)); ends = λ g h. absurd (omega (arith, h)) }) (omega arith)).begins
 
 module _ (end : ℕ) where
   DigestThen : Text → Digest → Type 0

@@ -11,7 +11,7 @@ use Rattle.grid_model.specs.declared.replies.End.TheVariants as end
 use Rattle.grid_model.specs.declared.replies.Reply.{Reply}
 use Rattle.reply_fields.specs.declared.error.ReplyError.{ReplyError}
 use Rattle.reply_fields.specs.declared.error.ReplyError.TheVariants.{BadReply}
-use Rattle.reply_fields.specs.Fronts.{IsNoFront, IsRead, ReadsFrom, Then}
+use Rattle.reply_fields.specs.Fronts.{IsNoFieldFront, IsRead, ReadsFrom, Then}
 use Rattle.reply_fields.specs.Spelled.{IsNumber}
 use Rattle.reply_fields.proofs.Codes.{IsCode, reads_first, shorter_first}
 use Rattle.reply_fields.proofs.NumberReading.{IsCode-number}
@@ -32,7 +32,7 @@ module _ {A : Type 0} (P : Text → A → Type 0) where
   pub refused_at : (text : Text) (place : ℕ) → ReadsFrom P text 0 (Err (BadReply place)) → IsRefusedAt P text place
   refused_at text place r =
       let count : place - 0 ≡ place = omega arith in
-      let none = subst (λ k. IsNoFront P text k) count r.none in
+      let none = subst (λ k. IsNoFieldFront P text k) count r.none in
       record { spells_nothing = λ a p. none.none text [] a (sym (append-nil text)) p; within = none.within; begins = none.begins; longest = none.longest }
 
   -- what was read is not all of the text

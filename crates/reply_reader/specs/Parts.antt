@@ -8,8 +8,8 @@ use Rattle.reply_reader.specs.declared.lines.Line.TheVariants as line
 use Rattle.reply_reader.specs.declared.parts.Parts.{Parts}
 
 -- as a reply that has stopped there
-abbrev pub front_of : Parts → Reply
-front_of p = record { marks = p.marks.items; shown = p.shown.items; passed = p.passed.items; rows = p.rows.items; end = end.Stopped }
+abbrev pub reply_so_far : Parts → Reply
+reply_so_far p = record { marks = p.marks.items; shown = p.shown.items; passed = p.passed.items; rows = p.rows.items; end = end.Stopped }
 
 -- with one line more
 abbrev pub with_line : Reply → Line → Reply

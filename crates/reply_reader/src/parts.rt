@@ -15,15 +15,15 @@ pub struct Parts {
 }
 
 impl Parts {
-    ghost use Rattle.reply_reader.specs.Parts.{front_of};
+    ghost use Rattle.reply_reader.specs.Parts.{reply_so_far};
     ghost use Rattle.std.specs.Prelude.{[]};
 
     /// None yet.
     pub fn new(alloc: Global) -> Parts
-        ensures marks { (front_of result).marks ≡ [] }
-        ensures shown { (front_of result).shown ≡ [] }
-        ensures passed { (front_of result).passed ≡ [] }
-        ensures rows { (front_of result).rows ≡ [] }
+        ensures marks { (reply_so_far result).marks ≡ [] }
+        ensures shown { (reply_so_far result).shown ≡ [] }
+        ensures passed { (reply_so_far result).passed ≡ [] }
+        ensures rows { (reply_so_far result).rows ≡ [] }
     {
         Parts {
             marks: Vec::new(alloc),
@@ -35,7 +35,7 @@ impl Parts {
 
     /// Adds what a line says. A mark takes away the data lines before it.
     pub fn add(&mut self, line: Line) -> Result<(), AllocError>
-        ensures { OnOk result (front_of self.new ≡ with_line (front_of self.old) line) }
+        ensures { OnOk result (reply_so_far self.new ≡ with_line (reply_so_far self.old) line) }
     {
         match line {
             Line::Data(bytes) => self.shown.extend_from_slice(bytes.as_slice()),
@@ -51,7 +51,7 @@ impl Parts {
 
     /// All of a reply, with its end.
     pub fn into_reply(self, end: End) -> Reply
-        ensures { result ≡ with_end (front_of self) end }
+        ensures { result ≡ with_end (reply_so_far self) end }
     {
         Reply {
             marks: Items::from_vec(self.marks),

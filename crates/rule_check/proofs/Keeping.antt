@@ -4,7 +4,7 @@ use Rattle.std.proofs.lemmas.Bool.Decides.{nat_tests}
 use Rattle.std.proofs.lemmas.List.{flat_map_more, map-append, take_more}
 use Rattle.std.specs.List.{flat_map}
 use Rattle.grid_model.specs.Checks.{Fault, first_fault, sooner, comes_first, cause_rank}
-use Rattle.rule_check.specs.Faults.{keep}
+use Rattle.rule_check.specs.Faults.{least}
 
 -- the one of two that counts, the first where neither comes before the other
 abbrev pick : Fault → Fault → Bool → Fault
@@ -13,22 +13,22 @@ pick f g b = elim b as (λ _. Fault) [ true ↦ g | false ↦ f ]
 picks : (f g : Fault) (b : Bool) → comes_first g f ≡ b → sooner f (Some g) ≡ pick f g b
 picks f g b e = ap (λ (t : Bool). pick f g t) e
 
-pub keep-none : (f : Fault) → Some f ≡ keep None (f ∷ [])
-unfolding keep
-keep-none f = refl
+pub least-none : (f : Fault) → Some f ≡ least None (f ∷ [])
+unfolding least
+least-none f = refl
 
-pub keep-first : (f g : Fault) → comes_first f g ≡ true → Some f ≡ keep (Some g) (f ∷ [])
-unfolding keep
-keep-first f g e = ap Some (sym (picks g f true e))
+pub least-first : (f g : Fault) → comes_first f g ≡ true → Some f ≡ least (Some g) (f ∷ [])
+unfolding least
+least-first f g e = ap Some (sym (picks g f true e))
 
-pub keep-later : (f g : Fault) → comes_first f g ≡ false → Some g ≡ keep (Some g) (f ∷ [])
-unfolding keep
-keep-later f g e = ap Some (sym (picks g f false e))
+pub least-later : (f g : Fault) → comes_first f g ≡ false → Some g ≡ least (Some g) (f ∷ [])
+unfolding least
+least-later f g e = ap Some (sym (picks g f false e))
 
-pub keep-nil : (b : Option Fault) → b ≡ keep b []
-unfolding keep
-keep-nil None = refl
-keep-nil (Some f) = refl
+pub least-nil : (b : Option Fault) → b ≡ least b []
+unfolding least
+least-nil None = refl
+least-nil (Some f) = refl
 
 -- ---- the order of faults
 
@@ -68,27 +68,27 @@ first-append : (xs ys : List Fault) → first_fault (xs ++ ys) ≡ better (first
 first-append [] ys = refl
 first-append (f ∷ xs) ys = ap Some (ap (sooner f) (first-append xs ys) ∙ joined f (first_fault xs) (first_fault ys))
 
-by_first : (a : Option Fault) (ys : List Fault) → better a (first_fault ys) ≡ keep a ys
-unfolding keep
+by_first : (a : Option Fault) (ys : List Fault) → better a (first_fault ys) ≡ least a ys
+unfolding least
 by_first None ys = refl
 by_first (Some f) ys = refl
 
 -- faults that are found one after another are found at once
-pub keep-append : (b : Option Fault) (xs ys : List Fault) → keep b (xs ++ ys) ≡ keep (keep b xs) ys
-unfolding keep
-keep-append None xs ys = first-append xs ys ∙ by_first (first_fault xs) ys
-keep-append (Some f) xs ys = ap Some (ap (sooner f) (first-append xs ys) ∙ joined f (first_fault xs) (first_fault ys))
+pub least-append : (b : Option Fault) (xs ys : List Fault) → least b (xs ++ ys) ≡ least (least b xs) ys
+unfolding least
+least-append None xs ys = first-append xs ys ∙ by_first (first_fault xs) ys
+least-append (Some f) xs ys = ap Some (ap (sooner f) (first-append xs ys) ∙ joined f (first_fault xs) (first_fault ys))
 
 -- what is found, joined
-pub ruleset keeping = (keep-append, keep-nil)
+pub ruleset keeping = (least-append, least-nil)
 
 -- one more of a list, each with its faults
 pub keep_more : {X Y : Type 0} (g : X → Y) (f : Y → List Fault) (b now new : Option Fault) (xs : List X) (i : ℕ) (x : X) → i < length xs → x ≡ get_or xs i x
-    → now ≡ keep b (flat_map f (map g (take i xs))) → new ≡ keep now (f (g x)) → new ≡ keep b (flat_map f (map g (take (i + 1) xs)))
+    → now ≡ least b (flat_map f (map g (take i xs))) → new ≡ least now (f (g x)) → new ≡ least b (flat_map f (map g (take (i + 1) xs)))
 keep_more g f b now new xs i x lt is so_far step =
     step
-    ∙ ap (λ o. keep o (f (g x))) so_far
-    ∙ sym (keep-append b (flat_map f (map g (take i xs))) (f (g x)))
-    ∙ ap (keep b)
+    ∙ ap (λ o. least o (f (g x))) so_far
+    ∙ sym (least-append b (flat_map f (map g (take i xs))) (f (g x)))
+    ∙ ap (least b)
     (flat_map_more f [] (map g (take i xs)) (g x)
     ∙ ap (flat_map f) (sym (map-append g (take i xs) (x ∷ [])) ∙ ap (map g) (ap (λ y. take i xs ++ y ∷ []) is ∙ sym (take_more xs i x lt))))

@@ -14,6 +14,6 @@ abbrev pub fault_so_far : Findings → Option checks.Fault
 fault_so_far f = option_map fault_of f.first
 
 -- the one that counts of that and these
-unfoldable pub keep : Option checks.Fault → List checks.Fault → Option checks.Fault
-keep None fs = first_fault fs
-keep (Some f) fs = Some (sooner f (first_fault fs))
+unfoldable pub least : Option checks.Fault → List checks.Fault → Option checks.Fault
+least None fs = first_fault fs
+least (Some f) fs = Some (sooner f (first_fault fs))

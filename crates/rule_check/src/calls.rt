@@ -3,7 +3,7 @@
 ghost use Rattle.grid_model.specs.Checks.{call_faults, first_texts, is_literal_of, is_no_recovery, is_rule, literal_faults};
 ghost use Rattle.grid_model.specs.Checks.{recovery_faults, rule_takes, step_faults};
 ghost use Rattle.grid_model.specs.Parsed.{call_of, shape_of, step_of, term_of};
-ghost use Rattle.rule_check.specs.Faults.{fault_so_far, keep};
+ghost use Rattle.rule_check.specs.Faults.{fault_so_far, least};
 ghost use Rattle.rule_check.specs.Rules.{known_of, name_faults, named_rules};
 ghost use Rattle.rule_check.specs.Words.{words};
 ghost use Rattle.std.specs.Prelude.{◌≡◌, flat_map, map, option_map};
@@ -34,7 +34,7 @@ pub fn rule_takes(names: &RuleNames, name: &[u8], count: usize) -> bool
 
 /// Looks at the name and the number of the arguments of a call.
 fn check_name(findings: &mut Findings, names: &RuleNames, name: &[u8], at: u64, count: usize)
-    ensures { fault_so_far findings.new ≡ keep (fault_so_far findings.old) (name_faults (named_rules names.now) name.now at count) }
+    ensures { fault_so_far findings.new ≡ least (fault_so_far findings.old) (name_faults (named_rules names.now) name.now at count) }
 {
     let is_service = tables::is_service(name);
     let is_rule = is_rule(names, name);
@@ -57,7 +57,7 @@ fn is_literal_of(table: &[&[u8]], form: &Form) -> bool
 
 /// Looks at the first argument of a call, which may have to be one of some texts.
 fn check_first(findings: &mut Findings, name: &[u8], args: &[Expr])
-    ensures { fault_so_far findings.new ≡ keep (fault_so_far findings.old) (literal_faults (first_texts name.now) (map term_of args.now)) }
+    ensures { fault_so_far findings.new ≡ least (fault_so_far findings.old) (literal_faults (first_texts name.now) (map term_of args.now)) }
 {
     match tables::first_texts(name) {
         None => {}
@@ -73,7 +73,7 @@ fn check_first(findings: &mut Findings, name: &[u8], args: &[Expr])
 
 /// Looks at a call.
 pub fn check_call(findings: &mut Findings, names: &RuleNames, known: &Known, call: &Call0)
-    ensures { fault_so_far findings.new ≡ keep (fault_so_far findings.old) (call_faults (named_rules names.now) (known_of known.now) (call_of call.now)) }
+    ensures { fault_so_far findings.new ≡ least (fault_so_far findings.old) (call_faults (named_rules names.now) (known_of known.now) (call_of call.now)) }
 {
     let name = call.name.as_slice();
     let args = call.args.as_slice();
@@ -97,7 +97,7 @@ fn check_recovery(
     recovery: &Option<Call0>,
 )
     ensures { fault_so_far findings.new
-        ≡ keep (fault_so_far findings.old) (recovery_faults (named_rules names.now) (known_of known.now) (option_map call_of recovery.now)) }
+        ≡ least (fault_so_far findings.old) (recovery_faults (named_rules names.now) (known_of known.now) (option_map call_of recovery.now)) }
 {
     match recovery {
         None => {}
@@ -111,7 +111,7 @@ fn check_recovery(
 
 /// Looks at a step.
 fn check_step(findings: &mut Findings, names: &RuleNames, known: &Known, step: &Step)
-    ensures { fault_so_far findings.new ≡ keep (fault_so_far findings.old) (step_faults (named_rules names.now) (known_of known.now) (step_of step.now)) }
+    ensures { fault_so_far findings.new ≡ least (fault_so_far findings.old) (step_faults (named_rules names.now) (known_of known.now) (step_of step.now)) }
 {
     check_call(findings, names, known, &step.call);
     check_recovery(findings, names, known, &step.recovery);
@@ -120,7 +120,7 @@ fn check_step(findings: &mut Findings, names: &RuleNames, known: &Known, step: &
 /// Looks at steps.
 pub fn check_steps(findings: &mut Findings, names: &RuleNames, known: &Known, steps: &[Step])
     ensures { fault_so_far findings.new
-        ≡ keep (fault_so_far findings.old) (flat_map (step_faults (named_rules names.now) (known_of known.now)) (map step_of steps.now)) }
+        ≡ least (fault_so_far findings.old) (flat_map (step_faults (named_rules names.now) (known_of known.now)) (map step_of steps.now)) }
 {
     for step in steps {
         check_step(findings, names, known, step);

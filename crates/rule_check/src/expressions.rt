@@ -2,7 +2,7 @@
 
 ghost use Rattle.grid_model.specs.Checks.{argument_faults, condition_faults, term_faults};
 ghost use Rattle.grid_model.specs.Parsed.{term_of};
-ghost use Rattle.rule_check.specs.Faults.{fault_so_far, keep};
+ghost use Rattle.rule_check.specs.Faults.{fault_so_far, least};
 ghost use Rattle.rule_check.specs.Rules.{known_of};
 ghost use Rattle.std.specs.Prelude.{◌≡◌, flat_map, map, option_map};
 
@@ -13,7 +13,7 @@ use grid_model::{Expr, Form, RuleCause};
 
 /// Looks at an expression.
 pub fn check_expr(findings: &mut Findings, known: &Known, expr: &Expr)
-    ensures { fault_so_far findings.new ≡ keep (fault_so_far findings.old) (term_faults (known_of known.now) (term_of expr.now)) }
+    ensures { fault_so_far findings.new ≡ least (fault_so_far findings.old) (term_faults (known_of known.now) (term_of expr.now)) }
 {
     match &expr.form {
         Form::Text(_) => {}
@@ -43,7 +43,7 @@ pub fn check_expr(findings: &mut Findings, known: &Known, expr: &Expr)
 
 /// Looks at an argument of a call of the name.
 fn check_argument(findings: &mut Findings, known: &Known, name: &[u8], arg: &Expr)
-    ensures { fault_so_far findings.new ≡ keep (fault_so_far findings.old) (argument_faults (known_of known.now) name.now (term_of arg.now)) }
+    ensures { fault_so_far findings.new ≡ least (fault_so_far findings.old) (argument_faults (known_of known.now) name.now (term_of arg.now)) }
 {
     let fits = is_argument_of(name, sort_of(&arg.form));
     findings.note(!fits, arg.at, RuleCause::Typing);
@@ -52,7 +52,7 @@ fn check_argument(findings: &mut Findings, known: &Known, name: &[u8], arg: &Exp
 
 /// Looks at the arguments of a call of the name.
 pub fn check_arguments(findings: &mut Findings, known: &Known, name: &[u8], args: &[Expr])
-    ensures { fault_so_far findings.new ≡ keep (fault_so_far findings.old) (flat_map (argument_faults (known_of known.now) name.now) (map term_of args.now)) }
+    ensures { fault_so_far findings.new ≡ least (fault_so_far findings.old) (flat_map (argument_faults (known_of known.now) name.now) (map term_of args.now)) }
 {
     for arg in args {
         check_argument(findings, known, name, arg);
@@ -61,7 +61,7 @@ pub fn check_arguments(findings: &mut Findings, known: &Known, name: &[u8], args
 
 /// Looks at a condition.
 pub fn check_condition(findings: &mut Findings, known: &Known, cond: &Option<Expr>)
-    ensures { fault_so_far findings.new ≡ keep (fault_so_far findings.old) (condition_faults (known_of known.now) (option_map term_of cond.now)) }
+    ensures { fault_so_far findings.new ≡ least (fault_so_far findings.old) (condition_faults (known_of known.now) (option_map term_of cond.now)) }
 {
     if let Some(expr) = cond {
         let fits = sort_of(&expr.form) == Sort::Truth;

@@ -1,5 +1,5 @@
 ghost use Rattle.grid_model.specs.Checks.{cause_rank, comes_first, fault_if};
-ghost use Rattle.rule_check.specs.Faults.{fault_of, fault_so_far, keep};
+ghost use Rattle.rule_check.specs.Faults.{fault_of, fault_so_far, least};
 ghost use Rattle.std.specs.Prelude.{◌≡◌, ◌∷◌, [], None, Some};
 
 use grid_model::RuleCause;
@@ -53,7 +53,7 @@ impl Findings {
 
     /// Adds a fault.
     fn add(&mut self, fault: Fault)
-        ensures { fault_so_far self.new ≡ keep (fault_so_far self.old) (fault_of fault ∷ []) }
+        ensures { fault_so_far self.new ≡ least (fault_so_far self.old) (fault_of fault ∷ []) }
     {
         match self.first {
             None => self.first = Some(fault),
@@ -67,7 +67,7 @@ impl Findings {
 
     /// Adds a fault, where there is one.
     pub fn note(&mut self, is_fault: bool, at: u64, cause: RuleCause)
-        ensures { fault_so_far self.new ≡ keep (fault_so_far self.old) (fault_if is_fault at cause) }
+        ensures { fault_so_far self.new ≡ least (fault_so_far self.old) (fault_if is_fault at cause) }
     {
         if is_fault {
             self.add(Fault { at, cause });

@@ -2,7 +2,7 @@
 
 ghost use Rattle.grid_model.specs.Checks.{exec_faults, first_fault, rule_faults, rules_faults, count_faults};
 ghost use Rattle.grid_model.specs.Parsed.{call_of, rule_of};
-ghost use Rattle.rule_check.specs.Faults.{fault_so_far, keep};
+ghost use Rattle.rule_check.specs.Faults.{fault_so_far, least};
 ghost use Rattle.rule_check.specs.Rules.{head_faults, known_of, named_rules};
 ghost use Rattle.rule_check.specs.Tables.{without_places};
 ghost use Rattle.rule_check.specs.declared.error.RuleError.TheVariants.{Bad};
@@ -31,7 +31,7 @@ fn check_head(
     count: usize,
     is_repeated: bool,
 )
-    ensures { fault_so_far findings.new ≡ keep (fault_so_far findings.old) (head_faults (named_rules names.now) name.now at count is_repeated) }
+    ensures { fault_so_far findings.new ≡ least (fault_so_far findings.old) (head_faults (named_rules names.now) name.now at count is_repeated) }
 {
     let is_taken = is_service(name);
     let is_point = is_point(name);
@@ -49,7 +49,7 @@ fn check_rule(
     names: &RuleNames,
     rule: &Rule,
 ) -> Result<(), AllocError>
-    ensures { OnOk result (fault_so_far findings.new ≡ keep (fault_so_far findings.old) (rule_faults (named_rules names.now) (rule_of rule.now))) }
+    ensures { OnOk result (fault_so_far findings.new ≡ least (fault_so_far findings.old) (rule_faults (named_rules names.now) (rule_of rule.now))) }
 {
     let params = rule.params.as_slice();
     let known = Known::new(alloc, params, &SESSIONS)?;
@@ -73,7 +73,8 @@ fn check_each(
     names: &RuleNames,
     rules: &[Rule],
 ) -> Result<(), AllocError>
-    ensures { OnOk result (fault_so_far findings.new ≡ keep (fault_so_far findings.old) (flat_map (rule_faults (named_rules names.now)) (map rule_of rules.now))) }
+    ensures { let faults = flat_map (rule_faults (named_rules names.now)) (map rule_of rules.now) in
+        OnOk result (fault_so_far findings.new ≡ least (fault_so_far findings.old) faults) }
 {
     for rule in rules {
         check_rule(alloc, findings, names, rule)?;
@@ -83,7 +84,7 @@ fn check_each(
 
 /// Looks at the number of rules.
 fn check_count(findings: &mut Findings, rules: &[Rule])
-    ensures { fault_so_far findings.new ≡ keep (fault_so_far findings.old) (count_faults (map rule_of rules.now)) }
+    ensures { fault_so_far findings.new ≡ least (fault_so_far findings.old) (count_faults (map rule_of rules.now)) }
 {
     match rules.get(MOST_RULES) {
         None => {}

@@ -6,7 +6,7 @@ use Rattle.std.proofs.lemmas.List.{append_assoc, append-nil, take_rest, take-app
 use Rattle.rule_lex.specs.Bytes.{SourceText, is_space}
 use Rattle.rule_lex.specs.Tokens.{RuleToken, PlacedToken, IsComment, SpellsRuleTokens, at_end}
 use Rattle.rule_lex.specs.Tokens as tokens
-use Rattle.rule_lex.specs.Places.{IsRefusedAt}
+use Rattle.rule_lex.specs.Places.{IsSourceRefusedAt}
 use Rattle.rule_lex.specs.Fronts.{IsLongestToken, IsNoFront}
 use Rattle.rule_lex.specs.Skipping.{SkipsBlanks, none, space, comment, is_skipped}
 use Rattle.rule_lex.proofs.Firsts.{StartsToken, starts_token, starts_length, is_first}
@@ -115,7 +115,7 @@ starts_here text at low h = subst StartsToken (sym (drop_more text at 0 low)) (f
         by false true h = absurd (both_ways true h refl)
         by false false h = refl
 
-refused_is : {text : SourceText} {place : ℕ} → Refused 0 text place → IsRefusedAt text place
+refused_is : {text : SourceText} {place : ℕ} → Refused 0 text place → IsSourceRefusedAt text place
 refused_is r = record {
   spells_nothing = r.spells_nothing;
   within = r.within;
@@ -123,7 +123,7 @@ refused_is r = record {
   longest = λ n low high b. r.longest n low high b.more b.tokens b.spells;
 }
 
-pub reached_bad : (text : SourceText) (at n : ℕ) (found : List PlacedToken) → Reached text at found → at < length text → is_skipped (slice_index text at) ≡ false → IsNoFront (take (length text - at) (drop at text)) n → IsRefusedAt text (at + n)
+pub reached_bad : (text : SourceText) (at n : ℕ) (found : List PlacedToken) → Reached text at found → at < length text → is_skipped (slice_index text at) ≡ false → IsNoFront (take (length text - at) (drop at text)) n → IsSourceRefusedAt text (at + n)
 reached_bad text at n found reached low first no_front =
     refused_is (reached.refused n (refused_here (drop at text) (starts_here text at low first) (subst (λ s. IsNoFront s n) (take_rest text at) no_front)))
 

@@ -10,7 +10,7 @@ pub record BeginsTokens (text : SourceText) : Type 0 where
   pub spells : SpellsRuleTokens 0 (text ++ more) tokens
 
 -- The text is not made of tokens, and this is the length of its longest front that begins one which is.
-pub record IsRefusedAt (text : SourceText) (place : ℕ) : Type 0 where
+pub record IsSourceRefusedAt (text : SourceText) (place : ℕ) : Type 0 where
   pub spells_nothing : (tokens : List PlacedToken) → ¬ SpellsRuleTokens 0 text tokens
   pub within : place ≤ length text
   pub begins : BeginsTokens (take place text)

@@ -1,5 +1,5 @@
 ghost use Rattle.std.specs.Prelude.{◌≡◌, ℕ, List};
-ghost use Rattle.rule_lex.specs.Places.{IsRefusedAt};
+ghost use Rattle.rule_lex.specs.Places.{IsSourceRefusedAt};
 ghost use Rattle.rule_lex.specs.Spans.{StandInOrder};
 ghost use Rattle.rule_lex.specs.Tokens.{PlacedToken, SpellsRuleTokens};
 
@@ -11,7 +11,7 @@ pub fn one_list_of_tokens()
 
 /// A text is refused at one place.
 pub fn one_place_of_refusal()
-    ensures { (text : List ℕ) (place other : ℕ) → IsRefusedAt text place → IsRefusedAt text other → place ≡ other }
+    ensures { (text : List ℕ) (place other : ℕ) → IsSourceRefusedAt text place → IsSourceRefusedAt text other → place ≡ other }
 {}
 
 /// The tokens of a text stand in it one behind the other, each with its bytes.

@@ -1,5 +1,5 @@
 ghost use Rattle.std.specs.Prelude.{◌≡◌, ℕ, List, IfOk, MatchResult, map, IsErrOf};
-ghost use Rattle.rule_lex.specs.Places.{IsRefusedAt};
+ghost use Rattle.rule_lex.specs.Places.{IsSourceRefusedAt};
 ghost use Rattle.rule_lex.specs.Seen.{rule_token_of};
 ghost use Rattle.rule_lex.specs.Tokens.{PlacedToken, SpellsRuleTokens};
 
@@ -22,7 +22,7 @@ pub fn lex<'a>(alloc: Global, text: &'a [u8]) -> Result<Tokens<'a>, LexError>
     // What is made of tokens is read as they are, unless there is no memory.
     ensures only { (all : List PlacedToken) → SpellsRuleTokens 0 text.now all
         → MatchResult result (λ tokens. map rule_token_of tokens.items ≡ all) (λ e. e ≡ LexError.Memory) }
-    ensures bad_token { (at : ℕ) → IsErrOf result (LexError.BadToken at) → IsRefusedAt text.now at }
+    ensures bad_token { (at : ℕ) → IsErrOf result (LexError.BadToken at) → IsSourceRefusedAt text.now at }
 {
     let mut tokens = Vec::new(alloc);
     let mut at = skip(text, 0);

@@ -8,7 +8,7 @@ use Rattle.rule_lex.specs.Seen.{rule_token_of}
 use Rattle.rule_lex.specs.Tokens.{RuleToken, PlacedToken}
 use Rattle.rule_lex.specs.declared.token.Token.{Token as Row}
 use Rattle.rule_parse.specs.Grammar.{Tokens}
-use Rattle.rule_parse.specs.RuleTexts.{located, place_of_token, StopsAt}
+use Rattle.rule_parse.specs.RuleTexts.{located, place_of_token, RulesStopAt}
 use Rattle.rule_parse.specs.Seen.{TakesToken, IsStop}
 use Rattle.rule_parse.proofs.Machines.{run, IsReader, stops_at_end, stops_at_token}
 
@@ -46,9 +46,9 @@ place_at_end (y ∷ all) end = place_at_end all end
 
 module _ {S A : Type 0} (next : S → ℕ × RuleToken → Option S) (finish : S → Option A) (start : S) (Spells : Tokens → A → Type 0) (is : IsReader next finish start Spells) where
   -- a token may not stand where it stands
-  pub stops_there : {all front later behind : List Row} {len : ℕ} (x : Row) (s : S) (end : ℕ) → IsSplit all front later len → later ≡ x ∷ behind → run next start (tokens_of front) ≡ Some s → next s (located (rule_token_of x)) ≡ None → StopsAt Spells (seen all) end x.at
+  pub stops_there : {all front later behind : List Row} {len : ℕ} (x : Row) (s : S) (end : ℕ) → IsSplit all front later len → later ≡ x ∷ behind → run next start (tokens_of front) ≡ Some s → next s (located (rule_token_of x)) ≡ None → RulesStopAt Spells (seen all) end x.at
   stops_there {all = all} {front = front} {behind = behind} x s end split later runs stuck =
-      subst (λ ts. StopsAt Spells ts end x.at) (sym (ap (map rule_token_of) (split.all_is ∙ ap (λ ts. front ++ ts) later) ∙ map-append rule_token_of front (x ∷ behind))) (record {
+      subst (λ ts. RulesStopAt Spells ts end x.at) (sym (ap (map rule_token_of) (split.all_is ∙ ap (λ ts. front ++ ts) later) ∙ map-append rule_token_of front (x ∷ behind))) (record {
         count = length (seen front);
         refused = subst (λ ts. IsRefusedAt Spells ts (length (seen front))) (sym (map-append located (seen front) (rule_token_of x ∷ seen behind)))
             (subst (λ k. IsRefusedAt Spells (tokens_of front ++ located (rule_token_of x) ∷ tokens_of behind) k) (length-map (seen front) located) (stops_at_token next finish start Spells is (tokens_of front) s (located (rule_token_of x)) (tokens_of behind) runs stuck));
@@ -56,7 +56,7 @@ module _ {S A : Type 0} (next : S → ℕ × RuleToken → Option S) (finish : S
       })
 
   -- the tokens end too early
-  pub stops_at_last : (all : List Row) (s : S) (end : ℕ) → run next start (tokens_of all) ≡ Some s → finish s ≡ None → StopsAt Spells (seen all) end end
+  pub stops_at_last : (all : List Row) (s : S) (end : ℕ) → run next start (tokens_of all) ≡ Some s → finish s ≡ None → RulesStopAt Spells (seen all) end end
   stops_at_last all s end runs none = record {
     count = length (seen all);
     refused = subst (λ k. IsRefusedAt Spells (tokens_of all) k) (length-map (seen all) located) (stops_at_end next finish start Spells is (tokens_of all) s runs none);
@@ -74,5 +74,5 @@ follows_none {o = o} s b h f = subst (λ x. TakesToken o x s) h f
 pub follows_some : {S : Type 0} {o : Option S} (s : S) (b : Bool) → b ≡ true → TakesToken o b s → o ≡ Some s
 follows_some {o = o} s b h f = subst (λ x. TakesToken o x s) h f
 
-pub is_stop : {A : Type 0} {Spells : Tokens → A → Type 0} {ts : List PlacedToken} {end at place : ℕ} {c : RuleCause} → place ≡ at → cause.Grammar ≡ c → StopsAt Spells ts end place → IsStop Spells ts end at c
-is_stop {Spells = Spells} {ts = ts} {end = end} e g h = record { cause_is = sym g; stops = subst (λ k. StopsAt Spells ts end k) e h }
+pub is_stop : {A : Type 0} {Spells : Tokens → A → Type 0} {ts : List PlacedToken} {end at place : ℕ} {c : RuleCause} → place ≡ at → cause.Grammar ≡ c → RulesStopAt Spells ts end place → IsStop Spells ts end at c
+is_stop {Spells = Spells} {ts = ts} {end = end} e g h = record { cause_is = sym g; stops = subst (λ k. RulesStopAt Spells ts end k) e h }

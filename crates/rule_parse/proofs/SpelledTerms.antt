@@ -9,7 +9,7 @@ use Rattle.grid_model.specs.declared.rules.Operator.TheVariants as operator
 use Rattle.rule_lex.specs.Tokens.{RuleToken, symbol, text, number, param, session}
 use Rattle.rule_lex.specs.declared.token.Symbol.TheVariants as sign
 use Rattle.rule_parse.specs.Grammar.{Tokens, Rank, disjunction, conjunction, negation, comparison, joining, atom, SpellsArgument, SpellsTerm, one_and, ors, one_not, ands, one_comparison, nots, one_join, compares, one_atom, joins, a_text, a_number, a_param, a_session, a_true, a_false, enclosing as in_parentheses, placed_term, operators, is_comparing, sign_of}
-use Rattle.rule_parse.specs.Readers.{Enclosing, enclosing, Level, level_with, empty, TermReader, wanting, behind_operand, with_left, with_compared, with_nots, joined_term, compared, negated, conjoined, disjoined, TermRead, at_comma, at_close, when, is_free, as_next, next_term, read_term, read_with, read_close, read_comma, new_reader}
+use Rattle.rule_parse.specs.Readers.{Enclosing, enclosing, Level, level_with, empty_level, TermReader, wanting, behind_operand, with_left, with_compared, with_nots, joined_term, compared, negated, conjoined, disjoined, TermRead, at_comma, at_close, when, is_free, as_next, next_term, read_term, read_with, read_close, read_comma, new_reader}
 use Rattle.rule_parse.proofs.Machines.{some_is, not_some, run}
 
 -- ---- what waits on the left of an operator
@@ -300,7 +300,7 @@ not_holds {l = l} p free clear few h = record {
     none : h.inner.cts ++ h.inner.jts ≡ []
     none = ap (λ z. z ++ h.inner.jts) (no_compared_tokens free h.inner.of_compared) ∙ no_left_tokens clear h.inner.of_join
 
-open_holds : {ts : Tokens} {os : List Enclosing} {l : Level} {n : ℕ} (p : ℕ) → length os < 256 → Expecting ts os l n → Expecting (ts ++ (p, symbol sign.OpenParenthesis) ∷ []) (enclosing p l ∷ os) empty n
+open_holds : {ts : Tokens} {os : List Enclosing} {l : Level} {n : ℕ} (p : ℕ) → length os < 256 → Expecting ts os l n → Expecting (ts ++ (p, symbol sign.OpenParenthesis) ∷ []) (enclosing p l ∷ os) empty_level n
 open_holds {ts = ts} {os = os} {l = l} p deep h = record {
   d = h.d - 1;
   outside = ts ++ (p, symbol sign.OpenParenthesis) ∷ [];

@@ -8,7 +8,7 @@ use Rattle.grid_model.specs.declared.rules.Operator.TheVariants as operator
 use Rattle.rule_lex.specs.Tokens.{symbol}
 use Rattle.rule_lex.specs.declared.token.Symbol.TheVariants as sign
 use Rattle.rule_parse.specs.Grammar.{Tokens, Rank, disjunction, conjunction, negation, comparison, joining, atom, SpellsArgument, SpellsTerm, one_and, ors, one_not, ands, one_comparison, nots, one_join, compares, one_atom, joins, a_text, a_number, a_param, a_session, a_true, a_false, enclosing as in_parentheses, applied_term, not_at, placed_term, operators, is_comparing, sign_of}
-use Rattle.rule_parse.specs.Readers.{Enclosing, enclosing, Level, level_with, empty, TermReader, wanting, behind_operand, with_left, with_compared, with_nots, when, as_next, next_term}
+use Rattle.rule_parse.specs.Readers.{Enclosing, enclosing, Level, level_with, empty_level, TermReader, wanting, behind_operand, with_left, with_compared, with_nots, when, as_next, next_term}
 use Rattle.rule_parse.proofs.Machines.{run, run_cons, run_then}
 
 abbrev pub reads : TermReader → Tokens → Option TermReader
@@ -79,7 +79,7 @@ pub record Disjoined (os : List Enclosing) (n : ℕ) (ts : Tokens) (e : Term) : 
   pub c : Option (Operator × Term)
   pub j : Option Term
   pub x : Term
-  pub runs : reads (wanting os empty n) ts ≡ Some (behind_operand os (level_with o a ms c j) (n + operators e.shape) x)
+  pub runs : reads (wanting os empty_level n) ts ≡ Some (behind_operand os (level_with o a ms c j) (n + operators e.shape) x)
   pub value : with_left operator.Or o (with_left operator.And a (with_nots ms (with_compared c (with_left operator.Join j x)))) ≡ e
 
 -- what is said of the tokens of a rank, wherever they may stand
@@ -177,8 +177,8 @@ encloses : (os : List Enclosing) (l : Level) (n start close : ℕ) (all ts : Tok
     → Disjoined (enclosing start l ∷ os) n ts e → reads (wanting os l n) all ≡ Some (behind_operand os l (n + operators e.shape) (placed_term start e.shape))
 encloses os l n start close all ts e split deep w =
     ap (reads (wanting os l n)) split
-    ∙ run_cons next_term (wanting os l n) (start, symbol sign.OpenParenthesis) (ts ++ (close, symbol sign.CloseParenthesis) ∷ []) (wanting (enclosing start l ∷ os) empty n) _ (when_true (nat_lt (length os) 256) _ (lt-ltb (length os) 256 deep))
-    (run_then next_term (wanting (enclosing start l ∷ os) empty n) ts ((close, symbol sign.CloseParenthesis) ∷ []) _ _ w.runs
+    ∙ run_cons next_term (wanting os l n) (start, symbol sign.OpenParenthesis) (ts ++ (close, symbol sign.CloseParenthesis) ∷ []) (wanting (enclosing start l ∷ os) empty_level n) _ (when_true (nat_lt (length os) 256) _ (lt-ltb (length os) 256 deep))
+    (run_then next_term (wanting (enclosing start l ∷ os) empty_level n) ts ((close, symbol sign.CloseParenthesis) ∷ []) _ _ w.runs
     (run_cons next_term (behind_operand (enclosing start l ∷ os) (level_with w.o w.a w.ms w.c w.j) (n + operators e.shape) w.x) (close, symbol sign.CloseParenthesis) [] (behind_operand os l (n + operators e.shape) (placed_term start e.shape)) _ (ap (λ (z : Term). Some (behind_operand os l (n + operators e.shape) (placed_term start z.shape))) w.value) refl))
 
 alone : (os : List Enclosing) (l : Level) (n : ℕ) (e : Term) → Some (behind_operand os l n e) ≡ Some (behind_operand os l (n + 0) e)

@@ -49,11 +49,11 @@ wanting os l n = record { outer = os; inner = l; count = n; operand = None }
 abbrev pub behind_operand : List Enclosing → Level → ℕ → Term → TermReader
 behind_operand os l n e = record { outer = os; inner = l; count = n; operand = Some e }
 
-abbrev pub empty : Level
-empty = level_with None None [] None None
+abbrev pub empty_level : Level
+empty_level = level_with None None [] None None
 
 abbrev pub new_reader : TermReader
-new_reader = wanting [] empty 0
+new_reader = wanting [] empty_level 0
 
 -- with what waits on its left, if something does
 abbrev pub with_left : Operator → Option Term → Term → Term
@@ -112,7 +112,7 @@ read_operand os l n p (symbol sign.False) = goes (behind_operand os l n (placed_
 read_operand os l n p (symbol sign.Not) =
     when (is_free l.compared && is_free l.join_left && nat_lt n most_operators)
     (wanting os (level_with l.or_left l.and_left (l.nots ++ p ∷ []) l.compared l.join_left) (n + 1))
-read_operand os l n p (symbol sign.OpenParenthesis) = when (nat_lt (length os) deepest_parentheses) (wanting (enclosing p l ∷ os) empty n)
+read_operand os l n p (symbol sign.OpenParenthesis) = when (nat_lt (length os) deepest_parentheses) (wanting (enclosing p l ∷ os) empty_level n)
 read_operand _ _ _ _ _ = refused
 
 -- a comparison: no other stands before it

@@ -28,15 +28,15 @@ module _ {A : Type 0} (Spells : Tokens → A → Type 0) where
 
   -- The tokens of a text of this length spell nothing, and this is the place of the first with which those so far begin
   -- none that do.
-  pub record StopsAt (ts : List PlacedToken) (end place : ℕ) : Type 0 where
+  pub record RulesStopAt (ts : List PlacedToken) (end place : ℕ) : Type 0 where
     pub count : ℕ
     pub refused : IsRefusedAt Spells (map located ts) count
     pub place_is : place ≡ place_of_token ts end count
 
   -- The text spells nothing, and is refused at this place for this cause: it is not made of tokens, or its tokens stop.
-  pub data IsRefused (text : Text) (place : ℕ) : RuleCause → Type 0 where
-    no_tokens : lexed.IsRefusedAt text place → IsRefused text place cause.Token
-    no_grammar : (tokens : List PlacedToken) → SpellsRuleTokens 0 text tokens → StopsAt tokens (length text) place → IsRefused text place cause.Grammar
+  pub data IsRefusedText (text : Text) (place : ℕ) : RuleCause → Type 0 where
+    no_tokens : lexed.IsSourceRefusedAt text place → IsRefusedText text place cause.Token
+    no_grammar : (tokens : List PlacedToken) → SpellsRuleTokens 0 text tokens → RulesStopAt tokens (length text) place → IsRefusedText text place cause.Grammar
 
 -- The text spells these rules again, but for their places.
 pub record IsReadAgain (text : Text) (rs : List RuleAt) : Type 0 where

@@ -14,7 +14,7 @@ use Rattle.grid_model.specs.declared.refusal.RuleCause.TheVariants as cause
 use Rattle.rule_lex.specs.Tokens.{PlacedToken, RuleToken, named, param, symbol}
 use Rattle.rule_parse.specs.Printed.{print_token, expr_tokens, step_tokens, body_tokens, in_parentheses, with_commas}
 use Rattle.rule_parse.specs.Grammar.{Tokens}
-use Rattle.rule_parse.specs.RuleTexts.{StopsAt}
+use Rattle.rule_parse.specs.RuleTexts.{RulesStopAt}
 use Rattle.rule_parse.specs.Readers.{Level, Enclosing, enclosing, TermReader, level_with, TermRead, refused, goes, at_comma, at_close}
 use Rattle.rule_parse.specs.Readers.{Calling, calling, Draft, new_draft, RuleRead, ends, Progress, progress}
 use Rattle.rule_parse.specs.declared.calling.Calling.{Calling as CallingSeen}
@@ -96,7 +96,7 @@ progress_of r = progress (map rule_of r.rules.items) (draft_of r.draft)
 -- the tokens stop here, by their grammar
 pub record IsStop {A : Type 0} (Spells : Tokens → A → Type 0) (ts : List PlacedToken) (end place : ℕ) (c : RuleCause) : Type 0 where
   pub cause_is : c ≡ cause.Grammar
-  pub stops : StopsAt Spells ts end place
+  pub stops : RulesStopAt Spells ts end place
 
 -- the printed tokens with a space behind each
 abbrev pub spread : List RuleToken → List ℕ

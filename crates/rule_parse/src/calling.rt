@@ -93,7 +93,8 @@ impl Calling {
 
     /// Adds an argument.
     fn push(&mut self, alloc: Global, arg: Expr, stage: CallStage) -> Result<(), AllocError>
-        ensures { IfOk result (λ done. calling_of self.new ≡ calling stage self.old.at self.old.name (map term_of self.old.args.items ++ term_of arg ∷ []) new_reader) }
+        ensures { IfOk result (λ completed. calling_of self.new ≡ calling stage self.old.at self.old.name
+            (map term_of self.old.args.items ++ term_of arg ∷ []) new_reader) }
     {
         self.args.push(arg)?;
         self.reader = Reader::new(alloc);

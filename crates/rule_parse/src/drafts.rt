@@ -329,7 +329,7 @@ impl Draft {
         value: Value,
     ) -> Result<RuleTaken, AllocError>
         ensures { IfOk result
-            (λ taken. TakesRule (in_call (draft_of self.old) (read_call (calling_of self.old.calling) (at, meaning_of value.entry))) taken (draft_of self.new)) }
+            (λ took. TakesRule (in_call (draft_of self.old) (read_call (calling_of self.old.calling) (at, meaning_of value.entry))) took (draft_of self.new)) }
     {
         if self.calling.take(alloc, at, value)? {
             return Ok(RuleTaken::Goes);

@@ -83,8 +83,8 @@ impl Reader {
     /// Takes an operand without operators.
     fn hold(&mut self, at: u64, form: Form) -> Taken
         requires { self.old.operand ≡ None }
-        ensures { TakesTerm (goes (behind_operand (outer_of self.old.outer.items) (level_of self.old.level) self.old.count (placed_term at (shape_of form)))) result
-            (reader_of self.new) }
+        ensures { TakesTerm (goes (behind_operand (outer_of self.old.outer.items) (level_of self.old.level) self.old.count
+            (placed_term at (shape_of form)))) result (reader_of self.new) }
     {
         self.operand = Some(Expr { at, form });
         Taken::Goes

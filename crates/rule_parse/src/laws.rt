@@ -2,7 +2,7 @@ ghost use Rattle.grid_model.specs.Parsed.{CallAt, RuleAt, plain_rule};
 ghost use Rattle.grid_model.specs.declared.refusal.RuleCause.{RuleCause};
 ghost use Rattle.rule_parse.specs.Grammar.{SpellsCall, SpellsRules};
 ghost use Rattle.rule_parse.specs.Printed.{print_rules};
-ghost use Rattle.rule_parse.specs.RuleTexts.{IsRefused, IsTextOf};
+ghost use Rattle.rule_parse.specs.RuleTexts.{IsRefusedText, IsTextOf};
 ghost use Rattle.std.specs.Prelude.{◌≡◌, ℕ, List, map};
 
 /// A text spells one list of rules, and one call.
@@ -13,15 +13,16 @@ pub fn one_reading()
 
 /// A text that is refused spells no rules, and has one place and one cause.
 pub fn one_refusal()
-    ensures none { (text : List ℕ) (place : ℕ) (cause : RuleCause) (rules : List RuleAt) → IsRefused SpellsRules text place cause → ¬ IsTextOf SpellsRules text rules }
-    ensures place { (text : List ℕ) (place other : ℕ) (cause why : RuleCause) → IsRefused SpellsRules text place cause → IsRefused SpellsRules text other why
-        → (place ≡ other) × (cause ≡ why) }
+    ensures none { (source : List ℕ) (place : ℕ) (cause : RuleCause) (rules : List RuleAt) → IsRefusedText SpellsRules source place cause
+        → ¬ IsTextOf SpellsRules source rules }
+    ensures place { (text : List ℕ) (place at : ℕ) (cause why : RuleCause) → IsRefusedText SpellsRules text place cause → IsRefusedText SpellsRules text at why
+        → (place ≡ at) × (cause ≡ why) }
 {}
 
 /// No two lists of rules print alike, but for their places, and what is printed is printed so again when it is read.
 pub fn printed_apart()
     ensures apart { (text other : List ℕ) (rules others : List RuleAt) → IsTextOf SpellsRules text rules → IsTextOf SpellsRules other others
         → print_rules (map plain_rule rules) ≡ print_rules (map plain_rule others) → map plain_rule rules ≡ map plain_rule others }
-    ensures again { (text : List ℕ) (rules again : List RuleAt) → IsTextOf SpellsRules text rules → IsTextOf SpellsRules (print_rules (map plain_rule rules)) again
-        → print_rules (map plain_rule again) ≡ print_rules (map plain_rule rules) }
+    ensures again { (text : List ℕ) (rules new : List RuleAt) → IsTextOf SpellsRules text rules → IsTextOf SpellsRules (print_rules (map plain_rule rules)) new
+        → print_rules (map plain_rule new) ≡ print_rules (map plain_rule rules) }
 {}

@@ -1,6 +1,6 @@
 ghost use Rattle.grid_model.specs.Parsed.{term_of};
 ghost use Rattle.rule_parse.specs.Grammar.{applied_term};
-ghost use Rattle.rule_parse.specs.Readers.{level_with, empty, with_left, with_compared, with_nots, joined_term, compared, negated, conjoined, disjoined};
+ghost use Rattle.rule_parse.specs.Readers.{level_with, empty_level, with_left, with_compared, with_nots, joined_term, compared, negated, conjoined, disjoined};
 ghost use Rattle.rule_parse.specs.Seen.{level_of, with_term};
 ghost use Rattle.std.specs.Prelude.{◌≡◌, [], ◌∷◌, None, IfOk, option_map};
 
@@ -88,7 +88,7 @@ fn with_nots(alloc: Global, nots: Vec<u64>, operand: Expr) -> Result<Expr, Alloc
 impl Level {
     /// Nothing waits. It takes no memory.
     pub fn new(alloc: Global) -> Level
-        ensures { level_of result ≡ empty }
+        ensures { level_of result ≡ empty_level }
     {
         Level {
             or_left: None,
@@ -140,7 +140,7 @@ impl Level {
     /// The operand with all that waits, so that nothing waits any longer.
     pub fn disjoined(&mut self, alloc: Global, operand: Expr) -> Result<Expr, AllocError>
         ensures value { IfOk result (λ e. term_of e ≡ disjoined (level_of self.old) (term_of operand)) }
-        ensures left { IfOk result (λ e. level_of self.new ≡ empty) }
+        ensures left { IfOk result (λ e. level_of self.new ≡ empty_level) }
     {
         let right = self.conjoined(alloc, operand)?;
         with_left(alloc, Operator::Or, self.or_left.take(), right)

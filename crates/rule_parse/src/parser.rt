@@ -2,7 +2,7 @@ ghost use Rattle.grid_model.specs.Parsed.{call_of, rule_of};
 ghost use Rattle.grid_model.specs.declared.refusal.RuleCause.{RuleCause};
 ghost use Rattle.rule_lex.specs.Seen.{rule_token_of};
 ghost use Rattle.rule_parse.specs.Grammar.{SpellsCall, SpellsRules};
-ghost use Rattle.rule_parse.specs.RuleTexts.{located, StopsAt};
+ghost use Rattle.rule_parse.specs.RuleTexts.{located, RulesStopAt};
 ghost use Rattle.rule_parse.specs.Seen.{IsStop};
 ghost use Rattle.std.specs.Prelude.{ℕ, map, IfOk, IsErrOf};
 
@@ -16,7 +16,8 @@ use std::alloc::Global;
 /// The rules that these tokens of a text of this length spell.
 pub fn rules_from(alloc: Global, tokens: Tokens<'_>, end: usize) -> Result<Rules, RuleError>
     ensures rules { IfOk result (λ rules. SpellsRules (map located (map rule_token_of tokens.entry.items)) (map rule_of rules)) }
-    ensures stops { (at : ℕ) (cause : RuleCause) → IsErrOf result (RuleError.BadRule at cause) → IsStop SpellsRules (map rule_token_of tokens.entry.items) end at cause }
+    ensures stops { (place : ℕ) (cause : RuleCause) → IsErrOf result (RuleError.BadRule place cause)
+        → IsStop SpellsRules (map rule_token_of tokens.entry.items) end place cause }
 {
     let mut reading = Reading::new(alloc);
     for token in tokens {
@@ -40,7 +41,8 @@ pub fn rules_from(alloc: Global, tokens: Tokens<'_>, end: usize) -> Result<Rules
 /// The call that these tokens of a text of this length spell.
 pub fn call_from(alloc: Global, tokens: Tokens<'_>, end: usize) -> Result<Call0, RuleError>
     ensures call { IfOk result (λ call. SpellsCall (map located (map rule_token_of tokens.entry.items)) (call_of call)) }
-    ensures stops { (at : ℕ) (cause : RuleCause) → IsErrOf result (RuleError.BadRule at cause) → IsStop SpellsCall (map rule_token_of tokens.entry.items) end at cause }
+    ensures stops { (place : ℕ) (cause : RuleCause) → IsErrOf result (RuleError.BadRule place cause)
+        → IsStop SpellsCall (map rule_token_of tokens.entry.items) end place cause }
 {
     let mut calling = Calling::new(alloc);
     for token in tokens {

@@ -5,7 +5,7 @@ ghost use Rattle.rule_lex.specs.Places as lexed;
 ghost use Rattle.rule_lex.specs.Seen.{rule_token_of};
 ghost use Rattle.rule_lex.specs.Tokens.{PlacedToken, SpellsRuleTokens};
 ghost use Rattle.rule_parse.specs.Grammar.{SpellsCall, SpellsRules};
-ghost use Rattle.rule_parse.specs.RuleTexts.{IsTextOf, IsRefused};
+ghost use Rattle.rule_parse.specs.RuleTexts.{IsTextOf, IsRefusedText};
 ghost use Rattle.std.specs.Prelude.{◌≡◌, ◌⊎◌, ℕ, List, map, IfOk, MatchResult, IsErrOf};
 
 use crate::error::RuleError;
@@ -20,7 +20,7 @@ fn tokens_of(alloc: Global, text: &[u8]) -> Result<Tokens<'_>, RuleError>
     ensures only { (all : List PlacedToken) → SpellsRuleTokens 0 text.now all
         → MatchResult result (λ tokens. map rule_token_of tokens.items ≡ all) (λ e. e ≡ RuleError.Memory) }
     ensures bad_token { (at : ℕ) (cause : RuleCause) → IsErrOf result (RuleError.BadRule at cause)
-        → (cause ≡ causes.Token) × lexed.IsRefusedAt text.now at }
+        → (cause ≡ causes.Token) × lexed.IsSourceRefusedAt text.now at }
 {
     match lex(alloc, text) {
         Ok(tokens) => Ok(tokens),
@@ -45,9 +45,9 @@ pub fn read_rules(alloc: Global, text: &[u8]) -> Result<Rules, RuleError>
     ensures only { (rules : List RuleAt) → IsTextOf SpellsRules text.now rules
         → MatchResult result (λ found. map rule_of found ≡ rules) (λ e. e ≡ RuleError.Memory) }
     ensures bad_rule { (at : ℕ) (cause : RuleCause) → IsErrOf result (RuleError.BadRule at cause)
-        → IsRefused SpellsRules text.now at cause }
+        → IsRefusedText SpellsRules text.now at cause }
     // What is refused at a place is refused there, unless there is no memory.
-    ensures refused { (at : ℕ) (cause : RuleCause) → IsRefused SpellsRules text.now at cause
+    ensures refused { (at : ℕ) (cause : RuleCause) → IsRefusedText SpellsRules text.now at cause
         → MatchResult result (λ found. ⊥) (λ e. (e ≡ RuleError.BadRule at cause) ⊎ (e ≡ RuleError.Memory)) }
 {
     match tokens_of(alloc, text) {
@@ -67,9 +67,9 @@ pub fn read_call(alloc: Global, text: &[u8]) -> Result<Call0, RuleError>
     ensures only { (call : CallAt) → IsTextOf SpellsCall text.now call
         → MatchResult result (λ found. call_of found ≡ call) (λ e. e ≡ RuleError.Memory) }
     ensures bad_rule { (at : ℕ) (cause : RuleCause) → IsErrOf result (RuleError.BadRule at cause)
-        → IsRefused SpellsCall text.now at cause }
+        → IsRefusedText SpellsCall text.now at cause }
     // What is refused at a place is refused there, unless there is no memory.
-    ensures refused { (at : ℕ) (cause : RuleCause) → IsRefused SpellsCall text.now at cause
+    ensures refused { (at : ℕ) (cause : RuleCause) → IsRefusedText SpellsCall text.now at cause
         → MatchResult result (λ found. ⊥) (λ e. (e ≡ RuleError.BadRule at cause) ⊎ (e ≡ RuleError.Memory)) }
 {
     match tokens_of(alloc, text) {

@@ -76,7 +76,7 @@ clean-of known stores (m ∷ marks) all told none = by (clean-of known stores ma
   where
     by : AreClean marks → (m : Mark) → IsToldOf known stores m → ((slot : ℕ) → told_by slot m ≡ 0) → AreClean (m ∷ marks)
     by rest (Ran word now []) told none = (refl, rest)
-    by rest (Ran word now (b ∷ bad)) told none = absurd told
+    by rest (Ran word now (b ∷ bad)) told none = absurd (told.2 (all told.0 told.1))
     by rest (Fault slot sent) told none = let one = tells_itself slot sent in absurd (omega (arith, one, none slot))
     by rest (Bad slot len found sent) told none = absurd (told.1 (all slot told.0))
     by rest Stop told none = absurd told

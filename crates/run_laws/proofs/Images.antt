@@ -22,7 +22,7 @@ use Rattle.grid_model.specs.declared.marks.Mark.{Mark}
 use Rattle.grid_journal.specs.Stands.{StandsFor}
 use Rattle.grid_headline.specs.Served.{joined_texts, whole_in}
 use Rattle.grid_headline.specs.Numbers.{KeepsNumbers}
-use Rattle.run_laws.specs.Handled.{Handled, with_one, replies_of, marks_within, told_of, reached, state_at, IsOfRun, IsBehindSome, OneOfRun, not_begun, in_run, ShowsMost}
+use Rattle.run_laws.specs.Handled.{Handled, with_one, replies_of, marks_within, told_within, reached_by, state_behind, IsOfRun, IsBehindSome, OneOfRun, not_begun, in_run, ShowsMost}
 use Rattle.run_laws.specs.Steps.{IsLike, IsLeftBehind, ComesAfter, kept, unseen, IsUntold, OneOf, not_kept, kept_so}
 use Rattle.run_laws.proofs.Lists.{get-front, get-last, state-more, state-last}
 use Rattle.run_laws.proofs.Texts.{HaveBytes, joined-push, whole-none, whole-behind, whole-more, whole-most, whole-all, whole-less}
@@ -91,10 +91,10 @@ module _ (found : Cat) (h : Handled) (m : Marked) (d : Done) (ts : List Text) (t
     same_whole : whole_in (replies_of more) count ≡ whole_in (replies_of h) count
     same_whole = ap (λ (l : List Text). whole_in l count) one.texts_are ∙ whole-more (replies_of h) (t ∷ []) count (one.has_bytes, tt) within
 
-    no_more_told : (n : ℕ) → n ≤ size → told_of h n count ≡ [] → told_of more n count ≡ []
+    no_more_told : (n : ℕ) → n ≤ size → told_within h n count ≡ [] → told_within more n count ≡ []
     no_more_told n most told = by (cases_lt n size)
       where
-        by : (n < size) ⊎ (size ≤ n) → told_of more n count ≡ []
+        by : (n < size) ⊎ (size ≤ n) → told_within more n count ≡ []
         by (inl less) =
             let b : slice_get more.begun n ≡ slice_get h.begun n = get-front h.begun (m ∷ []) n (omega (arith, less, one.begun_length)) in
             let p : slice_get more.pieces n ≡ slice_get h.pieces n = get-front h.pieces (ts ∷ []) n (omega (arith, less, one.pieces_length)) in
@@ -113,16 +113,16 @@ module _ (found : Cat) (h : Handled) (m : Marked) (d : Done) (ts : List Text) (t
 
     behind-more : (c : Cat) → IsBehindSome found h c count → IsBehindSome found more c count
     behind-more c b =
-        let r : reached found more c count ≡ reached found h c count = ap (λ k. max k c.numbers.last) same_whole in
-        let s : state_at found more (reached found more c count) ≡ state_at found h (reached found h c count) =
-        ap (state_at found more) r ∙ state-more (begins (grid_of found) []) h.done d (reached found h c count) (omega (arith, b.within, one.begun_length, one.done_length)) in
+        let r : reached_by found more c count ≡ reached_by found h c count = ap (λ k. max k c.numbers.last) same_whole in
+        let s : state_behind found more (reached_by found more c count) ≡ state_behind found h (reached_by found h c count) =
+        ap (state_behind found more) r ∙ state-more (begins (grid_of found) []) h.done d (reached_by found h c count) (omega (arith, b.within, one.begun_length, one.done_length)) in
         record {
           of_run = b.of_run;
           within = omega (arith, b.within, r, length-append h.begun (m ∷ []));
           near = omega (arith, b.near, same_whole);
           no_rules = ap (λ (x : State). x.rules) s ∙ b.no_rules;
           grid = b.grid ∙ ap (λ (x : State). x.grid) (sym s);
-          untold = λ less. ap (λ k. told_of more k count) same_whole
+          untold = λ less. ap (λ k. told_within more k count) same_whole
               ∙ no_more_told (whole_in (replies_of h) count) (whole-most (replies_of h) count) (b.untold (omega (arith, less, same_whole)));
         }
 
@@ -148,7 +148,7 @@ module _ (found : Cat) (h : Handled) (m : Marked) (d : Done) (ts : List Text) (t
         let one_whole : whole_in (t ∷ []) k ≡ 1 = ap (whole_in (t ∷ [])) (sym all ∙ omega (arith, length-append t [])) ∙ whole-all (t ∷ []) in
         whole_with ∙ omega (arith, one_whole)
 
-    told_next : told_of more size (bytes + k) ≡ take (whole_in ts k) m.marks
+    told_next : told_within more size (bytes + k) ≡ take (whole_in ts k) m.marks
     told_next =
         let b : slice_get more.begun size ≡ Some m = ap (slice_get more.begun) (sym one.begun_length) ∙ get-last h.begun m in
         let p : slice_get more.pieces size ≡ Some ts = ap (slice_get more.pieces) (sym one.pieces_length) ∙ get-last h.pieces ts in
@@ -158,35 +158,35 @@ module _ (found : Cat) (h : Handled) (m : Marked) (d : Done) (ts : List Text) (t
         ∙ ap (λ (x : Option (List Text)). marks_within (Some m) x (bytes + k - length (joined_texts (take size (replies_of more))))) p
         ∙ ap (marks_within (Some m) (Some ts)) e
 
-    told_past : told_of more (suc size) (bytes + k) ≡ []
+    told_past : told_within more (suc size) (bytes + k) ≡ []
     told_past =
         let b : slice_get more.begun (suc size) ≡ None = slice_get_past more.begun (suc size) (omega (arith, length-append h.begun (m ∷ []), one.begun_length)) in
         ap (λ (x : Option Marked). marks_within x (slice_get more.pieces (suc size)) (bytes + k - length (joined_texts (take (suc size) (replies_of more))))) b
 
   -- ---- what is left of it
 
-  module _ (at : State) (at_is : state_at found h size ≡ at) (none_at : at.rules ≡ []) (none_next : d.state.rules ≡ []) where
-    at_size : state_at found more size ≡ at
+  module _ (at : State) (at_is : state_behind found h size ≡ at) (none_at : at.rules ≡ []) (none_next : d.state.rules ≡ []) where
+    at_size : state_behind found more size ≡ at
     at_size = state-more (begins (grid_of found) []) h.done d size (omega (arith, one.done_length)) ∙ at_is
 
-    at_next : state_at found more (suc size) ≡ d.state
-    at_next = ap (λ k. state_at found more (suc k)) (sym one.done_length) ∙ state-last (begins (grid_of found) []) h.done d
+    at_next : state_behind found more (suc size) ≡ d.state
+    at_next = ap (λ k. state_behind found more (suc k)) (sym one.done_length) ∙ state-last (begins (grid_of found) []) h.done d
 
     -- a catalogue with so many bytes shown, where that many requests are shown whole, and that many done
     made : (c : Cat) (k w n : ℕ) → IsOfRun found c → whole_in (replies_of more) (bytes + k) ≡ w → max w c.numbers.last ≡ n → n ≤ suc size
         → c.numbers.last ≤ w + 1
-        → (s : State) → state_at found more n ≡ s → s.rules ≡ [] → grid_of c ≡ s.grid → (c.numbers.last < w + 1 → told_of more w (bytes + k) ≡ [])
+        → (s : State) → state_behind found more n ≡ s → s.rules ≡ [] → grid_of c ≡ s.grid → (c.numbers.last < w + 1 → told_within more w (bytes + k) ≡ [])
         → IsBehindSome found more c (bytes + k)
     made c k w n its whole most within near s state none grid told =
-        let r : reached found more c (bytes + k) ≡ n = ap (λ i. max i c.numbers.last) whole ∙ most in
-        let e : s ≡ state_at found more (reached found more c (bytes + k)) = sym (ap (state_at found more) r ∙ state) in
+        let r : reached_by found more c (bytes + k) ≡ n = ap (λ i. max i c.numbers.last) whole ∙ most in
+        let e : s ≡ state_behind found more (reached_by found more c (bytes + k)) = sym (ap (state_behind found more) r ∙ state) in
         record {
           of_run = its;
           within = omega (arith, r, within, length-append h.begun (m ∷ []), one.begun_length);
           near = omega (arith, near, whole);
           no_rules = ap (λ (x : State). x.rules) (sym e) ∙ none;
           grid = grid ∙ ap (λ (x : State). x.grid) e;
-          untold = λ less. ap (λ i. told_of more i (bytes + k)) whole ∙ told (omega (arith, less, whole));
+          untold = λ less. ap (λ i. told_within more i (bytes + k)) whole ∙ told (omega (arith, less, whole));
         }
 
     module _ (c : Cat) (its : IsOfRun found c) (last : c.numbers.last ≤ size) (grid : grid_of c ≡ at.grid) (marks_are : d.reply.marks ≡ m.marks)
@@ -272,7 +272,7 @@ untold_cut (u ∷ ts) t rest k some e untold =
 
 -- while a request is handled a stop leaves that nothing is seen of it, or that it is kept
 pub image-one : (found c : Cat) (h : Handled) (m : Marked) (d : Done) (ts : List Text) (n : ℕ) → IsOneMore h m d ts (reply_text n d.reply ts) → (at : State)
-    → state_at found h (length (replies_of h)) ≡ at → at.rules ≡ [] → d.state.rules ≡ [] → IsOfRun found c → c.numbers.last ≤ length (replies_of h)
+    → state_behind found h (length (replies_of h)) ≡ at → at.rules ≡ [] → d.state.rules ≡ [] → IsOfRun found c → c.numbers.last ≤ length (replies_of h)
     → grid_of c ≡ at.grid
     → d.reply.marks ≡ m.marks → n ≡ length (replies_of h) + 1 → (old_sink shown main sink : Text) → shown ≡ old_sink ++ joined_texts (replies_of h)
     → OneOf c n d ts shown main sink → OneOfRun found (with_one h m d ts) old_sink main sink

@@ -35,7 +35,7 @@ module _ (p q : ℕ → Type 0) (less : (slot : ℕ) → q slot → p slot) wher
 
   pub told-less : (stores : ℕ) (m : Mark) → IsToldOf p stores m → IsToldOf q stores m
   told-less stores (Ran word now []) told = tt
-  told-less stores (Ran word now (b ∷ bad)) told = absurd told
+  told-less stores (Ran word now (b ∷ bad)) told = (told.0, told.1, λ k. told.2 (less told.0 k))
   told-less stores (Fault slot sent) told = tt
   told-less stores (Bad slot len found sent) told = (told.0, λ k. told.1 (less slot k))
   told-less stores Stop told = absurd told

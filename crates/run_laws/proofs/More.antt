@@ -20,7 +20,7 @@ use Rattle.grid_headline.specs.Files.{IsKnown, AreSettled, DisksAreSettled, Keep
 use Rattle.grid_headline.specs.Causes.{AreCaused}
 use Rattle.grid_headline.specs.Ends.{AllStill, HasOneMore}
 use Rattle.grid_headline.specs.Headline.{BeginsOn}
-use Rattle.run_laws.specs.Handled.{Handled, with_one, replies_of, IsOfRun, state_at, OneOfRun}
+use Rattle.run_laws.specs.Handled.{Handled, with_one, replies_of, IsOfRun, state_behind, OneOfRun}
 use Rattle.run_laws.specs.Steps.{Gave, IsToldOf, ComesAfter, kept, unseen, RequestStep, IsHandledWhole}
 use Rattle.run_laws.specs.Sofar.{Ran, Sofar, KeepsWhole, KeepsNames}
 use Rattle.run_laws.specs.Went.{Went, AreInOrder}
@@ -47,8 +47,8 @@ module _ {B : Type 0} (old now : World B) (found : Cat) (at : State) (asked : Li
   replies-many = replies-length (IsKnown old found) 1 ran.handled.done ran.handled.pieces ran.pieces_are ∙ done-many
 
   -- the state is that behind all of them
-  pub state-now : state_at found ran.handled (length (replies_of ran.handled)) ≡ at
-  state-now = ap (state_at found ran.handled) (replies-many ∙ sym done-many) ∙ state-all ran.after
+  pub state-now : state_behind found ran.handled (length (replies_of ran.handled)) ≡ at
+  state-now = ap (state_behind found ran.handled) (replies-many ∙ sym done-many) ∙ state-all ran.after
 
 module _ {B : Type 0} (old mid : World B) (found c : Cat) (at : State) (asked : List Asked) (so : Sofar old mid found c at asked) where
   module _ (begin : BeginsOn old found) (order : AreInOrder mid) where

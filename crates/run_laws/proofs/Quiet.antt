@@ -15,7 +15,7 @@ use Rattle.grid_headline.specs.Worlds.{World}
 use Rattle.grid_headline.specs.Files.{AreSettled}
 use Rattle.grid_headline.specs.Served.{NoneSweeps, joined_texts, whole_in, marks_of}
 use Rattle.grid_headline.specs.Headline.{BeginsOn}
-use Rattle.run_laws.specs.Handled.{Handled, replies_of, marks_within, reached, state_at, IsBehindSome, OneOfRun, in_run}
+use Rattle.run_laws.specs.Handled.{Handled, replies_of, marks_within, reached_by, state_behind, IsBehindSome, OneOfRun, in_run}
 use Rattle.run_laws.specs.Steps.{IsLike, Gave, IsQuiet}
 use Rattle.run_laws.specs.Sofar.{Ran, Sofar, KeepsWhole, KeepsNames}
 use Rattle.run_laws.specs.Went.{Went, AreInOrder}
@@ -44,8 +44,8 @@ module _ {B : Type 0} (old mid new : World B) (found c : Cat) (at : State) (aske
       let w : whole_in (replies_of h) bytes ≡ length (replies_of h) = whole-all (replies_of h) in
       let many = replies-many old mid found at asked so.ran in
       let many_begun = begun-many old mid found at asked so.ran in
-      let r : reached found h e bytes ≡ length (replies_of h) = ap (λ k. max k e.numbers.last) w ∙ omega (arith, like.last, so.last, many) in
-      let s : state_at found h (reached found h e bytes) ≡ at = ap (state_at found h) r ∙ state-now old mid found at asked so.ran in
+      let r : reached_by found h e bytes ≡ length (replies_of h) = ap (λ k. max k e.numbers.last) w ∙ omega (arith, like.last, so.last, many) in
+      let s : state_behind found h (reached_by found h e bytes) ≡ at = ap (state_behind found h) r ∙ state-now old mid found at asked so.ran in
       record {
         of_run = like-of found c e so.of_run like;
         within = omega (arith, r, many, many_begun);

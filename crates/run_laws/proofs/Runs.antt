@@ -14,13 +14,14 @@ use Rattle.grid_model.specs.Sessions.{State}
 use Rattle.grid_model.specs.Runs.{Marked}
 use Rattle.grid_model.specs.declared.marks.Mark.{Mark}
 use Rattle.grid_model.specs.declared.marks.Mark.TheVariants.{Stop}
+use Rattle.grid_model.specs.declared.marks.Mark.TheVariants as mark
 use Rattle.rule_parse.specs.Printed.{print_rules}
 use Rattle.grid_headline.specs.Worlds.{World, DevicesImage}
 use Rattle.grid_headline.specs.Reads.{MeansRequest, EndsInputLast}
-use Rattle.grid_headline.specs.Served.{Run, BeginsWithRequests, joined_texts, asked_of, marks_of, whole_in, text_of, acknowledged, told_marks, first_marks, state_at}
+use Rattle.grid_headline.specs.Served.{Run, BeginsWithRequests, joined_texts, asked_of, marks_of, whole_in, run_text, acknowledged, told_marks, first_marks, state_at}
 use Rattle.grid_headline.specs.Served as served
 use Rattle.grid_headline.specs.Stops.{OneImage, IsAtState, KeepsTold, KeepsReport}
-use Rattle.grid_headline.specs.Files.{IsKnown, DisksAreSettled, WereWhole}
+use Rattle.grid_headline.specs.Files.{IsKnown, IsOfUnknown, DisksAreSettled, WereWhole}
 use Rattle.grid_headline.specs.Causes.{NoneFailed, AllTell}
 use Rattle.grid_headline.specs.Draws.{DrawsMarks, word_of, time_of}
 use Rattle.grid_headline.specs.Ends.{RunEnd, read_all, source_failed, too_long, worn, no_memory, disk_failed, sink_failed, SaysOfEnd, AnswersAll, Needs, MakesFiles}
@@ -36,6 +37,13 @@ use Rattle.run_laws.proofs.Draws.{AreFirstAt, shown, some-of, front-shown, some-
 use Rattle.run_laws.proofs.More.{begun-many, done-many}
 
 -- a mark that a run tells is no stop
+of_unknown : (known : ℕ → Type 0) (stores : ℕ) (m : Mark) → IsToldOf known stores m → IsOfUnknown known stores m
+of_unknown known stores (mark.Ran word now []) told = tt
+of_unknown known stores (mark.Ran word now (b ∷ bad)) told = told
+of_unknown known stores (mark.Fault slot sent) told = tt
+of_unknown known stores (mark.Bad slot len found sent) told = told.1
+of_unknown known stores mark.Stop told = tt
+
 no_stop : (known : ℕ → Type 0) (stores : ℕ) (m : Mark) → IsToldOf known stores m → m ≢ Stop
 no_stop known stores m told e = subst (IsToldOf known stores) e told
 
@@ -142,7 +150,7 @@ module _ {B : Type 0} (old new : World B) (base : Cat) (at : State) (asked : Lis
     same_first (Some m) None count = refl
     same_first (Some m) (Some ts) count = refl
 
-    same_told : (k count : ℕ) → told_marks run k count ≡ handled.told_of ran.handled k count
+    same_told : (k count : ℕ) → told_marks run k count ≡ handled.told_within ran.handled k count
     same_told k count = same_first (slice_get ran.handled.begun k) (slice_get ran.handled.pieces k) (count - length (served.text_before run k))
 
     image : (i : DevicesImage) → OneOfRun found ran.handled old.sink.holds i.main i.sink → OneImage run old.sink.holds i
@@ -150,7 +158,7 @@ module _ {B : Type 0} (old new : World B) (base : Cat) (at : State) (asked : Lis
       cat = found;
       stands = stands i.spare;
       part = [];
-      more = text_of run;
+      more = run_text run;
       sink = is ∙ sym (append-nil old.sink.holds);
       split = refl;
       on_the_way = inl (record { number = refl; rules = refl; same = refl; shown = omega arith });
@@ -161,8 +169,8 @@ module _ {B : Type 0} (old new : World B) (base : Cat) (at : State) (asked : Lis
     image i (in_run c part more stands is split b) =
         let count = length part in
         let a : acknowledged run count ≡ whole_in (replies_of ran.handled) count = acknowledged_is count in
-        let r : served.reached run c count ≡ handled.reached found ran.handled c count = ap (λ k. max k c.numbers.last) a in
-        let s : (state_at run (served.reached run c count)) ≡ handled.state_at found ran.handled (handled.reached found ran.handled c count) = ap (state_at run) r in
+        let r : served.reached run c count ≡ handled.reached_by found ran.handled c count = ap (λ k. max k c.numbers.last) a in
+        let s : (state_at run (served.reached run c count)) ≡ handled.state_behind found ran.handled (handled.reached_by found ran.handled c count) = ap (state_at run) r in
         record {
           cat = c;
           stands = stands i.spare;
@@ -179,7 +187,7 @@ module _ {B : Type 0} (old new : World B) (base : Cat) (at : State) (asked : Lis
           });
           told = record {
             of_request = λ e. subst (KeepsTold run (told_marks run (n count) count) (n count) c.numbers.last) (sym b.of_run.none)
-                (λ less. same_told (n count) count ∙ ap (λ k. handled.told_of ran.handled k count) a ∙ b.untold (omega (arith, less, a)));
+                (λ less. same_told (n count) count ∙ ap (λ k. handled.told_within ran.handled k count) a ∙ b.untold (omega (arith, less, a)));
             of_report = subst (KeepsReport run c []) (sym b.of_run.none) tt;
           };
           numbers = b.of_run.keeps;
@@ -248,6 +256,7 @@ module _ {B : Type 0} (old new : World B) (base : Cat) (at : State) (asked : Lis
       run = run;
       shown = shows;
       says = says end so;
+      unharmed = all-map (IsToldOf (IsKnown old found) (length old.stores)) (IsOfUnknown (IsKnown old found) (length old.stores)) (of_unknown (IsKnown old found) (length old.stores)) (marks_of ran.handled.begun) ran.told_of;
       images = λ tells settled t i late leaves. image i (ran.images tells settled t i.main i.sink late leaves.disks.of_main leaves.of_sink);
       whole = ran.whole;
       named = ran.named;

@@ -36,8 +36,8 @@ marks_within (Some m) (Some ts) count = take (whole_in ts count) m.marks
 marks_within m ts count = []
 
 -- those of the request behind the first n ones, where so many bytes were written
-abbrev pub told_of : Handled → ℕ → ℕ → List Mark
-told_of h n count = marks_within (slice_get h.begun n) (slice_get h.pieces n) (count - length (joined_texts (take n (replies_of h))))
+abbrev pub told_within : Handled → ℕ → ℕ → List Mark
+told_within h n count = marks_within (slice_get h.begun n) (slice_get h.pieces n) (count - length (joined_texts (take n (replies_of h))))
 
 -- what the catalogues of a run that was begun have in common
 pub record IsOfRun (found c : Cat) : Type 0 where
@@ -49,22 +49,22 @@ pub record IsOfRun (found c : Cat) : Type 0 where
 
 module _ (found : Cat) (h : Handled) where
   -- how many requests are done where the catalogue is so and so many bytes were written
-  abbrev pub reached : Cat → ℕ → ℕ
-  reached c count = max (whole_in (replies_of h) count) c.numbers.last
+  abbrev pub reached_by : Cat → ℕ → ℕ
+  reached_by c count = max (whole_in (replies_of h) count) c.numbers.last
 
   -- the state that the first n requests leave
-  abbrev pub state_at : ℕ → State
-  state_at n = state_after (begins (grid_of found) []) h.done n
+  abbrev pub state_behind : ℕ → State
+  state_behind n = state_after (begins (grid_of found) []) h.done n
 
   -- The catalogue is that of the run behind as many requests as are shown or, if these are more, as it says itself.
   pub record IsBehindSome (c : Cat) (count : ℕ) : Type 0 where
     pub of_run : IsOfRun found c
-    pub within : reached c count ≤ length h.begun
+    pub within : reached_by c count ≤ length h.begun
     pub near : c.numbers.last ≤ whole_in (replies_of h) count + 1
-    pub no_rules : (state_at (reached c count)).rules ≡ []
-    pub grid : grid_of c ≡ (state_at (reached c count)).grid
+    pub no_rules : (state_behind (reached_by c count)).rules ≡ []
+    pub grid : grid_of c ≡ (state_behind (reached_by c count)).grid
     -- no mark of a request that is not done is told
-    pub untold : c.numbers.last < whole_in (replies_of h) count + 1 → told_of h (whole_in (replies_of h) count) count ≡ []
+    pub untold : c.numbers.last < whole_in (replies_of h) count + 1 → told_within h (whole_in (replies_of h) count) count ≡ []
 
   -- What a stop leaves of main, and of the sink that had these bytes before: main stands for what was found and nothing is shown, or it
   -- stands for a catalogue of the run and a front of the replies is shown.

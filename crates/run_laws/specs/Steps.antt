@@ -67,10 +67,11 @@ pub data OneOf (before : Cat) (n : ℕ) (d : Done) (pieces : List Text) (shown m
 
 -- ---- marks
 
--- the mark is clean, or tells of a fault, or of a file of one of so many stores, which is not known
+-- the mark is clean, or tells of a fault, or of a file of one of so many stores, which is not known, or of several of which one is of such
+-- a store
 abbrev pub IsToldOf : (ℕ → Type 0) → ℕ → Mark → Type 0
 IsToldOf known stores (Ran word now []) = Unit {0}
-IsToldOf known stores (Ran word now (b ∷ bad)) = ⊥
+IsToldOf known stores (Ran word now (b ∷ bad)) = (slot : ℕ) × (slot < stores) × ¬ known slot
 IsToldOf known stores (Fault slot sent) = Unit {0}
 IsToldOf known stores (Bad slot len found sent) = (slot < stores) × ¬ known slot
 IsToldOf known stores Stop = ⊥

@@ -61,7 +61,8 @@ pub fn a_run_ends_early<D: Disk, S: Source, K: Sink, A: Ambient, P: Plugin>(
 )
     ensures { let from = world D.disk S.source K.sink A.ambient P.plugin old.now in let by = world D.disk S.source K.sink A.ambient P.plugin mid.now in
         let to = world D.disk S.source K.sink A.ambient P.plugin new.now in
-        (found c : Cat) (at : State) (asked : List Asked) (end : RunEnd) → BeginsPlainly from found → Sofar from by found c at asked → CallsGoOn from.source.left by to c →
-        IsQuiet by to c → BeginsWithRequests from.source.left asked → StopsSo from to found at asked end → IsGoodIfNoneFailed from to end →
+        (found c : Cat) (at : State) (asked : List Asked) (end : RunEnd) → BeginsPlainly from found → Sofar from by found c at asked
+        → CallsGoOn from.source.left by to c → IsQuiet by to c → BeginsWithRequests from.source.left asked
+        → StopsSo from to found at asked end → IsGoodIfNoneFailed from to end →
         Serves from to found end }
 {}

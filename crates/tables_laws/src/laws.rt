@@ -40,7 +40,7 @@ pub fn deltas_keep_ties()
 
 /// A zone gives the grid its name and its stores, and changes nothing else of it.
 pub fn a_zone_names_the_grid()
-    ensures { (c d : Cat) (name : Text) (stores : ℕ) → apply c (Delta.Zone name stores) ≡ Ok d → grid_of d ≡ record (grid_of c) { zone = name; stores = stores } }
+    ensures { (c d : Cat) (name : Text) (count : ℕ) → apply c (Delta.Zone name count) ≡ Ok d → grid_of d ≡ record (grid_of c) { zone = name; stores = count } }
 {}
 
 /// Orphans, numbers and the command that is not done are not seen of the grid.

@@ -9,4 +9,5 @@ mod random;
 mod refusals;
 mod rows;
 mod seen;
+mod steps;
 mod without_memory;

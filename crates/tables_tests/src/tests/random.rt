@@ -1,7 +1,7 @@
 //! Random changes, done by the tables and by the plain rows.
 
 use super::changes::{Change, Collection};
-use super::draws::Draws;
+use super::draws::{Draws, IDS};
 use super::plain::Plain;
 use super::seen::Seen;
 use grid_tables::{TableError, Tables};
@@ -19,9 +19,9 @@ struct Both {
 impl Both {
     // they show the same
     fn show(&self, rt: &impl Abort, cause: u8) -> Result<(), AllocError> {
-        let mut shown = Seen::new(self.alloc);
+        let mut shown = Seen::new(self.alloc, IDS);
         shown.see_tables(&self.tables)?;
-        let mut wanted = Seen::new(self.alloc);
+        let mut wanted = Seen::new(self.alloc, IDS);
         wanted.see_plain(&self.plain)?;
         assert_eq!(rt;
             shown.numbers.as_slice(),

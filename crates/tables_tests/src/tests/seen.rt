@@ -13,6 +13,7 @@ const NONE: u64 = 99;
 #[derive(Drop)]
 pub(crate) struct Seen {
     alloc: Global,
+    ids: u32,
     pub(crate) numbers: Vec<u64>,
 }
 
@@ -52,9 +53,11 @@ fn item(kind: ItemKind, id: u32) -> Item {
 }
 
 impl Seen {
-    pub(crate) fn new(alloc: Global) -> Seen {
+    /// Nothing yet. Ids from this one on are not looked for in tables.
+    pub(crate) fn new(alloc: Global, ids: u32) -> Seen {
         Seen {
             alloc,
+            ids,
             numbers: Vec::new(alloc),
         }
     }
@@ -79,7 +82,7 @@ impl Seen {
         self.see_counts(tables)?;
         self.see_users(tables)?;
         self.see_resources(tables)?;
-        for id in 0..IDS {
+        for id in 0..self.ids {
             self.see_collection(tables, u64::from(id))?;
             self.see_object(tables, u64::from(id))?;
             for kind in [
@@ -110,7 +113,7 @@ impl Seen {
     }
 
     fn see_users(&mut self, tables: &Tables) -> Result<(), AllocError> {
-        for id in 0..IDS {
+        for id in 0..self.ids {
             if let Some(row) = tables.user(id) {
                 self.add(&[u64::from(row.id), user_number(row.kind)])?;
                 let named = tables.user_named(&row.name);
@@ -125,7 +128,7 @@ impl Seen {
     }
 
     fn see_resources(&mut self, tables: &Tables) -> Result<(), AllocError> {
-        for id in 0..IDS {
+        for id in 0..self.ids {
             if let Some(row) = tables.resource(id) {
                 self.add(&[u64::from(row.id), resource_number(row.kind)])?;
                 self.add(&[u64::from(row.slot), u64::from(row.parent)])?;

@@ -1,53 +1,119 @@
 //! Changes for which there is no memory leave all as it was, and are done once there is. It shows something where an
-//! allocation is refused (`rt try --test --fail-alloc N`); else all changes are done at once.
+//! allocation is refused (`rt try --test --fail-alloc N`); else all changes are done at once. No memory is taken but by
+//! the changes until one is refused, so that few numbers refuse each allocation of each change.
+ghost use Rattle.std.specs.Prelude.{◌<◌};
 
-use super::changes::Change;
-use super::draws::Draws;
+use super::changes::{Change, Collection};
 use super::seen::Seen;
+use super::steps::{ROUNDS, TURNS, new_row, no_row, other_row};
 use grid_tables::{TableError, Tables};
 use std::alloc::{AllocError, Global};
 use std::process::Abort;
 use std::test::Fail;
 
-fn seen(alloc: Global, tables: &Tables) -> Result<Seen, AllocError> {
-    let mut shown = Seen::new(alloc);
-    shown.see_tables(tables)?;
-    Ok(shown)
+/// How many changes there are.
+const STEPS: u32 = 3 + 3 * ROUNDS * TURNS;
+
+fn later_change(step: u32) -> Change {
+    let round = step / TURNS;
+    let turn = step % TURNS;
+    if round < ROUNDS {
+        return new_row(round, turn);
+    }
+    let round = round - ROUNDS;
+    if round < ROUNDS {
+        return other_row(round, turn);
+    }
+    no_row(round % ROUNDS, turn)
 }
 
-// Whether it was done or refused at once. What is not done for want of memory is tried again.
-fn try_twice(
+fn change(step: u32) -> Change {
+    match step {
+        0 => Change::Zone { name: 1, stores: 2 },
+        1 => Change::Numbers(100),
+        2 => Change::Collection(Collection {
+            id: 0,
+            parent: 0,
+            name: 0,
+        }),
+        _ => later_change(step.saturating_sub(3)),
+    }
+}
+
+// Tables that the first changes lead to.
+fn replayed(alloc: Global, steps: u32) -> Result<Tables, AllocError> {
+    let mut tables = Tables::empty(alloc);
+    for step in 0..steps {
+        let delta = change(step).delta(alloc)?;
+        if tables.apply(delta) == Err(TableError::Memory) {
+            return Err(AllocError);
+        }
+    }
+    Ok(tables)
+}
+
+// They show what the first changes lead to.
+fn are_as_after(
+    rt: &impl Abort,
+    alloc: Global,
+    tables: &Tables,
+    steps: u32,
+) -> Result<(), AllocError> {
+    let mut shown = Seen::new(alloc, ROUNDS + 2);
+    shown.see_tables(tables)?;
+    let before = replayed(alloc, steps)?;
+    let mut wanted = Seen::new(alloc, ROUNDS + 2);
+    wanted.see_tables(&before)?;
+    assert_eq!(rt;
+        shown.numbers.as_slice(),
+        wanted.numbers.as_slice(),
+        "{steps}"
+    );
+    Ok(())
+}
+
+// Does a change. What is not done for want of memory leaves all as it was, and is then done.
+fn step_on(
     rt: &impl Abort,
     alloc: Global,
     tables: &mut Tables,
-    change: Change,
-) -> Result<bool, AllocError> {
-    let before = seen(alloc, tables)?;
-    let delta = change.delta(alloc)?;
-    let again = change.delta(alloc)?;
-    if tables.apply(delta) != Err(TableError::Memory) {
-        return Ok(true);
+    step: u32,
+) -> Result<bool, AllocError>
+    requires { step < STEPS }
+{
+    let delta = change(step).delta(alloc)?;
+    match tables.apply(delta) {
+        Ok(()) => Ok(true),
+        Err(TableError::BadDelta { .. }) => Ok(false),
+        Err(TableError::Memory) => {
+            are_as_after(rt, alloc, tables, step)?;
+            let again = change(step).delta(alloc)?;
+            let is_done = tables.apply(again).is_ok();
+            are_as_after(rt, alloc, tables, step + 1)?;
+            Ok(is_done)
+        }
     }
-    let after = seen(alloc, tables)?;
-    assert_eq!(rt; after.numbers.as_slice(), before.numbers.as_slice());
-    assert!(rt; tables.apply(again) != Err(TableError::Memory));
-    Ok(false)
 }
 
-fn walk_twice(rt: &impl Abort, alloc: Global, tables: &mut Tables) -> Result<(), AllocError> {
-    let mut draws = Draws::new(7);
-    try_twice(rt, alloc, tables, Change::Zone { name: 1, stores: 2 })?;
-    try_twice(rt, alloc, tables, Change::Numbers(7))?;
-    for _step in 0..300 {
-        let change = draws.change();
-        try_twice(rt, alloc, tables, change)?;
+fn walk(rt: &impl Abort, alloc: Global, done: &mut [u32; 22]) -> Result<(), AllocError> {
+    let mut tables = Tables::empty(alloc);
+    for step in 0..STEPS {
+        if step_on(rt, alloc, &mut tables, step)? {
+            if let Some(count) = done.get_mut(usize::from(change(step).number())) {
+                *count = count.saturating_add(1);
+            }
+        }
     }
     Ok(())
 }
 
+// changes of each kind but the first, of which there is one, are done more than once
 #[test]
 fn changes_without_memory(rt: HostRuntime) -> Result<(), Fail> {
-    let mut tables = Tables::empty(rt.alloc());
-    walk_twice(&rt, rt.alloc(), &mut tables)?;
+    let mut done = [0; 22];
+    walk(&rt, rt.alloc(), &mut done)?;
+    for (kind, count) in done.iter().enumerate().skip(2) {
+        assert!(rt; 2 <= *count, "{kind}");
+    }
     Ok(())
 }

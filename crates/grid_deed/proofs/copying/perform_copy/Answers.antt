@@ -1,4 +1,4 @@
-use Rattle.std.proofs.Common.{length, ◌==◌, Ok, Err, refl, sym, ap, ◌∙◌}
+use Rattle.std.proofs.Common.{inl, length, ◌==◌, Ok, Err, refl, sym, ap, ◌∙◌}
 use Rattle.std.specs.Prelude.{is_ok}
 use Rattle.grid_model.specs.Rows.{Cat}
 use Rattle.grid_model.specs.Applying.{apply_all}
@@ -8,7 +8,7 @@ use Rattle.grid_deed.proofs.Frames.{frame_then, frame_as}
 use Rattle.grid_deed.proofs.Keeping.{err_as}
 use Rattle.grid_deed.proofs.DeedLemmas.{none_there, none_more, first_failed}
 use Rattle.grid_deed.proofs.DeedWholes.{keep_first}
-use Rattle.grid_deed.proofs.CopyDeeds.{says_same, says_of, copy_failed, copy_stopped, copy_unmade, frame_copied, whole_copied, copy_then_none, copy_then, whole_then}
+use Rattle.grid_deed.proofs.CopyDeeds.{says_same, says_of, copy_failed, either_left, copy_stopped, copy_unmade, frame_copied, whole_copied, copy_then_none, copy_then, whole_then}
 use Rattle.grid_deed.proofs.copying.perform_copy.Goals as goal
 
 pub returns-in-Err-clause-done : goal.returns-in-Err-clause-done
@@ -17,6 +17,7 @@ returns-in-Err-clause-done g c kept held p =
     let m = c.commit.new.outside in
     copy_failed g.D.Disk.disk g.P.Plugin.plugin p o m c.in-Err.error c.commit.new.store
     (first_failed g.P.Plugin.plugin kept p.mid p.end c.args.plan.files o.moments (g.D.Disk.disk o.main) c.args.store.now o.stores.items m.stores.items (g.D.Disk.disk m.main) c.commit.new.store c.in-Err.error (c.in-Err.ensures.committed kept p.mid held p.first))
+    (inl (either_left g.D.Disk.disk g.P.Plugin.plugin p o m c.in-Err.error c.args.store.now c.commit.new.store (c.in-Err.ensures.committed kept p.mid held p.first)))
 
 pub returns-in-Err-clause-whole : goal.returns-in-Err-clause-whole
 returns-in-Err-clause-whole g c kept held p =

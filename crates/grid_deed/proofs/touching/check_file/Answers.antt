@@ -13,3 +13,6 @@ pub returns-clause-frame : goal.returns-clause-frame
 returns-clause-frame g c =
     let o = c.args.outside.now in
     frame_spanned g.D.Disk.disk g.P.Plugin.plugin ⊥ (λ k a b. b ≡ a) (λ k. k ≡ c.args.file.now.slot) o (record o { stores = c.verify.new.stores }) (λ e. e) (omega arith) (c.verify.ensures.any_moment o.moments c.requires.ready.stores_last).span refl refl refl
+
+pub returns-clause-looks : goal.returns-clause-looks
+returns-clause-looks g c = (c.verify.ensures.any_moment c.args.outside.now.moments c.requires.ready.stores_last).looks

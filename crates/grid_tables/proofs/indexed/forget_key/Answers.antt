@@ -9,7 +9,7 @@ pub returns-in-Ok-clause-index : goal.returns-in-Ok-clause-index
 returns-in-Ok-clause-index g c = λ are.
     let key = g.K.IndexKey.of c.in-Some.row.now in
     let place = subst (λ (l : List g.row.K.Denot). IsStrictlySortedBy g.K.Row.row_cmp l → IsPlace (g.K.Row.row_cmp key) l (Ok c.in-Ok.at)) c.as_slice.ensures.value c.in-Ok.ensures.place are.ordered in
-    key-forgot g.T.Row.row_cmp g.met.T.Row.total g.K.IndexKey.of g.K.Row.row_cmp g.met.K.Row.total g.met.K.IndexKey.whole c.args.rows.now c.as_slice-rows.ensures.table.ordered g.met.K.OwnKey.own
+    key-forgot g.T.Row.row_cmp g.met.T.Row.total g.K.IndexKey.of g.K.Row.row_cmp g.met.K.Row.total g.met.K.IndexKey.whole c.args.rows.now c.in_order.ensures.ordered g.met.K.OwnKey.own
     (g.Q.Probe.is_key_of c.args.key) c.in-Some.row.now c.in-Some.ensures.row c.in-Some.ensures.alone c.args.keys.now.items c.remove.new.self.items c.in-Ok.at c.remove.ensures.items are place
 
 pub returns-in-Ok-clause-unchanged : goal.returns-in-Ok-clause-unchanged

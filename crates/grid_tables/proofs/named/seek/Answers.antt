@@ -2,7 +2,7 @@ use Rattle.std.proofs.Common.{◌==◌, rules, of_calls}
 use Rattle.std.specs.Prelude.{find}
 use Rattle.std.specs.Ordering.{ordering_reverse}
 use Rattle.std.proofs.lemmas.Fn.{always_returns_same}
-use Rattle.grid_tables.specs.Indexes.{place_of, found_order}
+use Rattle.grid_tables.specs.Indexes.{order_at, found_order}
 use Rattle.grid_tables.proofs.Indexes.{sought}
 use Rattle.grid_tables.proofs.named.seek.Goals as goal
 
@@ -11,5 +11,5 @@ returns-clause-place g c = λ kept index.
     sought g.T.Numbered.number g.T.Row.row_cmp g.met.T.Row.total g.met.T.Numbered.by_number g.T.Placed.parent g.T.Placed.name c.args.rows.now c.len-count.ensures.table.ordered
     c.args.parent c.args.name.now kept c.args.ids.now index c.binary_search_by.result c.binary_search_by.ensures.bound
     (c.binary_search_by.ensures.position
-    (λ id. ordering_reverse (found_order (place_of g.T.Placed.parent g.T.Placed.name c.args.parent c.args.name.now) (find (λ r. g.T.Numbered.number r == id) c.args.rows.now)))
+    (λ id. ordering_reverse (found_order (order_at g.T.Placed.parent g.T.Placed.name c.args.parent c.args.name.now) (find (λ r. g.T.Numbered.number r == id) c.args.rows.now)))
     (always_returns_same _ _ _ (λ a r f k. search (rules, of_calls))))

@@ -1,9 +1,9 @@
 use Rattle.std.proofs.Common.{◌<◌, ◌-◌, length, take, drop, map, sym, ap, ◌∙◌, subst, arith, inl, inr, []}
 use Rattle.std.proofs.lemmas.List.{take_rest, get_or-map, length-map}
-use Rattle.reply_fields.specs.Fronts.{IsNoFront}
+use Rattle.reply_fields.specs.Fronts.{IsNoFieldFront}
 use Rattle.reply_fields.specs.Spelled.{IsNameOf, SharesFirst}
-use Rattle.reply_fields.proofs.NameReading.{Tried-start, Tried-more, IsNoFront-tried}
-use Rattle.reply_fields.proofs.Codes.{IsUnread-at}
+use Rattle.reply_fields.proofs.NameReading.{Tried-start, Tried-more, IsNoFieldFront-tried}
+use Rattle.reply_fields.proofs.Codes.{IsUnreadField-at}
 use Rattle.reply_fields.proofs.names.one_of.Goals as goal
 use Rattle.reply_fields.proofs.names.one_of.Goals.{then-shared-furthest, else-shared-furthest}
 
@@ -28,6 +28,6 @@ loop-index-preserved c =
 pub returns : goal.returns
 returns c =
     let names = map (λ name. name.now) c.args.names.now in
-    IsUnread-at (IsNameOf names) c.args.text.now c.args.at c.loop-index.furthest
-    (subst (λ t. IsNoFront (IsNameOf names) t c.loop-index.furthest) (take_rest c.args.text.now c.args.at)
-    (IsNoFront-tried (take (length c.args.text.now - c.args.at) (drop c.args.at c.args.text.now)) names c.loop-index.index c.loop-index.furthest (omega (arith, c.loop-index-test.false, length-map c.args.names.now (λ name. name.now))) c.loop-index.invariant))
+    IsUnreadField-at (IsNameOf names) c.args.text.now c.args.at c.loop-index.furthest
+    (subst (λ t. IsNoFieldFront (IsNameOf names) t c.loop-index.furthest) (take_rest c.args.text.now c.args.at)
+    (IsNoFieldFront-tried (take (length c.args.text.now - c.args.at) (drop c.args.at c.args.text.now)) names c.loop-index.index c.loop-index.furthest (omega (arith, c.loop-index-test.false, length-map c.args.names.now (λ name. name.now))) c.loop-index.invariant))

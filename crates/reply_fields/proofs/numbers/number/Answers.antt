@@ -2,10 +2,10 @@ use Rattle.std.proofs.Common.{◌≡◌, ◌<◌, ◌-◌, true, false, get_or, 
 use Rattle.std.specs.Char.{is_ascii_digit}
 use Rattle.std.proofs.lemmas.List.{take_rest}
 use Rattle.std.proofs.lemmas.Bool.{false≢true}
-use Rattle.reply_fields.specs.Fronts.{IsNoFront}
+use Rattle.reply_fields.specs.Fronts.{IsNoFieldFront}
 use Rattle.reply_fields.specs.Spelled.{IsNumber, is_among_bytes}
-use Rattle.reply_fields.proofs.Codes.{IsUnread-at}
-use Rattle.reply_fields.proofs.NumberReading.{Bounds, IsLeast, Taken-more, IsNoFront-digit, IsNoFront-ended}
+use Rattle.reply_fields.proofs.Codes.{IsUnreadField-at}
+use Rattle.reply_fields.proofs.NumberReading.{Bounds, IsLeast, Taken-more, IsNoFieldFront-digit, IsNoFieldFront-ended}
 use Rattle.reply_fields.proofs.numbers.number.Goals as goal
 use Rattle.reply_fields.proofs.numbers.number.Goals.{then-len-eq0, else-len-eq0, then-loop-len-test+else-is_ascii_digit, else-loop-len-test, then-len-eq0-2-via-then-len-eq0-2, then-len-eq0-2-via-else-len-eq0-2+then-len-rest, then-len-eq0-2-via-else-len-eq0-2+else-len-rest+then-not-contains}
 
@@ -19,9 +19,9 @@ returns-in-None c =
       | then-len-eq0 w ↦ record { at_first = λ h. w.first-is; later = λ h. absurd (omega (arith, h, w.if-len-eq0.true)) }
       | else-len-eq0 w ↦ record { at_first = λ h. absurd (w.if-len-eq0.false h); later = λ h. w.first-is }
     ] in
-    IsUnread-at (IsNumber c.args.least c.args.most c.args.ends.now) c.args.text.now c.args.at c.loop-len.len
-    (subst (λ t. IsNoFront (IsNumber c.args.least c.args.most c.args.ends.now) t c.loop-len.len) (take_rest c.args.text.now c.args.at)
-    (IsNoFront-digit c.args.least c.args.most c.args.ends.now bounds rest c.loop-len.len c.loop-len.value c.loop-len.invariant (byte - 48) c.if-len-eq0.first c.loop-len-test.true (omega (arith, digit.0)) (omega (arith, digit.1)) least c.in-None.ensures))
+    IsUnreadField-at (IsNumber c.args.least c.args.most c.args.ends.now) c.args.text.now c.args.at c.loop-len.len
+    (subst (λ t. IsNoFieldFront (IsNumber c.args.least c.args.most c.args.ends.now) t c.loop-len.len) (take_rest c.args.text.now c.args.at)
+    (IsNoFieldFront-digit c.args.least c.args.most c.args.ends.now bounds rest c.loop-len.len c.loop-len.value c.loop-len.invariant (byte - 48) c.if-len-eq0.first c.loop-len-test.true (omega (arith, digit.0)) (omega (arith, digit.1)) least c.in-None.ensures))
 
 pub loop-len-preserved : goal.loop-len-preserved
 loop-len-preserved c =
@@ -49,6 +49,6 @@ returns-then-len-eq0-2 c =
       | then-len-eq0-2-via-else-len-eq0-2+then-len-rest w ↦ λ some h. absurd (omega (arith, h, w.if-len-rest.true))
       | then-len-eq0-2-via-else-len-eq0-2+else-len-rest+then-not-contains w ↦ λ some h e. false≢true (sym w.if-not-contains.true ∙ w.contains.ensures.value ∙ e)
     ] in
-    IsUnread-at (IsNumber c.args.least c.args.most c.args.ends.now) c.args.text.now c.args.at len
-    (subst (λ t. IsNoFront (IsNumber c.args.least c.args.most c.args.ends.now) t len) (take_rest c.args.text.now c.args.at)
-    (IsNoFront-ended c.args.least c.args.most c.args.ends.now bounds rest len c.loop-len.value c.loop-len.invariant no_digit no_end))
+    IsUnreadField-at (IsNumber c.args.least c.args.most c.args.ends.now) c.args.text.now c.args.at len
+    (subst (λ t. IsNoFieldFront (IsNumber c.args.least c.args.most c.args.ends.now) t len) (take_rest c.args.text.now c.args.at)
+    (IsNoFieldFront-ended c.args.least c.args.most c.args.ends.now bounds rest len c.loop-len.value c.loop-len.invariant no_digit no_end))

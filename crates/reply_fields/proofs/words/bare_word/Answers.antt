@@ -3,9 +3,9 @@ use Rattle.std.proofs.lemmas.List.{take_rest, get_or-drop, length-drop}
 use Rattle.std.proofs.lemmas.Bool.{false≢true}
 use Rattle.reply_fields.specs.Fronts.{IsRead}
 use Rattle.reply_fields.specs.Spelled.{IsEndedWord, is_among_bytes}
-use Rattle.reply_fields.proofs.Codes.{IsUnread-rest, IsRead-rest}
+use Rattle.reply_fields.proofs.Codes.{IsUnreadField-rest, IsRead-rest}
 use Rattle.reply_fields.proofs.WordReading.{Blanks}
-use Rattle.reply_fields.proofs.WordFronts.{IsNoFront-bare, IsFront-bare}
+use Rattle.reply_fields.proofs.WordFronts.{IsNoFieldFront-bare, IsFieldFront-bare}
 use Rattle.reply_fields.proofs.words.bare_word.Goals as goal
 use Rattle.reply_fields.proofs.words.bare_word.Goals.{then-len-eq0-via-then-len-eq0, then-len-eq0-via-else-len-eq0+then-len-rest, then-len-eq0-via-else-len-eq0+else-len-rest+then-not-contains}
 
@@ -22,7 +22,7 @@ returns-then-len-eq0 c =
       | then-len-eq0-via-else-len-eq0+then-len-rest w ↦ λ some h. absurd (omega (arith, h, w.if-len-rest.true))
       | then-len-eq0-via-else-len-eq0+else-len-rest+then-not-contains w ↦ λ some h e. false≢true (sym w.if-not-contains.true ∙ w.contains.ensures.value ∙ e)
     ] in
-    IsUnread-rest (IsEndedWord c.args.ends.now) text c.args.at n (c.args.at + n) refl (IsNoFront-bare c.args.ends.now blanks rest n c.bare_len-len.ensures no_quote none)
+    IsUnreadField-rest (IsEndedWord c.args.ends.now) text c.args.at n (c.args.at + n) refl (IsNoFieldFront-bare c.args.ends.now blanks rest n c.bare_len-len.ensures no_quote none)
 
 pub returns : goal.returns
 returns c =
@@ -38,4 +38,4 @@ returns c =
     let word : c.in_ok-word.word ≡ take n rest = c.in_ok-word.ensures ∙ ap (λ k. take k rest) (omega arith) in
     subst (λ w. IsRead (IsEndedWord c.args.ends.now) text c.args.at (w, get_or rest n 0) (c.args.at + n + 1)) (sym word)
     (IsRead-rest (IsEndedWord c.args.ends.now) text c.args.at (n + 1) (c.args.at + n + 1) (take n rest, get_or rest n 0) c.requires.place (omega (arith, within)) (omega arith)
-    (IsFront-bare c.args.ends.now blanks rest n c.bare_len-len.ensures no_quote some within end))
+    (IsFieldFront-bare c.args.ends.now blanks rest n c.bare_len-len.ensures no_quote some within end))

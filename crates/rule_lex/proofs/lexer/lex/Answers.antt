@@ -1,7 +1,7 @@
 use Rattle.std.proofs.Common.{sym, ap, subst, ◌∙◌, map, arith}
 use Rattle.std.proofs.lemmas.List.{map-append}
 use Rattle.rule_lex.specs.Seen.{rule_token_of, meaning_of}
-use Rattle.rule_lex.specs.Places.{IsRefusedAt}
+use Rattle.rule_lex.specs.Places.{IsSourceRefusedAt}
 use Rattle.rule_lex.proofs.LexLemmas.{Reached, reached_start, reached_token, reached_bad, reached_end, some_front}
 use Rattle.rule_lex.proofs.OneReading.{one_list}
 use Rattle.rule_lex.proofs.lexer.lex.Goals as goal
@@ -33,7 +33,7 @@ pub returns-in-Bad-clause-bad_token : goal.returns-in-Bad-clause-bad_token
 returns-in-Bad-clause-bad_token c = λ at e.
     let no_front = rw c.in-Bad.is at c.in_ok-len.ensures in
     let refused = reached_bad c.args.text.now c.loop-at.at c.in-Bad.len (map rule_token_of c.loop-at.tokens.items) c.loop-at.invariant.reached c.loop-at-test.true (c.loop-at.invariant.ends c.loop-at-test.true) no_front in
-    subst (λ k. IsRefusedAt c.args.text.now k) (cc) refused
+    subst (λ k. IsSourceRefusedAt c.args.text.now k) (cc) refused
 
 pub returns-in-Bad-clause-only : goal.returns-in-Bad-clause-only
 returns-in-Bad-clause-only c = λ all spelled.

@@ -3,7 +3,7 @@ use Rattle.grid_model.specs.Parsed.{rule_of}
 use Rattle.rule_lex.specs.Seen.{rule_token_of}
 use Rattle.rule_parse.specs.Grammar.{SpellsRules}
 use Rattle.rule_parse.specs.Readers.{read, finish, new_progress}
-use Rattle.rule_parse.specs.RuleTexts.{located, StopsAt}
+use Rattle.rule_parse.specs.RuleTexts.{located, RulesStopAt}
 use Rattle.rule_parse.specs.Seen.{progress_of}
 use Rattle.rule_parse.proofs.Machines.{run, run_more}
 use Rattle.rule_parse.proofs.Parsing.{seen, tokens_of, tokens_more, split_more, split_all, stops_there, stops_at_last, spells_all, follows_none, follows_some, is_stop}
@@ -40,5 +40,5 @@ returns-in-None-finish-clause-stops c = λ at cause is.
     let none = rw c.in-None.is at c.next.ensures.steps in
     let all = split_all c.loop-token.invariant.split none.0 in
     is_stop (cc) (cc)
-    (subst (λ ts. StopsAt SpellsRules (seen ts) c.args.end c.args.end) (sym all)
+    (subst (λ ts. RulesStopAt SpellsRules (seen ts) c.args.end c.args.end) (sym all)
     (stops_at_last read finish new_progress SpellsRules rules_are_read c.loop-token.yielded (progress_of c.loop-token.reading) c.args.end c.loop-token.invariant.runs (sym c.in-None-finish.ensures)))

@@ -3,7 +3,7 @@ use Rattle.std.specs.Prelude.{nat_le}
 use Rattle.grid_outside.specs.declared.outside.Wear.TheVariants.{Vaults}
 use Rattle.grid_model.specs.Limits.{object_size}
 use Rattle.grid_model.specs.Orders.{Order, lists, logs_in, logs_out, works}
-use Rattle.grid_model.specs.Operations.Table.{put, get}
+use Rattle.grid_model.specs.Operations.Table.{put, get, repl, chksum}
 use Rattle.grid_model.specs.Names.{Text, Path}
 use Rattle.grid_model.specs.Runs.{Request}
 use Rattle.grid_model.specs.Working.{well}
@@ -193,6 +193,64 @@ returns-in-Sweep-clause-idle g c = λ request asks.
 pub returns-in-Sweep-clause-untouched : goal.returns-in-Sweep-clause-untouched
 returns-in-Sweep-clause-untouched g c place is = absurd ((c.sweep.ensures.worn no_source (Ok (0, logs_out)) Vaults place is).3)
 
+pub returns-in-Repl-clause-obeys : goal.returns-in-Repl-clause-obeys
+returns-in-Repl-clause-obeys g c = λ source request asks.
+    let p = c.in-Repl in
+    let its = verb_asks (state_of c.args.self.now) c.args.asked c.args.body request c.in-Ok.request (verb.Repl p.path p.resource) c.in-Ok.is p.is asks in
+    c.repl.ensures.obeys source request (
+    its.1 ∙ ap (λ (o : Order). Ok (c.in-Ok.request.session, o)) its.2.1
+    ∙ (λ i. Ok (c.in-Ok.request.session, works (repl (sym p.path-is i) (sym p.resource-is i)) 0))
+    )
+
+pub returns-in-Repl-clause-worn : goal.returns-in-Repl-clause-worn
+returns-in-Repl-clause-worn g c = λ source request asks.
+    let p = c.in-Repl in
+    let its = verb_asks (state_of c.args.self.now) c.args.asked c.args.body request c.in-Ok.request (verb.Repl p.path p.resource) c.in-Ok.is p.is asks in
+    c.repl.ensures.worn source request (
+    its.1 ∙ ap (λ (o : Order). Ok (c.in-Ok.request.session, o)) its.2.1
+    ∙ (λ i. Ok (c.in-Ok.request.session, works (repl (sym p.path-is i) (sym p.resource-is i)) 0))
+    )
+
+pub returns-in-Repl-clause-idle : goal.returns-in-Repl-clause-idle
+returns-in-Repl-clause-idle g c = λ request asks.
+    let p = c.in-Repl in
+    let its = verb_asks (state_of c.args.self.now) c.args.asked c.args.body request c.in-Ok.request (verb.Repl p.path p.resource) c.in-Ok.is p.is asks in
+    c.repl.ensures.idle request (
+    its.1 ∙ ap (λ (o : Order). Ok (c.in-Ok.request.session, o)) its.2.1
+    ∙ (λ i. Ok (c.in-Ok.request.session, works (repl (sym p.path-is i) (sym p.resource-is i)) 0))
+    )
+
+pub returns-in-Repl-clause-call : goal.returns-in-Repl-clause-call
+returns-in-Repl-clause-call g c = λ told settled t main d late left stands. (c.repl.ensures.remembers told settled t main d late left stands).0
+
+pub returns-in-Repl-clause-remembers : goal.returns-in-Repl-clause-remembers
+returns-in-Repl-clause-remembers g c = λ request asks no_sweep. c.repl.ensures.remembers
+
+pub returns-in-ChkSum-clause-obeys : goal.returns-in-ChkSum-clause-obeys
+returns-in-ChkSum-clause-obeys g c = λ source request asks.
+    let p = c.in-ChkSum in
+    let its = verb_asks (state_of c.args.self.now) c.args.asked c.args.body request c.in-Ok.request (verb.ChkSum p.path) c.in-Ok.is p.is asks in
+    c.chksum.ensures.obeys source request (
+    its.1 ∙ ap (λ (o : Order). Ok (c.in-Ok.request.session, o)) its.2.1 ∙ (λ i. Ok (c.in-Ok.request.session, works (chksum (sym p.path-is i)) 0))
+    )
+
+pub returns-in-ChkSum-clause-idle : goal.returns-in-ChkSum-clause-idle
+returns-in-ChkSum-clause-idle g c = λ request asks.
+    let p = c.in-ChkSum in
+    let its = verb_asks (state_of c.args.self.now) c.args.asked c.args.body request c.in-Ok.request (verb.ChkSum p.path) c.in-Ok.is p.is asks in
+    c.chksum.ensures.idle request (
+    its.1 ∙ ap (λ (o : Order). Ok (c.in-Ok.request.session, o)) its.2.1 ∙ (λ i. Ok (c.in-Ok.request.session, works (chksum (sym p.path-is i)) 0))
+    )
+
+pub returns-in-ChkSum-clause-call : goal.returns-in-ChkSum-clause-call
+returns-in-ChkSum-clause-call g c = λ told settled t main d late left stands. (c.chksum.ensures.remembers told settled t main d late left stands).0
+
+pub returns-in-ChkSum-clause-remembers : goal.returns-in-ChkSum-clause-remembers
+returns-in-ChkSum-clause-remembers g c = λ request asks no_sweep. c.chksum.ensures.remembers
+
+pub returns-in-ChkSum-clause-untouched : goal.returns-in-ChkSum-clause-untouched
+returns-in-ChkSum-clause-untouched g c place is = absurd ((c.chksum.ensures.worn no_source (Ok (0, logs_out)) Vaults place is).3)
+
 pub tag-requires-clause-line : goal.tag-requires-clause-line
 tag-requires-clause-line g c =
     let p = c.in-AddMeta in
@@ -288,14 +346,14 @@ returns-in_default g c =
     let other = asks_other (state_of c.args.self.now) c.args.asked c.args.body in
     record {
       obeys = λ source request asks. w.obeys source request
-          (other request c.in-Ok.request c.in-Ok.is n.not-Login n.not-Logout n.not-Quit n.not-Sweep n.not-Ls n.not-Put n.not-Get n.not-AddMeta n.not-RmMeta n.not-LsMeta asks);
+          (other request c.in-Ok.request c.in-Ok.is n.not-Login n.not-Logout n.not-Quit n.not-Sweep n.not-Ls n.not-Put n.not-Get n.not-AddMeta n.not-RmMeta n.not-LsMeta n.not-Repl n.not-ChkSum asks);
       worn = λ source request asks. w.worn source request;
       call = λ told settled t main d late left stands. (w.remembers told settled t main d late left stands).0;
       remembers = λ request asks no_sweep. w.remembers;
       whole = w.whole;
       passes = w.passes;
       idle = λ request asks. w.idle request
-          (other request c.in-Ok.request c.in-Ok.is n.not-Login n.not-Logout n.not-Quit n.not-Sweep n.not-Ls n.not-Put n.not-Get n.not-AddMeta n.not-RmMeta n.not-LsMeta asks);
+          (other request c.in-Ok.request c.in-Ok.is n.not-Login n.not-Logout n.not-Quit n.not-Sweep n.not-Ls n.not-Put n.not-Get n.not-AddMeta n.not-RmMeta n.not-LsMeta n.not-Repl n.not-ChkSum asks);
       untouched = λ place is. absurd ((w.worn no_source (Ok (0, logs_out)) Vaults place is).3);
       drawn = omega (arith, w.drawn);
     }

@@ -23,7 +23,7 @@ returns-in-Ok-clause-obeys g c = λ source request asks.
     let s = c.args.self.now in
     let A : _ → Type 0 = λ r. AsksToOperate s r request in
     let its = changes_so s c.in-Ok.deltas request (subst A c.in-Ok.is asks) in
-    c.change.ensures.obeys source request its.0 its.1 its.2
+    c.change.ensures.obeys source request its.0 its.1 its.2 its.3
 
 pub returns-in-Err-Refused-clause-obeys : goal.returns-in-Err-Refused-clause-obeys
 returns-in-Err-Refused-clause-obeys g c = λ source request asks.
@@ -51,7 +51,7 @@ returns-in-Ok-clause-idle g c = λ request asks refused.
     let s = c.args.self.now in
     let A : _ → Type 0 = λ r. AsksToOperate s r request in
     let its = changes_so s c.in-Ok.deltas request (subst A c.in-Ok.is asks) in
-    absurd (changed_not_refused (state_of s) s.store.cat request its.0 its.2 refused)
+    absurd (changed_not_refused (state_of s) s.store.cat request its.0 its.3 refused)
 
 pub returns-in-Err-Refused-clause-idle : goal.returns-in-Err-Refused-clause-idle
 returns-in-Err-Refused-clause-idle g c = λ request asks refused. (c.say.ensures.rows, c.say.ensures.stores)

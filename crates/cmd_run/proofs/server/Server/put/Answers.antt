@@ -1,4 +1,4 @@
-use Rattle.std.proofs.Common.{Ok, Err, refl, ap, ◌∙◌, subst, arith}
+use Rattle.std.proofs.Common.{Ok, Err, refl, sym, ap, ◌∙◌, subst, arith}
 use Rattle.grid_outside.specs.declared.outside.Wear.TheVariants.{Vaults}
 use Rattle.grid_model.specs.Orders.{logs_out}
 use Rattle.grid_model.specs.Rows.{Cat}
@@ -6,10 +6,12 @@ use Rattle.grid_model.specs.RowGrids.{user_name}
 use Rattle.grid_model.specs.declared.deltas.Numbers.{Numbers}
 use Rattle.grid_deed.proofs.Keeping.{held_stands}
 use Rattle.plan_object.specs.Writing.{FindsTargets}
+use Rattle.cmd_run.specs.Obeys.{AsksForFile}
 use Rattle.cmd_run.specs.Puts.{wanted}
 use Rattle.cmd_run.specs.Around.{around}
 use Rattle.cmd_run.proofs.KeepLemmas.{keep_still}
-use Rattle.cmd_run.proofs.PutEnds.{says_refused_put, worn_vaults}
+use Rattle.cmd_run.proofs.DeedEnds.{worn_vaults}
+use Rattle.cmd_run.proofs.PutEnds.{says_refused_put}
 use Rattle.cmd_run.proofs.SayLemmas.{unsaid, unsaid_by}
 use Rattle.cmd_run.proofs.Remembering.{still_remembers, no_source}
 use Rattle.cmd_run.proofs.NotRefused.{put_not_refused}
@@ -21,7 +23,7 @@ returns-then-next-gt-LAST_VAULT-clause-obeys g c = λ source request asks.
 
 pub returns-then-next-gt-LAST_VAULT-clause-worn : goal.returns-then-next-gt-LAST_VAULT-clause-worn
 returns-then-next-gt-LAST_VAULT-clause-worn g c = λ source request asks.
-    worn_vaults (around g.D.Disk.disk g.A.Ambient.ambient g.P.Plugin.plugin c.args.outside.now (g.K.Sink.sink c.args.sink.now) source) c.args.self.now c.args.putting request asks c.numbers-next.result.next_vault (ap (λ (x : Numbers). x.next_vault) (c.numbers-next.ensures ∙ ap (λ (x : Cat). x.numbers) c.tables.ensures)) (omega (arith, c.if-next-gt-LAST_VAULT.true)) (λ told. held_stands c.args.self.now.store.cat (g.D.Disk.disk c.args.outside.now.main) c.args.self.now.store c.requires.fits.held told)
+    worn_vaults (around g.D.Disk.disk g.A.Ambient.ambient g.P.Plugin.plugin c.args.outside.now (g.K.Sink.sink c.args.sink.now) source) c.args.self.now request (subst AsksForFile (sym asks.is) tt) c.numbers-next.result.next_vault (ap (λ (x : Numbers). x.next_vault) (c.numbers-next.ensures ∙ ap (λ (x : Cat). x.numbers) c.tables.ensures)) (omega (arith, c.if-next-gt-LAST_VAULT.true)) (λ told. held_stands c.args.self.now.store.cat (g.D.Disk.disk c.args.outside.now.main) c.args.self.now.store c.requires.fits.held told)
 
 pub returns-then-next-gt-LAST_VAULT-clause-whole : goal.returns-then-next-gt-LAST_VAULT-clause-whole
 returns-then-next-gt-LAST_VAULT-clause-whole g c = keep_still g.P.Plugin.plugin c.args.self.now.store.cat c.args.outside.now.moments (g.D.Disk.disk c.args.outside.now.main) c.args.self.now.store c.args.outside.now.stores.items c.requires.fits.held c.requires.ready.outside.main_last

@@ -9,7 +9,8 @@ use Rattle.cmd_run.specs.Gets.{Drawn, Drew}
 use Rattle.cmd_run.specs.Writes.{Writing}
 use Rattle.cmd_run.proofs.FetchLemmas.{drew_both}
 use Rattle.cmd_run.proofs.KeepLemmas.{keep_still}
-use Rattle.cmd_run.proofs.PutEnds.{plan_as, unsaid_drawn, passes_framed, ran_then, failed_then, cut_of, cut_after, written_unsunk, worn_of}
+use Rattle.cmd_run.proofs.DeedEnds.{unsaid_drawn, passes_framed}
+use Rattle.cmd_run.proofs.PutEnds.{plan_as, ran_then, failed_then, cut_of, cut_after, written_unsunk, worn_of}
 use Rattle.cmd_run.proofs.PutSteps.{marked_text}
 use Rattle.cmd_run.proofs.Remembering.{still_remembers, written_remembers, written_logs}
 use Rattle.cmd_run.proofs.server.Server.put_drawn.Goals as goal

@@ -7,7 +7,7 @@ use Rattle.grid_mem.specs.Calls.{held, held_after, is_record, Left}
 use Rattle.grid_mem.specs.DiskCalls.{disk_kind, deed_fits, IsSure, MayDo}
 use Rattle.grid_mem.specs.DiskLaws.{disk_laws, may_nothing}
 use Rattle.grid_mem.specs.MemDisk.{disk_of}
-use Rattle.grid_mem.specs.Recorded.{state_of}
+use Rattle.grid_mem.specs.Recorded.{state_in}
 use Rattle.grid_mem.proofs.Recording.{acts_more, sure_more, valid_more, same_more, acts_none, valid_none, same_none}
 use Rattle.grid_mem.proofs.mem_disk.MemDisk.take.Goals as goal
 
@@ -21,7 +21,7 @@ module _ (d : MemDisk) (call : Call DiskDeed) (bytes : List ℕ) (calls : List (
   still_same = same_more disk_kind disk_laws true d.start.items d.bytes.items d.calls.items d.faults d.last d.valid d.same call.moment bytes calls call after refl fits calls_are bytes_are
 
   acts : (faults : ℕ) (is : is_record disk_kind 0 call.moment d.start.items calls ≡ true) (same : bytes ≡ held disk_kind d.start.items calls)
-      → Acts call.moment (MayDo call.deed) (state_of disk_kind disk_laws true d.faults d.last d.start.items d.bytes.items d.calls.items d.valid d.same) (state_of disk_kind disk_laws true faults call.moment d.start.items bytes calls is same)
+      → Acts call.moment (MayDo call.deed) (state_in disk_kind disk_laws true d.faults d.last d.start.items d.bytes.items d.calls.items d.valid d.same) (state_in disk_kind disk_laws true faults call.moment d.start.items bytes calls is same)
   acts = acts_more disk_kind disk_laws true d.start.items d.bytes.items d.calls.items d.faults d.last d.valid d.same call.moment bytes calls call after refl fits calls_are bytes_are
 
   is_sure : (t : ℕ) (image : List ℕ) → call.moment < t → Left disk_kind t (λ x. x ≡ d.start.items) d.start.items calls image → IsSure call.deed call.done bytes image

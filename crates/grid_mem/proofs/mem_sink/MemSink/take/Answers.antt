@@ -8,7 +8,7 @@ use Rattle.grid_mem.specs.Calls.{held, held_after, is_record}
 use Rattle.grid_mem.specs.SinkCalls.{sink_kind, sink_after}
 use Rattle.grid_mem.specs.SinkLaws.{sink_laws, adds_nothing}
 use Rattle.grid_mem.specs.MemSink.{sink_of}
-use Rattle.grid_mem.specs.Recorded.{state_of}
+use Rattle.grid_mem.specs.Recorded.{state_in}
 use Rattle.grid_mem.proofs.Recording.{acts_more, valid_more, same_more, acts_none, valid_none, same_none}
 use Rattle.grid_mem.proofs.Settling.{sink_settled}
 use Rattle.grid_mem.proofs.mem_sink.MemSink.take.Goals as goal
@@ -23,7 +23,7 @@ module _ (s : MemSink) (call : Call (Vec ℕ Global)) (bytes : List ℕ) (calls 
   still_same = same_more sink_kind sink_laws true s.start.items s.bytes.items s.calls.items s.faults s.last s.valid s.same call.moment bytes calls call after refl refl calls_are bytes_are
 
   acts : (faults : ℕ) (is : is_record sink_kind 0 call.moment s.start.items calls ≡ true) (same : bytes ≡ held sink_kind s.start.items calls)
-      → Acts call.moment (AddsPart call.deed.items) (state_of sink_kind sink_laws true s.faults s.last s.start.items s.bytes.items s.calls.items s.valid s.same) (state_of sink_kind sink_laws true faults call.moment s.start.items bytes calls is same)
+      → Acts call.moment (AddsPart call.deed.items) (state_in sink_kind sink_laws true s.faults s.last s.start.items s.bytes.items s.calls.items s.valid s.same) (state_in sink_kind sink_laws true faults call.moment s.start.items bytes calls is same)
   acts = acts_more sink_kind sink_laws true s.start.items s.bytes.items s.calls.items s.faults s.last s.valid s.same call.moment bytes calls call after refl refl calls_are bytes_are
 
 pub invariant_of-self : goal.invariant_of-self

@@ -5,7 +5,7 @@ use Rattle.grid_outside.specs.Files.{File, Files, file_at, finished}
 use Rattle.grid_outside.specs.StoreModel.{Known, exactly, MayBe, after_writing}
 use Rattle.grid_mem.specs.declared.store_deed.StoreDeed.TheVariants.{Create, Finish}
 use Rattle.grid_mem.specs.FilesLaws.{at_same}
-use Rattle.grid_mem.specs.StoreCalls.{store_after, put, is_begun, bytes_of, known_files_after, MayBeFiles}
+use Rattle.grid_mem.specs.StoreCalls.{store_after, with_file, is_begun, bytes_of, known_files_after, MayBeFiles}
 use Rattle.grid_mem.specs.StoreLaws.{after_done}
 use Rattle.grid_mem.proofs.StoreLeaving.{to_each, to_own, own_known}
 use Rattle.grid_mem.proofs.tests.pictures.a_new_file.Goals as goal
@@ -26,7 +26,7 @@ returns-clause-absent c =
     to_each false (store_after empty (Create 7) true) (Finish 7) true (known_files_after true empty (Create 7) true at_first) empty (subst P (sym (get-empty nat_cmp 7)) tt) (λ other apart. created other)
 
 new_file : Files
-new_file = put empty 7 [] false
+new_file = with_file empty 7 [] false
 
 create_is : store_after empty (Create 7) true ≡ new_file
 unfolding new_file

@@ -18,7 +18,7 @@ invariant_of-self-in-Err-2 g c =
     let room : vec_len c.forget_key.new.keys < vec_capacity c.forget_key.new.keys = c.forget_key.ensures.room (omega (arith, c.in_ok-reserve.ensures.ok)) in
     let items : c.insert.new.self.items ≡ insert c.forget_key.new.keys.items c.in-Err.at c.in_ok-key.key = c.insert.ensures.items ∙ written c.insert.result _ _ (c.insert.ensures.succeeds room) in
     subst (λ (l : List g.row.T.Denot). AreKeysOf g.K.IndexKey.of g.K.Row.row_cmp l c.insert.new.self.items) (sym c.in_ok-put.ensures.put)
-    (key-put g.T.Row.row_cmp g.met.T.Row.total g.K.IndexKey.of g.K.Row.row_cmp g.met.K.Row.total g.met.K.IndexKey.whole c.self.inside.rows c.as_slice-rows.ensures.table.ordered c.args.row
+    (key-put g.T.Row.row_cmp g.met.T.Row.total g.K.IndexKey.of g.K.Row.row_cmp g.met.K.Row.total g.met.K.IndexKey.whole c.self.inside.rows c.in_order.ensures.ordered c.args.row
     c.forget_key.new.keys.items c.insert.new.self.items c.in-Err.at c.in_ok-key.key c.in_ok-key.ensures items without place)
 
 pub invariant_of-self-in-Ok-place : goal.invariant_of-self-in-Ok-place
@@ -28,5 +28,5 @@ invariant_of-self-in-Ok-place g c =
     let key = g.K.IndexKey.of c.args.row in
     let place = subst (λ (l : List g.row.K.Denot). IsStrictlySortedBy g.K.Row.row_cmp l → IsPlace (g.K.Row.row_cmp key) l (Ok c.in-Ok.field-0)) c.as_slice.ensures.value c.in-Ok.ensures.place without.ordered in
     subst (λ (l : List g.row.T.Denot). AreKeysOf g.K.IndexKey.of g.K.Row.row_cmp l c.forget_key.new.keys.items) (sym c.in_ok-put.ensures.put)
-    (key-known g.T.Row.row_cmp g.met.T.Row.total g.K.IndexKey.of g.K.Row.row_cmp g.met.K.Row.total g.met.K.IndexKey.whole c.self.inside.rows c.as_slice-rows.ensures.table.ordered c.args.row
+    (key-known g.T.Row.row_cmp g.met.T.Row.total g.K.IndexKey.of g.K.Row.row_cmp g.met.K.Row.total g.met.K.IndexKey.whole c.self.inside.rows c.in_order.ensures.ordered c.args.row
     c.forget_key.new.keys.items c.in-Ok.field-0 without place)

@@ -13,7 +13,7 @@ invariant_of-self-in-Ok c =
     let row = c.args.row in
     let free = ap (λ (l : List ReplicaRow). list_any (λ o. (o.vault == row.vault) && not (is_replica row.object row.number o)) l) c.self.view_is ∙ c.requires in
     subst (λ (l : List ReplicaRow). IsVaults l c.drop_other.new.vaults) (sym c.in-Ok.ensures.put)
-    (vaults_put c.self.inside.rows c.as_slice-rows.ensures.table.ordered c.self.inside.vaults c.self.invariant row c.vault_of-before.result c.drop_other.new.vaults free c.vault_of-before.ensures
+    (vaults_put c.self.inside.rows c.in_order.ensures.ordered c.self.inside.vaults c.self.invariant row c.vault_of-before.result c.drop_other.new.vaults free c.vault_of-before.ensures
     (λ n. c.drop_other.ensures n ∙ ap (λ b. b && not (is_left c.vault_of-before.result row.vault n))
     (ap (λ (l : List Vault). holds l n) c.in_ok-put.ensures.put ∙ holds_put c.self.inside.vaults (record { vault = row.vault }) n)))
 

@@ -1,0 +1,16 @@
+pub mod Asked
+pub mod CellTexts
+pub mod ConditionStages
+pub mod Kept
+pub mod ListLemmas
+pub mod Members
+pub mod Narrowed
+pub mod ObjectsThere
+pub mod OwnTriples
+pub mod PrintedPaths
+pub mod Pushed
+pub mod RowsOfParts
+pub mod SetLists
+pub mod ShownParts
+pub mod Sorted
+pub mod SqlPatterns

@@ -1,0 +1,17 @@
+-- The rows of a query before they are put in order.
+use Rattle.std.specs.Prelude.{◌&&◌, List, map, filter}
+use Rattle.std.specs.List.{list_all}
+use Rattle.grid_model.specs.Names.{Text}
+use Rattle.grid_model.specs.Grid.{Grid}
+use Rattle.grid_model.specs.QueryRows.{cell, combinations, is_readable, meets}
+use Rattle.grid_model.specs.declared.queries.Query.{Query}
+use Rattle.tables_laws.proofs.Rows.{IsIn}
+
+-- the row of each combination that the user may read and that meets all conditions
+abbrev pub unsorted_rows : Grid → Text → Query → List (List Text)
+unsorted_rows g user q = map (λ c. map (cell g c) q.columns) (filter (λ c. is_readable g user c && list_all (meets g c) q.conds) (combinations g q))
+
+-- the rows are these, in some order and each at least once
+pub record HasMembers (rows these : List (List Text)) : Type 0 where
+  pub to : (row : List Text) → IsIn rows row → IsIn these row
+  pub from : (row : List Text) → IsIn these row → IsIn rows row
