@@ -22,13 +22,13 @@ use Rattle.grid_model.specs.declared.marks.Mark.{Mark}
 use Rattle.grid_model.specs.declared.plans.NewFile.{NewFile}
 use Rattle.grid_model.specs.declared.replies.Reply.{Reply}
 use Rattle.grid_journal.specs.Stands.{StandsFor, StandsEither}
-use Rattle.file_laws.specs.Sweeps.{no_orphans}
+use Rattle.file_laws.specs.Removals.{no_orphans}
 use Rattle.grid_deed.specs.Frame.{StoresGo}
 use Rattle.grid_deed.specs.Held.{IsHeld}
 use Rattle.grid_deed.proofs.Keeping.{held_stands}
 use Rattle.grid_headline.specs.Files.{IsKnown, NamesCall}
 use Rattle.grid_headline.specs.Worlds.{World}
-use Rattle.run_laws.specs.Steps.{RequestStep, IsHandledWhole, IsLike, IsNoSweep, OneOf, kept_so, unseen}
+use Rattle.run_laws.specs.Steps.{RequestStep, IsHandledWhole, IsLike, RemovesNoFile, OneOf, kept_so, unseen}
 use Rattle.sess.specs.Places.{Places}
 use Rattle.grid_deed.proofs.Wholes.{one_cat}
 use Rattle.cmd_run.specs.declared.server.Server.{Server}
@@ -107,7 +107,7 @@ module _ {D A P : Type 0} (disk : D → DiskState) (ambient : A → AmbientState
           image_of main sink (leaves told settled t main late main_left) (none_put sink (sink_settled t sink (omega (arith, late, sink_last)) sink_left)))) tt
 
       module _ (mid : ℕ) (to : SinkState) (put : IsTextPut (end_line number well) mid from to) (drawn : o.moments ≤ mid) (ends : ForgetEnds after (disk o.main) (disk n.main) (Ok tt) after_server)
-          (tells : (disk n.main).tells ≡ (disk o.main).tells) (sweep : ¬ IsNoSweep request) where
+          (tells : (disk n.main).tells ≡ (disk o.main).tells) (sweep : ¬ RemovesNoFile request) where
         line : IsTextPut text mid from to
         line = let Q : Text → Type 0 = λ x. IsTextPut x mid from to in subst Q (sym text_is) put
 

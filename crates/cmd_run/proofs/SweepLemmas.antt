@@ -15,7 +15,7 @@ use Rattle.grid_model.specs.declared.plans.NewFile.{NewFile}
 use Rattle.tables_laws.proofs.Grids.{grid-unseen}
 use Rattle.tables_laws.proofs.Rows.{IsIn, in_from_filter}
 use Rattle.tables_laws.proofs.Sound.{fits_so, ok-same, after_first}
-use Rattle.file_laws.specs.Sweeps.{AreOrphans, HaveOwnNames, no_orphans}
+use Rattle.file_laws.specs.Removals.{AreOrphans, HaveOwnNames, no_orphans}
 use Rattle.file_laws.proofs.Members.{in_of, contains_of}
 use Rattle.plan_base.proofs.AtPaths.{sound_of}
 use Rattle.run_laws.specs.Steps.{IsLike}
@@ -25,7 +25,7 @@ use Rattle.grid_outside.specs.Disk.{DiskState}
 use Rattle.grid_outside.specs.Files.{StoreState}
 use Rattle.grid_journal.specs.Journal.{Journal}
 use Rattle.grid_journal.specs.declared.error.JournalError.{JournalError}
-use Rattle.grid_deed.specs.Deeds.{IsSwept}
+use Rattle.grid_deed.specs.Deeds.{AreDiscarded}
 use Rattle.grid_deed.specs.Held.{IsHeld, CommitEnds}
 use Rattle.cmd_run.specs.declared.server.Server.{Server}
 use Rattle.cmd_run.specs.declared.server.Ending.{Ending}
@@ -81,7 +81,7 @@ gone_like (f ∷ gone) c d e =
 module _ {D B : Type 0} (disk : D → DiskState) (plugin : B → StoreState) (old : Journal) (files : List NewFile) (from : ℕ) (main_old main_new : D) (stores_old stores_new : List B) where
   -- what is left was answered
   pub forgot : (left : List NewFile) (new : Journal) → old.staged ≡ [] → (server : Server) → server.store ≡ new
-      → IsSwept disk plugin old.cat files from main_old main_new stores_old stores_new old (Ok left) new
+      → AreDiscarded disk plugin old.cat files from main_old main_new stores_old stores_new old (Ok left) new
       → ForgetsOrphans old.cat from (disk main_old) (disk main_new) (Ok tt) server
   forgot left new staged server same swept = record {
     gone = swept.gone;
@@ -104,7 +104,7 @@ module _ {D B : Type 0} (disk : D → DiskState) (plugin : B → StoreState) (ol
 
   -- it failed
   pub forgot_err : (e : JournalError) (ending : Ending) (new : Journal) (server : Server) → ending ≡ ending_of e
-      → IsSwept disk plugin old.cat files from main_old main_new stores_old stores_new old (Err e) new
+      → AreDiscarded disk plugin old.cat files from main_old main_new stores_old stores_new old (Err e) new
       → ForgetsOrphans old.cat from (disk main_old) (disk main_new) (Err ending) server
   forgot_err e ending new server is swept =
       let R : Ending → Type 0 = λ x. KeepEnds swept.after swept.after (disk main_old) (disk main_new) (Err x) server in

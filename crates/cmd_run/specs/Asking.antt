@@ -5,10 +5,13 @@ use Rattle.grid_model.specs.Names.{Text, is_name}
 use Rattle.grid_model.specs.Grid.{Thing, Triple}
 use Rattle.grid_model.specs.Writable.{is_word}
 use Rattle.grid_model.specs.Limits.{object_size}
-use Rattle.grid_model.specs.Orders.{Order, works, lists_triples}
+use Rattle.grid_model.specs.Orders.{Order, works, lists_triples, queries}
+use Rattle.grid_model.specs.QueryOrders.{ReadsQuery}
+use Rattle.grid_model.specs.Refusing.{Or}
 use Rattle.grid_model.specs.Operations.Table.{Operation, put, addmeta, rmmeta}
 use Rattle.grid_model.specs.Runs as runs
 use Rattle.grid_model.specs.declared.grid.ItemKind.{ItemKind}
+use Rattle.grid_model.specs.declared.queries.Query.{Query}
 use Rattle.grid_model.specs.declared.requests.Request.{Request}
 use Rattle.grid_model.specs.declared.requests.Verb.{Verb}
 use Rattle.grid_model.specs.declared.requests.Verb.TheVariants as verb
@@ -91,3 +94,7 @@ TagOf session adds line request =
 -- the request asks in the session what is said of the thing that is told so
 abbrev pub ShowOf : ℕ → ItemKind → Text → runs.Request → Type 0
 ShowOf session kind name request = (thing : Thing) × NamesThing kind name thing × (request ≡ Ok (session, lists_triples thing))
+
+-- the request asks in the session for the rows of what the text says as a query
+abbrev pub QueryOf : ℕ → Text → runs.Request → Type 0
+QueryOf session text request = (query : Or Query) × ReadsQuery text query × (request ≡ Ok (session, queries query))

@@ -7,7 +7,7 @@ use Rattle.grid_model.specs.Applying.{apply_all}
 use Rattle.grid_model.specs.declared.deltas.OrphanRow.{OrphanRow}
 use Rattle.grid_model.specs.declared.plans.NewFile.{NewFile}
 use Rattle.grid_journal.specs.Stands.{StandsEither}
-use Rattle.file_laws.specs.Sweeps.{no_orphans}
+use Rattle.file_laws.specs.Removals.{no_orphans}
 use Rattle.grid_deed.specs.Held.{IsHeld}
 use Rattle.cmd_run.specs.declared.server.Server.{Server}
 use Rattle.cmd_run.specs.declared.server.Ending.{Ending}

@@ -12,6 +12,7 @@ mod logins;
 mod obeying;
 mod operations;
 mod putting;
+mod querying;
 mod replicating;
 mod saying;
 mod server;

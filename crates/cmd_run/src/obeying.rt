@@ -3,7 +3,7 @@ ghost use Rattle.grid_outside.specs.Source.{SourceState};
 ghost use Rattle.grid_model.specs.Limits.{object_size};
 ghost use Rattle.grid_model.specs.Runs.{Request as RequestOf};
 ghost use Rattle.grid_deed.specs.Safe.{KeepWhole};
-ghost use Rattle.run_laws.specs.Steps.{IsNoSweep};
+ghost use Rattle.run_laws.specs.Steps.{RemovesNoFile};
 ghost use Rattle.cmd_run.specs.Around.{around};
 ghost use Rattle.cmd_run.specs.Asking.{AsksForRequest, IsForm};
 ghost use Rattle.cmd_run.specs.Passes.{AreReady, CallsPass};
@@ -46,7 +46,7 @@ impl Server {
         ensures worn { (source : SourceState) (request : RequestOf) → AsksForRequest (state_of self.old) asked body request →
             IsWorn (around D.disk A.ambient P.plugin outside.new (K.sink sink.new) source) self.old request result }
         ensures call { NamesItsCall outside.old.moments (D.disk outside.old.main) (D.disk outside.new.main) }
-        ensures remembers { (request : RequestOf) → AsksForRequest (state_of self.old) asked body request → IsNoSweep request →
+        ensures remembers { (request : RequestOf) → AsksForRequest (state_of self.old) asked body request → RemovesNoFile request →
             Remembers self.old.store.cat outside.old.moments (D.disk outside.old.main) (D.disk outside.new.main) }
         ensures whole { KeepWhole P.plugin outside.old.moments self.old.store.cat
             (D.disk outside.old.main) (D.disk outside.new.main) outside.old.stores.items outside.new.stores.items }
@@ -125,6 +125,7 @@ impl Server {
             Verb::LsMeta { item, name } => {
                 self.show_tags(alloc, outside, sink, number, session, item, &name)
             }
+            Verb::Query { text } => self.query(alloc, outside, sink, number, session, &text),
             Verb::Ls { path } => self.list(alloc, outside, sink, number, session, &path),
             Verb::Get { path, resource } => {
                 self.get_for(

@@ -3,8 +3,8 @@ ghost use Rattle.grid_outside.specs.Source.{SourceState};
 ghost use Rattle.grid_model.specs.Orders.{sweeps};
 ghost use Rattle.grid_model.specs.Runs.{Request};
 ghost use Rattle.grid_model.specs.Working.{well};
-ghost use Rattle.run_laws.specs.Steps.{IsNoSweep};
-ghost use Rattle.file_laws.specs.Sweeps.{AreOrphans, HaveOwnNames};
+ghost use Rattle.run_laws.specs.Steps.{RemovesNoFile};
+ghost use Rattle.file_laws.specs.Removals.{AreOrphans, HaveOwnNames};
 ghost use Rattle.grid_deed.specs.Frame.{IsReady, Frame};
 ghost use Rattle.grid_deed.specs.Safe.{KeepWhole};
 ghost use Rattle.cmd_run.specs.Around.{around};
@@ -85,7 +85,7 @@ impl Server {
         requires slots { self.old.store.cat.stores ≡ vec_len outside.old.stores }
         requires ready { AreReady D.disk P.plugin K.sink (2 ^ 50) (record { outside = outside.old; sink = sink.old }) }
         ensures obeys { (source : SourceState) (request : Request) → SaysOnly (state_of self.old) request well (state_of self.old) →
-            ¬ IsNoSweep request →
+            ¬ RemovesNoFile request →
             Obeys (around D.disk A.ambient P.plugin outside.old (K.sink sink.old) source)
             (around D.disk A.ambient P.plugin outside.new (K.sink sink.new) source)
             self.old number request result self.new }

@@ -14,7 +14,7 @@ use Rattle.grid_vault.specs.Vault.{IsAmong}
 use Rattle.tables_laws.proofs.Rows.{IsIn, in_from_all, all_from_in, in_from_filter, filter_from_in}
 use Rattle.tables_laws.proofs.Sound.{fits_so, ok-same, after_first}
 use Rattle.file_laws.specs.Plans.{HasFile, old_file, new_file}
-use Rattle.file_laws.specs.Sweeps.{Forgets, no_orphans}
+use Rattle.file_laws.specs.Removals.{Forgets, no_orphans}
 use Rattle.file_laws.proofs.Members.{in_of, contains_of, no_files, among_first, among_rest, among_where}
 use Rattle.file_laws.proofs.Turning.{file_as_before}
 

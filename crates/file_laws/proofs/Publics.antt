@@ -23,7 +23,7 @@ use Rattle.tables_laws.proofs.Sound.{sound-made}
 use Rattle.file_laws.specs.Plans.{Turns, IsCopyPlan, IsPlan}
 use Rattle.file_laws.specs.Puts.{Target, AreLeaves, IsPut}
 use Rattle.file_laws.specs.Rewriting.{StoredReplica, AreStored, AreReplicas, replicas_dropped, replicas_staled, KeepsSlot, Rewriting, MayRewrite, LeavesNoneGood, IsRewriting}
-use Rattle.file_laws.specs.Sweeps.{Forgets, no_orphans}
+use Rattle.file_laws.specs.Removals.{Forgets, no_orphans}
 use Rattle.file_laws.proofs.Members.{in_of}
 use Rattle.file_laws.proofs.Puts.{put_plan}
 use Rattle.file_laws.proofs.Plain.{trim}

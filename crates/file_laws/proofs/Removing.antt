@@ -22,7 +22,7 @@ use Rattle.tables_laws.proofs.Standing.{ReplicaStands}
 use Rattle.tables_laws.proofs.Sound.{IsSound, fits_so}
 use Rattle.file_laws.specs.Plans.{Turns}
 use Rattle.file_laws.specs.Rewriting.{KeepsSlot}
-use Rattle.file_laws.specs.Sweeps.{Forgets}
+use Rattle.file_laws.specs.Removals.{Forgets}
 use Rattle.file_laws.proofs.Members.{in_of, contains_of, among_first}
 use Rattle.file_laws.proofs.Turning.{file_as_before, turns_as, true_or_not}
 use Rattle.file_laws.proofs.Fewer.{same_row}

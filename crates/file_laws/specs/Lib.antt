@@ -1,4 +1,4 @@
 pub mod Plans
 pub mod Puts
 pub mod Rewriting
-pub mod Sweeps
+pub mod Removals

@@ -18,7 +18,7 @@ ghost use Rattle.file_laws.specs.Plans.{Turns, IsCopyPlan, IsPlan, names_no_file
 ghost use Rattle.file_laws.specs.Puts.{Target, AreLeaves, IsPut};
 ghost use Rattle.file_laws.specs.Rewriting.{StoredReplica, AreStored, AreReplicas, replicas_dropped, replicas_staled, KeepsSlot};
 ghost use Rattle.file_laws.specs.Rewriting.{Rewriting, MayRewrite, LeavesNoneGood, IsRewriting};
-ghost use Rattle.file_laws.specs.Sweeps.{Forgets, no_orphans};
+ghost use Rattle.file_laws.specs.Removals.{Forgets, no_orphans};
 
 /// Changes of rows that name no file leave each file named, and each good replica with its file.
 pub fn changes_name_no_file()

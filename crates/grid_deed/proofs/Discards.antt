@@ -26,7 +26,7 @@ use Rattle.tables_laws.proofs.Sound.{sound-made}
 use Rattle.grid_deed.specs.Frame.{Goes}
 use Rattle.grid_deed.specs.Held.{IsHeld, IsCommitted}
 use Rattle.grid_deed.specs.Safe.{KeepWhole}
-use Rattle.file_laws.specs.Sweeps.{Forgets, no_orphans}
+use Rattle.file_laws.specs.Removals.{Forgets, no_orphans}
 use Rattle.grid_deed.specs.Deeds.{IsDiscarded}
 use Rattle.grid_deed.proofs.Frames.{stores_as}
 use Rattle.grid_deed.proofs.Keeping.{held_stands, either_of}

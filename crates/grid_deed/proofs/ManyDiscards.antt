@@ -26,14 +26,14 @@ use Rattle.grid_vault.specs.Removal.{RemovesAmong, SplitInto, none, one_gone, on
 use Rattle.tables_laws.proofs.Rows.{IsIn, in_from_all, all_from_in, any_from_in, filter_from_in}
 use Rattle.tables_laws.proofs.Numbered.{one_number}
 use Rattle.tables_laws.proofs.Sound.{IsSound, sound-made}
-use Rattle.file_laws.specs.Sweeps.{Forgets, no_orphans, AreOrphans, HaveOwnNames}
+use Rattle.file_laws.specs.Removals.{Forgets, no_orphans, AreOrphans, HaveOwnNames}
 use Rattle.file_laws.proofs.Members.{in_of, contains_of}
 use Rattle.file_laws.proofs.Fewer.{apply_step}
 use Rattle.file_laws.proofs.Forgetting.{forgets_all}
 use Rattle.grid_deed.specs.Frame.{Goes}
 use Rattle.grid_deed.specs.Held.{IsHeld, IsCommitted}
 use Rattle.grid_deed.specs.Safe.{KeepWhole}
-use Rattle.grid_deed.specs.Deeds.{IsSwept}
+use Rattle.grid_deed.specs.Deeds.{AreDiscarded}
 use Rattle.grid_deed.proofs.Frames.{stores_as}
 use Rattle.grid_deed.proofs.Keeping.{held_stands, either_of}
 use Rattle.grid_deed.proofs.Wholes.{one_cat, whole_of, keep_commit, keep_more}
@@ -136,12 +136,12 @@ module _ {D B : Type 0} (disk : D → DiskState) (plugin : B → StoreState) (c 
       })
 
   -- memory ran out before any row was taken away
-  pub swept_memory : IsSwept disk plugin c files from main_old main_old stores_old stores_mid s (Err journal.Memory) s
+  pub swept_memory : AreDiscarded disk plugin c files from main_old main_old stores_old stores_mid s (Err journal.Memory) s
   swept_memory = record { gone = []; left = files; after = c; split = all_left files; applied = refl; ends = held_stands c (disk main_old) s held; leaves = still c }
 
   module _ (gone left : List NewFile) (split : SplitInto files gone left) (fewer : FewerThanFaults plugin left stores_old stores_mid) where
     -- none is gone
-    pub swept_none : gone ≡ [] → IsSwept disk plugin c files from main_old main_old stores_old stores_mid s (Ok left) s
+    pub swept_none : gone ≡ [] → AreDiscarded disk plugin c files from main_old main_old stores_old stores_mid s (Ok left) s
     swept_none no_gone = record {
       gone = gone;
       left = left;
@@ -164,7 +164,7 @@ module _ {D B : Type 0} (disk : D → DiskState) (plugin : B → StoreState) (c 
     answer_of (Err e) = Err e
 
     module _ (main_new : D) (new : Journal) (goes : Goes to (disk main_old) (disk main_new)) (stores_end : List B) (same : stores_end ≡ stores_mid) where
-      pub swept_then : (result : Result ⊤ JournalError) → IsCommitted c taken.0 to s (disk main_old) (disk main_new) result new → IsSwept disk plugin c files from main_old main_new stores_old stores_end s (answer_of result) new
+      pub swept_then : (result : Result ⊤ JournalError) → IsCommitted c taken.0 to s (disk main_old) (disk main_new) result new → AreDiscarded disk plugin c files from main_old main_new stores_old stores_end s (answer_of result) new
       swept_then result again = by result again
         where
           leaves : (r : Result ⊤ JournalError) → IsCommitted c taken.0 to s (disk main_old) (disk main_new) r new → IsTrue (disk main_old).tells → IsSettled (disk main_old) → Leaves from (StandsEither c taken.0) (disk main_new)
@@ -173,7 +173,7 @@ module _ {D B : Type 0} (disk : D → DiskState) (plugin : B → StoreState) (c 
             | inr le ↦ still taken.0 told settled t image late (goes.earlier t image le left_then)
           ]
 
-          by : (r : Result ⊤ JournalError) → IsCommitted c taken.0 to s (disk main_old) (disk main_new) r new → IsSwept disk plugin c files from main_old main_new stores_old stores_end s (answer_of r) new
+          by : (r : Result ⊤ JournalError) → IsCommitted c taken.0 to s (disk main_old) (disk main_new) r new → AreDiscarded disk plugin c files from main_old main_new stores_old stores_end s (answer_of r) new
           by (Ok done) a = record {
             gone = gone;
             left = left;

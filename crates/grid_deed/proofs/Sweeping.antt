@@ -20,7 +20,7 @@ use Rattle.tables_laws.proofs.Sound.{IsSound}
 use Rattle.grid_deed.specs.Held.{IsHeld}
 use Rattle.grid_deed.specs.Safe.{AreWhole, KeepWhole}
 use Rattle.file_laws.specs.Plans.{HasFile, old_file, new_file}
-use Rattle.file_laws.specs.Sweeps.{Forgets}
+use Rattle.file_laws.specs.Removals.{Forgets}
 use Rattle.grid_deed.proofs.Keeping.{held_stands}
 use Rattle.file_laws.proofs.Members.{in_of, no_files, among_or_not}
 use Rattle.grid_deed.proofs.Wholes.{one_cat, whole_of}

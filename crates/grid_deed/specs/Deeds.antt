@@ -21,7 +21,7 @@ use Rattle.grid_vault.specs.Vault.{HasSlot, RoseAt}
 use Rattle.grid_vault.specs.declared.fault.Fault.{Fault}
 use Rattle.grid_vault.specs.Removal.{SplitInto, FewerThanFaults}
 use Rattle.file_laws.specs.Plans.{IsCopyPlan, Turns}
-use Rattle.file_laws.specs.Sweeps.{no_orphans}
+use Rattle.file_laws.specs.Removals.{no_orphans}
 use Rattle.grid_deed.specs.declared.copying.Copied.{Copied}
 use Rattle.grid_deed.specs.declared.copying.Copied.TheVariants.{Done, Bad}
 use Rattle.grid_deed.specs.declared.copying.Copied.TheVariants as copied
@@ -118,21 +118,21 @@ pub record IsDiscarded {B : Type 0} (plugin : B → StoreState) (kept after : Ca
 -- ---- the removal of many orphans' files
 
 -- how it ended: the files that are left are answered, and where some are gone their rows were taken away; else main is as it was
-abbrev pub SweepEnds : {D B : Type 0} → (D → DiskState) → (B → StoreState) → List B → List B → Cat → Cat → List NewFile → List NewFile
+abbrev pub DiscardAllEnds : {D B : Type 0} → (D → DiskState) → (B → StoreState) → List B → List B → Cat → Cat → List NewFile → List NewFile
     → D → D → Journal → Result (List NewFile) JournalError → Journal → Type 0
-SweepEnds disk plugin stores_old stores_new kept after gone left main_old main_new old (Ok answered) new =
+DiscardAllEnds disk plugin stores_old stores_new kept after gone left main_old main_new old (Ok answered) new =
     (answered ≡ left) × FewerThanFaults plugin left stores_old stores_new
     × (((gone ≡ []) × (new ≡ old) × IsHeld kept (disk main_new) new × (main_new ≡ main_old)) ⊎ IsKept after (disk main_old) (disk main_new) new)
-SweepEnds disk plugin stores_old stores_new kept after gone left main_old main_new old (Err e) new =
+DiscardAllEnds disk plugin stores_old stores_new kept after gone left main_old main_new old (Err e) new =
     CommitEnds kept after old (disk main_old) (disk main_new) (Err e) new
 
 -- Each file is gone or left, and the rows of those that are gone were taken away, or how far that came, from so many moments on.
-pub record IsSwept {D B : Type 0} (disk : D → DiskState) (plugin : B → StoreState) (kept : Cat) (files : List NewFile) (from : ℕ) (main_old main_new : D)
+pub record AreDiscarded {D B : Type 0} (disk : D → DiskState) (plugin : B → StoreState) (kept : Cat) (files : List NewFile) (from : ℕ) (main_old main_new : D)
     (stores_old stores_new : List B) (old : Journal) (result : Result (List NewFile) JournalError) (new : Journal) : Type 0 where
   pub gone : List NewFile
   pub left : List NewFile
   pub after : Cat
   pub split : SplitInto files gone left
   pub applied : apply_all kept (no_orphans gone) ≡ Ok after
-  pub ends : SweepEnds disk plugin stores_old stores_new kept after gone left main_old main_new old result new
+  pub ends : DiscardAllEnds disk plugin stores_old stores_new kept after gone left main_old main_new old result new
   pub leaves : IsTrue (disk main_old).tells → IsSettled (disk main_old) → Leaves from (StandsEither kept after) (disk main_new)

@@ -7,8 +7,8 @@ ghost use Rattle.grid_journal.specs.Journal.{can_be_kept};
 ghost use Rattle.grid_deed.specs.Frame.{IsReady, Frame};
 ghost use Rattle.grid_deed.specs.Held.{IsHeld};
 ghost use Rattle.grid_deed.specs.Safe.{KeepWhole};
-ghost use Rattle.file_laws.specs.Sweeps.{no_orphans, AreOrphans, HaveOwnNames};
-ghost use Rattle.grid_deed.specs.Deeds.{IsDiscarded, IsSwept};
+ghost use Rattle.file_laws.specs.Removals.{no_orphans, AreOrphans, HaveOwnNames};
+ghost use Rattle.grid_deed.specs.Deeds.{IsDiscarded, AreDiscarded};
 
 use crate::performing::commit;
 use grid_journal::{JournalError, Store};
@@ -74,7 +74,7 @@ pub fn discard_all<D: Disk, A: Ambient, P: Plugin>(
     requires names { HaveOwnNames files.now }
     requires slots { All (λ file. file.slot < vec_len outside.old.stores) files.now }
     requires ready { IsReady D.disk P.plugin (length files.now + 4) outside.old }
-    ensures done { IsSwept D.disk P.plugin store.old.cat files.now outside.old.moments outside.old.main outside.new.main
+    ensures done { AreDiscarded D.disk P.plugin store.old.cat files.now outside.old.moments outside.old.main outside.new.main
         outside.old.stores.items outside.new.stores.items store.old result store.new }
     ensures whole { KeepWhole P.plugin outside.old.moments store.old.cat (D.disk outside.old.main) (D.disk outside.new.main)
         outside.old.stores.items outside.new.stores.items }

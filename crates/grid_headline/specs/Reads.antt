@@ -42,6 +42,7 @@ is_built verb.Sweep = true
 is_built (verb.AddMeta kind name attribute value unit) = true
 is_built (verb.RmMeta kind name attribute value unit) = true
 is_built (verb.LsMeta kind name) = true
+is_built (verb.Query text) = true
 is_built other = false
 
 -- the texts of rules and calls are read and printed so

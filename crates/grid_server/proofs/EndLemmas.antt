@@ -94,10 +94,10 @@ end_of_status ending.Sink = refl
 end_of_status ending.Memory = refl
 end_of_status (ending.Worn what place) = refl
 
-puts_file : (input : Text) (at : State) (asked : List Asked) (a : Asked) (request : Request) → BeginsWithRequests input (asked ++ a ∷ []) → MeansRequest at a request → AsksForFile request → NextMakesFile input at asked
-puts_file input at asked a (Ok (session, order)) first means makes =
+makes_file : (input : Text) (at : State) (asked : List Asked) (a : Asked) (request : Request) → BeginsWithRequests input (asked ++ a ∷ []) → MeansRequest at a request → AsksForFile request → NextMakesFile input at asked
+makes_file input at asked a (Ok (session, order)) first means makes =
     record { next = a; first = first; session = session; order = order; asks = means; makes = makes }
-puts_file input at asked a (Err r) first means makes = absurd makes
+makes_file input at asked a (Err r) first means makes = absurd makes
 
 module _ {B : Type 0} {old mid new : World B} {found : Cat} {before : Server} {asked : List Asked} {a : Asked} {request : Request} (after : Server) (plain : BeginsPlainly old found)
     (so : Sofar old mid found before.store.cat (state_of before) asked) (goes : CallsGoOn old.source.left mid new before.store.cat) (means : MeansRequest (state_of before) a request)
@@ -135,4 +135,4 @@ pub stops_before : {B : Type 0} {old mid : World B} {found : Cat} (before : Serv
     → IsTrue mid.main.tells → IsWorn mid before request (Err (ending.Worn wear.Vaults place)) → Serves old mid found (worn wear.Vaults place)
 stops_before {old = old} before {asked = asked} {a = a} {request = request} place plain so means first short told wears =
     let w = wears wear.Vaults place refl in
-    ends_idle plain so short ((w.1, record { cat = before.store.cat; stands = w.2 told _; holds = sym w.0 }), puts_file old.source.left (state_of before) asked a request first means w.3) (λ none fits. tt)
+    ends_idle plain so short ((w.1, record { cat = before.store.cat; stands = w.2 told _; holds = sym w.0 }), makes_file old.source.left (state_of before) asked a request first means w.3) (λ none fits. tt)

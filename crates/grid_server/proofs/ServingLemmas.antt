@@ -13,7 +13,7 @@ use Rattle.grid_headline.specs.Served.{BeginsWithRequests}
 use Rattle.grid_headline.specs.Worlds.{World}
 use Rattle.run_laws.specs.declared.around.Around.{Around}
 use Rattle.run_laws.specs.Sofar.{run_begun, CallsGoOn, Sofar}
-use Rattle.run_laws.proofs.BuiltOrders.{no-sweep}
+use Rattle.run_laws.proofs.BuiltOrders.{removes_nothing}
 use Rattle.run_laws.specs.Went.{AreInOrder}
 use Rattle.run_laws.proofs.RunLaws.{read_on, ends_well, ends_idle}
 use Rattle.req_lines.specs.Hearing.{Hears, HearsNone, GoesOn as GoesPast, BreaksOff, ahead}
@@ -102,8 +102,8 @@ module _ {D S K A P : Type 0} (v : Views D S K A P) (from : Server) (start mid n
         went = went_of v (result ≡ Some status.DiskFault) (result ≡ Some status.SinkFault) by new passes;
         whole = keeps_whole v by new (command_of was heard) r now.server main_told cmd;
         names = λ none main_tells settled t main d late left stands.
-            let no_sweep = no-sweep asks.means (none asked hears.asked (first_with asked told ans.heard heard.ends refl)) in
-            (cmd.remembers asks.request asks.asks no_sweep main_tells settled t main d late left stands).1;
+            let named = removes_nothing asks.means (none asked hears.asked (first_with asked told ans.heard heard.ends refl)) in
+            (cmd.remembers asks.request asks.asks named main_tells settled t main d late left stands).1;
       }
 
       obeyed_at : Obeys (world_of v by) (world_of v new) was.server (length asked + 1) asks.request r now.server

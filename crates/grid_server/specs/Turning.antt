@@ -4,7 +4,7 @@ use Rattle.grid_outside.specs.Source.{SourceState}
 use Rattle.grid_model.specs.Runs as runs
 use Rattle.grid_deed.specs.Safe.{KeepWhole}
 use Rattle.grid_headline.specs.Worlds.{World}
-use Rattle.run_laws.specs.Steps.{IsNoSweep}
+use Rattle.run_laws.specs.Steps.{RemovesNoFile}
 use Rattle.run_laws.specs.declared.around.Around.{Around}
 use Rattle.req_lines.specs.Reading.{Input, input}
 use Rattle.req_lines.specs.Hearing.{Hears, HearsNone, GoesOn, Stops, BreaksOff}
@@ -53,7 +53,7 @@ pub record Commanded {B : Type 0} (old new : World B) (c : Command) (result : Re
   pub worn : (request : runs.Request) → AsksForRequest (state_of c.before) c.heard.asked c.heard.body request → IsWorn new c.before request result
   pub whole : KeepWhole old.plugin old.moments c.before.store.cat old.main new.main old.stores new.stores
   pub call : NamesItsCall old.moments old.main new.main
-  pub remembers : (request : runs.Request) → AsksForRequest (state_of c.before) c.heard.asked c.heard.body request → IsNoSweep request
+  pub remembers : (request : runs.Request) → AsksForRequest (state_of c.before) c.heard.asked c.heard.body request → RemovesNoFile request
       → Remembers c.before.store.cat old.moments old.main new.main
 
 -- ---- one turn

@@ -10,24 +10,26 @@ use Rattle.grid_model.specs.Limits.{object_size}
 use Rattle.grid_model.specs.Doing.{Course}
 use Rattle.grid_model.specs.Operations.Common.{is_person, needs_admin}
 use Rattle.grid_model.specs.Operations.Table.{Operation}
+use Rattle.grid_model.specs.Points.{query_point}
 use Rattle.grid_model.specs.Sessions.{Session, State}
-use Rattle.grid_model.specs.Orders.{Order, lists, lists_triples, logs_in, logs_out, quits, sweeps, works}
-use Rattle.grid_model.specs.Working.{Done, answered, refused_at_once, well, begun, work, running, operate}
+use Rattle.grid_model.specs.Orders.{Order, lists, lists_triples, logs_in, logs_out, queries, quits, sweeps, works}
+use Rattle.grid_model.specs.Working.{Done, answered, refused_at_once, well, begun, work, running, operate, with_points}
 use Rattle.grid_model.specs.Uploading.{has_upload, with_session, log_in, log_out, is_uploading}
 use Rattle.grid_model.specs.Listings.{ls_rows, lsmeta_rows}
 use Rattle.grid_model.specs.Refusing.{Or}
-use Rattle.grid_model.specs.Obeying.{do_works, listing, logged_in, not_logged_in, sweep}
+use Rattle.grid_model.specs.Obeying.{do_works, listing, logged_in, not_logged_in, query_work, sweep}
 use Rattle.grid_model.specs.Runs.{Request, does}
 use Rattle.grid_model.specs.declared.marks.Mark.{Mark}
+use Rattle.grid_model.specs.declared.queries.Query.{Query}
 use Rattle.grid_model.specs.declared.requests.Verb.{Verb}
 use Rattle.grid_model.specs.declared.requests.Verb.TheVariants as verb
 use Rattle.grid_model.specs.declared.refusal.Refusal.TheVariants as refusal
 use Rattle.grid_model.proofs.MeaningLemmas.{gives_is, mapped_gives}
-use Rattle.grid_model.proofs.WithoutRules.{operate_alone, answers}
+use Rattle.grid_model.proofs.WithoutRules.{operate_alone, points_alone, answers}
 use Rattle.cmd_read.specs.Orders.{Asks, asks_for, not_built, cut_short, wrong_words, no_words as line_refused, too_long}
 use Rattle.cmd_read.specs.Orders as orders
 use Rattle.grid_headline.specs.Reads.{MeansRequest, AsksToSweep, texts, is_built}
-use Rattle.run_laws.specs.Steps.{IsNoSweep}
+use Rattle.run_laws.specs.Steps.{RemovesNoFile}
 use Rattle.grid_headline.specs.Draws.{AreSomeOf, skip, keep, told_words, Words, request_words}
 
 -- the order is one of those that are built
@@ -39,6 +41,7 @@ IsBuilt (lists path) = Unit {0}
 IsBuilt (works op count) = Unit {0}
 IsBuilt sweeps = Unit {0}
 IsBuilt (lists_triples thing) = Unit {0}
+IsBuilt (queries query) = Unit {0}
 IsBuilt other = ⊥
 
 abbrev pub IsBuiltRequest : Request → Type 0
@@ -74,6 +77,7 @@ built_verb at verb.Sweep body order built means = subst IsBuilt (sym means) tt
 built_verb at (verb.AddMeta kind name attribute value unit) body order built means = subst IsBuilt (sym means.2) tt
 built_verb at (verb.RmMeta kind name attribute value unit) body order built means = subst IsBuilt (sym means.2) tt
 built_verb at (verb.LsMeta kind name) body order built means = subst IsBuilt (sym means.2) tt
+built_verb at (verb.Query text) body order built means = subst IsBuilt (sym means.2) tt
 built_verb at other body order built means = absurd (both_ways false refl built)
 
 pub built : {at : State} {line body : Text} {request : Request} → Asks texts at line body request → IsBuiltRequest request
@@ -85,9 +89,9 @@ built (line_refused short refused) = tt
 built (too_long long) = tt
 
 -- what is no sweep by its words is none
-pub no-sweep : {at : State} {asked : Asked} {request : Request} → MeansRequest at asked request → ¬ AsksToSweep asked → IsNoSweep request
-no-sweep {at = at} {request = Ok (session, sweeps)} means none = absurd (none (record { at = at; session = session; asks = means }))
-no-sweep {request = other} means none = tt
+pub removes_nothing : {at : State} {asked : Asked} {request : Request} → MeansRequest at asked request → ¬ AsksToSweep asked → RemovesNoFile request
+removes_nothing {at = at} {request = Ok (session, sweeps)} means none = absurd (none (record { at = at; session = session; asks = means }))
+removes_nothing {request = other} means none = tt
 
 -- ---- rules
 
@@ -138,6 +142,11 @@ works-rules at x op count s none = by (nat_le count object_size)
         let w = mapped_gives (answers at) (work (running op) x.user op s) d (sym (operate_alone at x.user op s none) ∙ e) in
         ap (λ (z : Done). z.state.rules) (sym w.2)
 
+query-rules : (at : State) (x : Session) (query : Or Query) (s : Course) → at.rules ≡ [] → AllKeep at (with_points at (query_point x.user) (query_work x.user query) s)
+query-rules at x query s none = λ d e.
+    let w = mapped_gives (answers at) (query_work x.user query s) d (sym (points_alone at (query_point x.user) (query_work x.user query) s none) ∙ e) in
+    ap (λ (z : Done). z.state.rules) (sym w.2)
+
 obey-rules : (at : State) (n : ℕ) (order : Order) (s : Course) → IsBuilt order → at.rules ≡ [] → (o : Option Session)
     → AllKeep at (elim o [ None ↦ not_logged_in at n order s | Some x ↦ logged_in at n x order s ])
 obey-rules at n (logs_in user) s is none None = given-keeps at (log_in at n user s) (log_in-rules at n user s)
@@ -152,6 +161,8 @@ obey-rules at n (lists_triples thing) s is none None = given-keeps at (refused_a
 obey-rules at n (lists_triples thing) s is none (Some x) = given-keeps at (listing at (lsmeta_rows s.grid x.user thing) s) (listing-rules at (lsmeta_rows s.grid x.user thing) s)
 obey-rules at n (works op count) s is none None = given-keeps at (refused_at_once at s refusal.NoLogin) refl
 obey-rules at n (works op count) s is none (Some x) = works-rules at x op count s none
+obey-rules at n (queries query) s is none None = given-keeps at (refused_at_once at s refusal.NoLogin) refl
+obey-rules at n (queries query) s is none (Some x) = query-rules at x query s none
 obey-rules at n sweeps s is none None = given-keeps at (refused_at_once at s refusal.NoLogin) refl
 obey-rules at n sweeps s is none (Some x) = given-keeps at (sweep at x s) (sweep-rules at x s)
 obey-rules at n other s is none o = absurd is
@@ -181,6 +192,7 @@ words_by at (Ok (n, lists path)) marks ok w all is some = some-front (told_words
 words_by at (Ok (n, works op count)) marks ok w all is some = some-front (told_words marks) some
 words_by at (Ok (n, sweeps)) marks ok w all is some = some-front (told_words marks) some
 words_by at (Ok (n, lists_triples thing)) marks ok w all is some = some-front (told_words marks) some
+words_by at (Ok (n, queries query)) marks ok w all is some = some-front (told_words marks) some
 words_by at (Ok (n, other)) marks ok w all is some = absurd is
 
 -- the words of a request and of those behind it are some of those of its marks, and of all

@@ -30,7 +30,7 @@ use Rattle.run_laws.proofs.Known.{pieces-less, told-less}
 use Rattle.run_laws.proofs.Goings.{disks-settled, whole-now, known-now, went-then, whole-then}
 use Rattle.run_laws.proofs.Causes.{caused-then}
 use Rattle.run_laws.proofs.Draws.{gave-then}
-use Rattle.run_laws.proofs.BuiltOrders.{built, does-rules, no-sweep}
+use Rattle.run_laws.proofs.BuiltOrders.{built, does-rules, removes_nothing}
 use Rattle.run_laws.proofs.Images.{IsOneMore, behind-of, like-of, image-more, image-one, shows-one, pieces-have, reply_has}
 
 -- ---- what was handled so far
@@ -200,7 +200,7 @@ module _ {B : Type 0} (old mid new : World B) (found c : Cat) (at : State) (aske
         let two = still-split (grid_of found) h.begun h.done m step.d all in
         let so_far = so.still two.0 in
         let main : new.main.holds ≡ mid.main.holds =
-        whole.still (no-sweep means two.1.2) two.1.0 (two.1.1 ∙ sym so_far.1) (subst IsTrue (sym so.ran.went.main.tells) begin.main_tells) in (
+        whole.still (removes_nothing means two.1.2) two.1.0 (two.1.1 ∙ sym so_far.1) (subst IsTrue (sym so.ran.went.main.tells) begin.main_tells) in (
           subst (HasOneMore old.main.holds) (sym main) so_far.0,
           whole.grid ∙ ap (λ (s : State). s.grid) (sym whole.state) ∙ two.1.1,
         )

@@ -106,9 +106,9 @@ pub record RequestStep {B : Type 0} (old new : World B) (at : State) (before : C
       → old.moments < t → new.main.left t main → new.sink.left t sink → OneOf before n d pieces old.sink.holds main sink
 
 -- the request asks for no sweep
-abbrev pub IsNoSweep : Request → Type 0
-IsNoSweep (Ok (session, sweeps)) = ⊥
-IsNoSweep other = Unit {0}
+abbrev pub RemovesNoFile : Request → Type 0
+RemovesNoFile (Ok (session, sweeps)) = ⊥
+RemovesNoFile other = Unit {0}
 
 -- It was handled whole: this is the catalogue behind it, and this the state.
 pub record IsHandledWhole {B : Type 0} (old new : World B) (at : State) (before : Cat) (n : ℕ) (request : Request)
@@ -120,7 +120,7 @@ pub record IsHandledWhole {B : Type 0} (old new : World B) (at : State) (before 
   pub stands : IsTrue old.main.tells → StandsFor new.main.holds after
   pub text : IsTrue old.sink.tells → new.sink.holds ≡ old.sink.holds ++ reply_text n step.d.reply step.pieces
   -- where it told no mark, left the grid as it was and was no sweep, main is as it was
-  pub still : IsNoSweep request → step.marks ≡ [] → step.d.state.grid ≡ grid_of before → IsTrue old.main.tells → new.main.holds ≡ old.main.holds
+  pub still : RemovesNoFile request → step.marks ≡ [] → step.d.state.grid ≡ grid_of before → IsTrue old.main.tells → new.main.holds ≡ old.main.holds
   pub main_settled : IsTrue old.main.tells → IsSettled old.main → IsSettled new.main
   pub sink_settled : IsTrue old.sink.tells → IsSettled old.sink → IsSettled new.sink
 

@@ -117,7 +117,7 @@ const OF_VERBS: [(&[u8], &[u8]); 45] = [
     (b"0 rmmeta -R x a v", b"BadWord 6"),
     (b"0 lsmeta -u nobody", b"NoUser"),
     (b"0 lsmeta -x rods", b"BadWord 2"),
-    (b"0 query x", b"UnknownCommand"),
+    (b"0 query x", b"BadQuery 0"),
     (b"0 exec a b", b"BadWord 3"),
 ];
 

@@ -4,7 +4,7 @@ use Rattle.grid_model.specs.Applying.{apply_all}
 use Rattle.grid_journal.specs.declared.error.JournalError.TheVariants.{DiskFault}
 use Rattle.grid_vault.specs.Vault.{HasSlot}
 use Rattle.grid_vault.specs.Removal.{RemovesAmong}
-use Rattle.file_laws.specs.Sweeps.{no_orphans}
+use Rattle.file_laws.specs.Removals.{no_orphans}
 use Rattle.grid_deed.proofs.Frames.{frame_then, frame_spanned, frame_as}
 use Rattle.grid_deed.proofs.Keeping.{err_as}
 use Rattle.grid_deed.proofs.DeedLemmas.{none_there}

@@ -11,9 +11,9 @@ use Rattle.grid_model.specs.declared.replies.End.TheVariants as end
 use Rattle.grid_model.specs.declared.grid.ItemKind.{ItemKind}
 use Rattle.grid_model.specs.declared.requests.Verb.{Verb}
 use Rattle.grid_model.specs.declared.requests.Verb.TheVariants as verb
-use Rattle.run_laws.specs.Steps.{IsNoSweep}
+use Rattle.run_laws.specs.Steps.{RemovesNoFile}
 use Rattle.cmd_run.specs.declared.tagging.TagLine.{TagLine}
-use Rattle.cmd_run.specs.Asking.{AsksForRequest, FitsTag, HasGoodWords, IsForm, NamesSome, ShowOf, TagOf}
+use Rattle.cmd_run.specs.Asking.{AsksForRequest, FitsTag, HasGoodWords, IsForm, NamesSome, QueryOf, ShowOf, TagOf}
 use Rattle.cmd_run.specs.Fits.{state_of}
 use Rattle.cmd_run.specs.Obeys.{SaysOnly}
 use Rattle.cmd_run.proofs.Remembering.{no_source}
@@ -183,7 +183,7 @@ returns-in-Sweep-clause-obeys g c = λ source request asks.
 pub returns-in-Sweep-clause-remembers : goal.returns-in-Sweep-clause-remembers
 returns-in-Sweep-clause-remembers g c = λ request asks no_sweep.
     let its = verb_asks (state_of c.args.self.now) c.args.asked c.args.body request c.in-Ok.request verb.Sweep c.in-Ok.is c.in-Sweep.is asks in
-    absurd (subst IsNoSweep (its.1 ∙ ap (λ (o : Order). Ok (c.in-Ok.request.session, o)) its.2.1) no_sweep)
+    absurd (subst RemovesNoFile (its.1 ∙ ap (λ (o : Order). Ok (c.in-Ok.request.session, o)) its.2.1) no_sweep)
 
 pub returns-in-Sweep-clause-idle : goal.returns-in-Sweep-clause-idle
 returns-in-Sweep-clause-idle g c = λ request asks.
@@ -339,6 +339,25 @@ returns-in-LsMeta-clause-remembers g c = λ request asks no_sweep. c.show_tags.e
 pub returns-in-LsMeta-clause-untouched : goal.returns-in-LsMeta-clause-untouched
 returns-in-LsMeta-clause-untouched g c place is = absurd ((c.show_tags.ensures.worn no_source (Ok (0, logs_out)) Vaults place is).3)
 
+pub returns-in-Query-clause-obeys : goal.returns-in-Query-clause-obeys
+returns-in-Query-clause-obeys g c = λ source request asks.
+    let its = verb_asks (state_of c.args.self.now) c.args.asked c.args.body request c.in-Ok.request (verb.Query c.in-Query.text) c.in-Ok.is c.in-Query.is asks in
+    let Q : Text → Type 0 = λ t. QueryOf c.in-Ok.request.session t request in
+    c.query.ensures.obeys source request
+    (subst Q (sym c.in-Query.text-is) (its.2.1.0, its.2.1.1, its.1 ∙ ap (λ (o : Order). Ok (c.in-Ok.request.session, o)) its.2.1.2))
+
+pub returns-in-Query-clause-idle : goal.returns-in-Query-clause-idle
+returns-in-Query-clause-idle g c = λ request asks refused. (c.query.ensures.rows, c.query.ensures.stores)
+
+pub returns-in-Query-clause-call : goal.returns-in-Query-clause-call
+returns-in-Query-clause-call g c = λ told settled t main d late left stands. (c.query.ensures.remembers told settled t main d late left stands).0
+
+pub returns-in-Query-clause-remembers : goal.returns-in-Query-clause-remembers
+returns-in-Query-clause-remembers g c = λ request asks no_sweep. c.query.ensures.remembers
+
+pub returns-in-Query-clause-untouched : goal.returns-in-Query-clause-untouched
+returns-in-Query-clause-untouched g c place is = absurd ((c.query.ensures.worn no_source (Ok (0, logs_out)) Vaults place is).3)
+
 pub returns-in_default : goal.returns-in_default
 returns-in_default g c =
     let n = c.in_default in
@@ -346,14 +365,14 @@ returns-in_default g c =
     let other = asks_other (state_of c.args.self.now) c.args.asked c.args.body in
     record {
       obeys = λ source request asks. w.obeys source request
-          (other request c.in-Ok.request c.in-Ok.is n.not-Login n.not-Logout n.not-Quit n.not-Sweep n.not-Ls n.not-Put n.not-Get n.not-AddMeta n.not-RmMeta n.not-LsMeta n.not-Repl n.not-ChkSum asks);
+          (other request c.in-Ok.request c.in-Ok.is n.not-Login n.not-Logout n.not-Quit n.not-Sweep n.not-Ls n.not-Put n.not-Get n.not-AddMeta n.not-RmMeta n.not-LsMeta n.not-Repl n.not-ChkSum n.not-Query asks);
       worn = λ source request asks. w.worn source request;
       call = λ told settled t main d late left stands. (w.remembers told settled t main d late left stands).0;
       remembers = λ request asks no_sweep. w.remembers;
       whole = w.whole;
       passes = w.passes;
       idle = λ request asks. w.idle request
-          (other request c.in-Ok.request c.in-Ok.is n.not-Login n.not-Logout n.not-Quit n.not-Sweep n.not-Ls n.not-Put n.not-Get n.not-AddMeta n.not-RmMeta n.not-LsMeta n.not-Repl n.not-ChkSum asks);
+          (other request c.in-Ok.request c.in-Ok.is n.not-Login n.not-Logout n.not-Quit n.not-Sweep n.not-Ls n.not-Put n.not-Get n.not-AddMeta n.not-RmMeta n.not-LsMeta n.not-Repl n.not-ChkSum n.not-Query asks);
       untouched = λ place is. absurd ((w.worn no_source (Ok (0, logs_out)) Vaults place is).3);
       drawn = omega (arith, w.drawn);
     }

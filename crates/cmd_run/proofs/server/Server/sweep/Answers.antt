@@ -9,7 +9,7 @@ use Rattle.grid_model.specs.Working.{well}
 use Rattle.grid_model.specs.declared.replies.End.TheVariants as end
 use Rattle.grid_model.specs.declared.refusal.Refusal.TheVariants as refusal
 use Rattle.plan_base.proofs.AtPaths.{user_known}
-use Rattle.run_laws.specs.Steps.{IsNoSweep}
+use Rattle.run_laws.specs.Steps.{RemovesNoFile}
 use Rattle.cmd_run.specs.Fits.{state_of}
 use Rattle.cmd_run.specs.Obeys.{SaysOnly}
 use Rattle.cmd_run.proofs.LoginLemmas.{says_no_login, says_swept, says_not_admin}
@@ -55,7 +55,7 @@ returns-clause-obeys g c = λ source request is.
     let A : Cat → Type 0 = λ x. is_admin (get (grid_of x).users (user_name x user)) ≡ true in
     let admin = subst A c.tables.ensures (sym c.is_admin.ensures ∙ c.if-not-is_admin.false) in
     let Q : Request → Type 0 = λ r. SaysOnly (state_of s) r well (state_of s) in
-    let N : Request → Type 0 = λ r. ¬ IsNoSweep r in
+    let N : Request → Type 0 = λ r. ¬ RemovesNoFile r in
     c.sweep_all.ensures.obeys source request (subst Q (sym is) (says_swept s c.args.session user (sym c.in-Some.ensures) admin)) (subst N (sym is) (λ x. x))
 
 pub returns-clause-idle : goal.returns-clause-idle

@@ -3,7 +3,7 @@ use Rattle.std.specs.Prelude.{All, List, vec_len}
 use Rattle.grid_model.specs.Replies.{end_line}
 use Rattle.grid_model.specs.Working.{well}
 use Rattle.grid_model.specs.declared.plans.NewFile.{NewFile}
-use Rattle.file_laws.specs.Sweeps.{AreOrphans, HaveOwnNames}
+use Rattle.file_laws.specs.Removals.{AreOrphans, HaveOwnNames}
 use Rattle.cmd_run.specs.Around.{around}
 use Rattle.cmd_run.specs.Sweeping.{orphan_files}
 use Rattle.cmd_run.proofs.KeepLemmas.{keep_still}

@@ -1,0 +1,66 @@
+ghost use Rattle.std.specs.Prelude.{◌≡◌, ℕ, ◌+◌, ◌<◌, ◌≤◌, Ok, IsErrOf};
+ghost use Rattle.grid_outside.specs.Source.{SourceState};
+ghost use Rattle.grid_model.specs.Runs.{Request};
+ghost use Rattle.grid_deed.specs.Safe.{KeepWhole};
+ghost use Rattle.cmd_run.specs.Around.{around};
+ghost use Rattle.cmd_run.specs.Asking.{QueryOf};
+ghost use Rattle.cmd_run.specs.Passes.{AreReady, CallsPass};
+
+use crate::{Ending, Server};
+use grid_model::{End, Refusal, Text};
+use grid_outside::{Ambient, Disk, Outside, Plugin, Sink};
+use query_parse::{QueryError, read_query};
+use query_run::query_rows;
+use std::alloc::{AllocError, Global};
+
+impl Server {
+    ghost use Rattle.cmd_run.specs.declared.server.Server.{Server};
+    ghost use Rattle.cmd_run.specs.Fits.{state_of, FitsMain};
+    ghost use Rattle.cmd_run.specs.Obeys.{Obeys, IsWorn, Remembers};
+
+    /// Shows what a query asks for to whoever is logged in to the session.
+    pub(crate) fn query<D: Disk, K: Sink, A: Ambient, P: Plugin>(
+        &mut self,
+        alloc: Global,
+        outside: &mut Outside<D, A, P>,
+        sink: &mut K,
+        number: u64,
+        session: u8,
+        text: &Text,
+    ) -> Result<(), Ending>
+        requires fits { FitsMain (D.disk outside.old.main) self.old }
+        requires session { session < 64 }
+        requires ready { AreReady D.disk P.plugin K.sink 1 (record { outside = outside.old; sink = sink.old }) }
+        ensures obeys { (source : SourceState) (request : Request) → QueryOf session text.now request →
+            Obeys (around D.disk A.ambient P.plugin outside.old (K.sink sink.old) source)
+            (around D.disk A.ambient P.plugin outside.new (K.sink sink.new) source)
+            self.old number request result self.new }
+        ensures worn { (source : SourceState) (request : Request)
+            → IsWorn (around D.disk A.ambient P.plugin outside.new (K.sink sink.new) source) self.old request result }
+        ensures remembers { Remembers self.old.store.cat outside.old.moments (D.disk outside.old.main) (D.disk outside.new.main) }
+        ensures whole { KeepWhole P.plugin outside.old.moments self.old.store.cat
+            (D.disk outside.old.main) (D.disk outside.new.main) outside.old.stores.items outside.new.stores.items }
+        ensures passes { CallsPass D.disk P.plugin K.sink (IsErrOf result Ending.Disk) (IsErrOf result Ending.Sink)
+            (record { outside = outside.old; sink = sink.old }) (record { outside = outside.new; sink = sink.new }) }
+        ensures rows { outside.new.main ≡ outside.old.main }
+        ensures stores { outside.new.stores ≡ outside.old.stores }
+        ensures drawn { outside.new.moments ≤ outside.old.moments + 1 }
+    {
+        let Some(user) = self.sessions.user(session) else {
+            return self.say(alloc, outside, sink, number, End::Refused(Refusal::NoLogin));
+        };
+        let query = match read_query(alloc, text.as_slice()) {
+            Ok(query) => query,
+            Err(QueryError::BadQuery { at }) => {
+                let refusal = Refusal::BadQuery { at: at as u64 };
+                return self.say(alloc, outside, sink, number, End::Refused(refusal));
+            }
+            Err(QueryError::Memory) => return Err(Ending::Memory),
+        };
+        self.store.is_spelled();
+        match query_rows(alloc, self.store.tables(), user, &query) {
+            Ok(rows) => self.show(alloc, outside, sink, number, rows),
+            Err(AllocError) => Err(Ending::Memory),
+        }
+    }
+}
