@@ -1,0 +1,2 @@
+mod OnPaths
+mod ServiceNames
