@@ -89,7 +89,8 @@ fn each_micro_service_is_read(rt: HostRuntime) -> Result<(), Fail> {
             "Some(ChMod { level: Own, name: Text { bytes: [47] }, path: Path { names: [] } })",
         ),
     ] {
-        assert_eq!(rt; asked(rt.alloc(), line)?, service, "at {line}");
+        let shown = asked(rt.alloc(), line)?;
+        assert_eq!(rt; shown.as_str(), service, "at {line}");
     }
     Ok(())
 }
@@ -111,7 +112,8 @@ fn what_is_no_path_is_told_with_its_place(rt: HostRuntime) -> Result<(), Fail> {
         ("msiRmAVU -C /a/ b c d", "Some(NoPath { at: 3 })"),
         ("msiSetACL own a b", "Some(NoPath { at: 0 })"),
     ] {
-        assert_eq!(rt; asked(rt.alloc(), line)?, service, "at {line}");
+        let shown = asked(rt.alloc(), line)?;
+        assert_eq!(rt; shown.as_str(), service, "at {line}");
     }
     Ok(())
 }
@@ -155,7 +157,8 @@ fn what_is_no_micro_service_is_none(rt: HostRuntime) -> Result<(), Fail> {
         "msiDataObjUnlink2 /a",
         "",
     ] {
-        assert_eq!(rt; asked(rt.alloc(), line)?, "None", "at {line}");
+        let shown = asked(rt.alloc(), line)?;
+        assert_eq!(rt; shown.as_str(), "None", "at {line}");
     }
     Ok(())
 }
