@@ -3,7 +3,7 @@ use Rattle.std.proofs.Common.{◌≡◌, Bool, true, false, List, [], ◌∷◌,
 use Rattle.std.specs.Prelude.{option_map}
 use Rattle.std.specs.Option.{option_map_or}
 use Rattle.grid_model.specs.Names.{Text, same_text}
-use Rattle.grid_model.specs.Services.{Service, ServiceReading, service, services, word_in}
+use Rattle.grid_model.specs.Services.{ServiceReading, service, services, word_in}
 use Rattle.grid_model.specs.declared.calls.Call.{Call}
 use Rattle.service_read.specs.ReadServices.{reading_by, service_names}
 use Rattle.service_read.specs.declared.names.ServiceName.{ServiceName}

@@ -1,7 +1,5 @@
-use Rattle.std.proofs.Common.{◌≡◌, Option, Some, None, sym, ap, ◌∙◌, subst}
-use Rattle.grid_model.specs.Services.{Service, service}
+use Rattle.std.proofs.Common.{Some, None, sym, ap, ◌∙◌, subst}
 use Rattle.service_read.specs.ReadServices.{Explains, reading_by}
-use Rattle.service_read.specs.declared.error.ServiceError.{ServiceError}
 use Rattle.service_read.proofs.ServiceNames.{service_by_name}
 use Rattle.service_read.proofs.reading.read_service.Goals as goal
 
