@@ -1,0 +1,4 @@
+pub mod Calls
+pub mod Places
+pub mod Runs
+pub mod Steps
