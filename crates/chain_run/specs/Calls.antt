@@ -37,7 +37,8 @@ pub record Makes {S Stop : Type 0} (went : S → List (Made Stop) → S → Type
   pub after : (from : S) (before : List (Made Stop)) → went from before old → went from (before ++ calls) new
 
 -- the same, by why a run was given up, if it was: for want of memory, for a call that was stopped, or for a size that was not told
-abbrev pub MakesUntil : {S Stop : Type 0} → (S → List (Made Stop) → S → Type 0) → (Made Stop → Type 0) → (S → Stop → Type 0) → Option (RunStop Stop) → S → S → Type 0
+abbrev pub MakesUntil : {S Stop : Type 0} → (S → List (Made Stop) → S → Type 0) → (Made Stop → Type 0) → (S → Stop → Type 0)
+    → Option (RunStop Stop) → S → S → Type 0
 MakesUntil went Due no_size None old new = Makes went Due None old new
 MakesUntil went Due no_size (Some run.Memory) old new = Makes went Due None old new
 MakesUntil went Due no_size (Some (run.Stopped s)) old new = Makes went Due (Some s) old new ⊎ (Makes went Due None old new × no_size new s)
