@@ -31,7 +31,7 @@ pub trait Doer {
         ensures goes { (from : Self) (calls : List (Made Self.Stop)) → went from calls self.old →
             went from (calls ++ record { call = call.now; undo = undo.now; place = place self.old; stop = stop_of result } ∷ []) self.new };
 
-    /// Runs a recovery, again and again while it is stopped: how it failed, if it did.
+    /// Runs a recovery: how it failed, if it did. It is not answered that it was stopped: that is a stop of the doer.
     fn undo(&mut self, call: &Call, undo: &Calls) -> Result<Option<Failure>, Self::Stop>
         ensures recovers { IfOk result (λ failure. Recovers call.now failure (place self.old) (place self.new)) }
         ensures goes { (from : Self) (calls : List (Made Self.Stop)) → went from calls self.old →
