@@ -1,5 +1,6 @@
 // Sessions as the formats describe them, from the first line to the last.
 use super::playing::{begun, done, serves};
+use super::trees::{REPLICATION, begun_with, serves_on_four};
 use std::test::Fail;
 
 // A collection is made and listed.
@@ -40,18 +41,30 @@ fn sessions_of_users_and_collections(rt: HostRuntime) -> Result<(), Fail> {
     for ((input, replies), last, paths) in [
         (LISTED, 2, b"/tempZone/home/rods/a\n".as_slice()),
         (
-            MOVED,
-            5,
-            b"/tempZone/home/rods/z\n/tempZone/home/rods/z/b\n",
-        ),
-        (
             SHARED,
             11,
             b"/tempZone/home/alice\n/tempZone/home/rods/a\n/tempZone/home/rods/a/b\n",
         ),
-        (NOBODY, 0, b""),
     ] {
         serves(&rt, alloc, &new, input, done(1, replies, last, paths))?;
+    }
+    Ok(())
+}
+
+#[test]
+fn collections_move_with_all_below_and_nobody_makes_one(rt: HostRuntime) -> Result<(), Fail> {
+    let alloc = rt.alloc();
+    let main = begun_with(&rt, alloc, REPLICATION, 9)?;
+    for ((input, replies), last, paths) in [
+        (
+            MOVED,
+            5,
+            b"/tempZone/home/rods/z\n/tempZone/home/rods/z/b\n".as_slice(),
+        ),
+        (NOBODY, 0, b""),
+    ] {
+        let wanted = done(2, replies, last, paths);
+        serves_on_four(&rt, alloc, &main, input, 0, wanted)?;
     }
     Ok(())
 }

@@ -246,13 +246,14 @@ pub(crate) fn goes_on(
     Ok(())
 }
 
-// What a catalogue tells: the number of the run, that of its last command, and the paths of its objects and of the
-// collections beyond the first four.
+// What a catalogue tells: the number of the run, that of its last command, the paths of its objects and of the
+// collections beyond the first four, and what its rows tell.
 #[derive(Drop)]
 pub(crate) struct Kept {
     pub(crate) run: u64,
     pub(crate) last: u64,
     pub(crate) paths: Vec<u8>,
+    pub(crate) rows: Vec<u8>,
 }
 
 pub(crate) fn kept_on(alloc: Global, bytes: &[u8]) -> Result<Kept, Fail> {
@@ -266,11 +267,50 @@ pub(crate) fn kept_on(alloc: Global, bytes: &[u8]) -> Result<Kept, Fail> {
 fn told_by(alloc: Global, tables: &Tables) -> Result<Kept, AllocError> {
     let numbers = tables.numbers();
     let paths = paths_from(alloc, tables, 4)?;
+    let rows = rows_of(alloc, tables)?;
     Ok(Kept {
         run: numbers.run,
         last: numbers.last,
         paths,
+        rows,
     })
+}
+
+// How many collections and objects there are, how many replicas are good and how many stale, whether a command is not
+// done, and each file that no replica has, by its number and its store.
+fn rows_of(alloc: Global, tables: &Tables) -> Result<Vec<u8>, AllocError> {
+    let (good, stale) = count_replicas(alloc, tables)?;
+    let collections = tables.count(Kind::Collections);
+    let objects = tables.count(Kind::Objects);
+    let counts = format!(in alloc;
+        "collections {collections} objects {objects} good {good} stale {stale}\n"
+    )?;
+    let mut rows = counts.as_bytes().to_vec(alloc)?;
+    if tables.pending().is_some() {
+        rows.extend_from_slice(b"pending\n")?;
+    }
+    for orphan in tables.orphans() {
+        let row = format!(in alloc; "orphan {} {}\n", orphan.vault, orphan.slot)?;
+        rows.extend_from_slice(row.as_bytes())?;
+    }
+    Ok(rows)
+}
+
+// How many replicas are good, and how many are stale.
+fn count_replicas(alloc: Global, tables: &Tables) -> Result<(u64, u64), AllocError> {
+    let mut good: u64 = 0;
+    let mut stale: u64 = 0;
+    let ids = tables.ids(alloc, Kind::Objects)?;
+    for id in ids.as_slice() {
+        for replica in tables.replicas_of(*id) {
+            if replica.good {
+                good = good.saturating_add(1);
+            } else {
+                stale = stale.saturating_add(1);
+            }
+        }
+    }
+    Ok((good, stale))
 }
 
 // The paths of all objects and collections of the catalogue on main.

@@ -7,30 +7,42 @@ use std::test::Fail;
 // replica keeps its number, and a new one gets the next.
 const OVER: [(&[u8], &[u8]); 11] = [
     (b"0 login rods\n", b"1 ok\n"),
-    (b"0 put /o r new 0\n", b"2 mark ran 0 1000\n2 ok\n"),
-    (b"0 put /o d3 new 3\nabc", b"3 err Exists\n"),
-    (b"0 put /o d3 over 3\nabc", b"4 mark ran 0 1000\n4 ok\n"),
     (
-        b"0 get /o r\n",
-        b"5 data 3\nabc\n5 mark ran 0 1000\n5 ok 3\n",
+        b"0 put /tempZone/home/rods/o r new 0\n",
+        b"2 mark ran 0 1000\n2 ok\n",
     ),
     (
-        b"0 ls /o\n",
-        b"6 row D /o 0 r;d0 0 X sha2:47DEQpj8HBSa+/TImW+5JCeuQeRkm5NMpJWZG3hSuFU=\n\
-6 row D /o 1 r;d1 0 X sha2:47DEQpj8HBSa+/TImW+5JCeuQeRkm5NMpJWZG3hSuFU=\n\
-6 row D /o 2 r;d2 0 X sha2:47DEQpj8HBSa+/TImW+5JCeuQeRkm5NMpJWZG3hSuFU=\n\
-6 row D /o 3 d3 3 & sha2:ungWv48Bz+pBQUDeXa4iI7ADYaOWF3qctBD/YfIAFa0=\n6 ok\n",
-    ),
-    (b"0 put /o d1 over 1\nx", b"7 mark ran 0 1000\n7 ok\n"),
-    (
-        b"0 ls /o\n",
-        b"8 row D /o 0 r;d0 0 X sha2:47DEQpj8HBSa+/TImW+5JCeuQeRkm5NMpJWZG3hSuFU=\n\
-8 row D /o 1 r;d1 1 & sha2:LXEWQrcmsEQBYnyp+6wy9chTD7GQPMTbAiWHF5IaSIE=\n\
-8 row D /o 2 r;d2 0 X sha2:47DEQpj8HBSa+/TImW+5JCeuQeRkm5NMpJWZG3hSuFU=\n\
-8 row D /o 3 d3 3 X sha2:ungWv48Bz+pBQUDeXa4iI7ADYaOWF3qctBD/YfIAFa0=\n8 ok\n",
+        b"0 put /tempZone/home/rods/o d3 over 3\nabc",
+        b"3 mark ran 0 1000\n3 ok\n",
     ),
     (
-        b"0 get /o d3\n",
+        b"0 get /tempZone/home/rods/o r\n",
+        b"4 data 3\nabc\n4 mark ran 0 1000\n4 ok 3\n",
+    ),
+    (
+        b"0 ls /tempZone/home/rods/o\n",
+        b"5 row D /tempZone/home/rods/o 0 r;d0 0 X sha2:47DEQpj8HBSa+/TImW+5JCeuQeRkm5NMpJWZG3hSuFU=\n\
+5 row D /tempZone/home/rods/o 1 r;d1 0 X sha2:47DEQpj8HBSa+/TImW+5JCeuQeRkm5NMpJWZG3hSuFU=\n\
+5 row D /tempZone/home/rods/o 2 r;d2 0 X sha2:47DEQpj8HBSa+/TImW+5JCeuQeRkm5NMpJWZG3hSuFU=\n\
+5 row D /tempZone/home/rods/o 3 d3 3 & sha2:ungWv48Bz+pBQUDeXa4iI7ADYaOWF3qctBD/YfIAFa0=\n5 ok\n",
+    ),
+    (
+        b"0 put /tempZone/home/rods/o d3 new 3\nabc",
+        b"6 err Exists\n",
+    ),
+    (
+        b"0 put /tempZone/home/rods/o d1 over 1\nx",
+        b"7 mark ran 0 1000\n7 ok\n",
+    ),
+    (
+        b"0 ls /tempZone/home/rods/o\n",
+        b"8 row D /tempZone/home/rods/o 0 r;d0 0 X sha2:47DEQpj8HBSa+/TImW+5JCeuQeRkm5NMpJWZG3hSuFU=\n\
+8 row D /tempZone/home/rods/o 1 r;d1 1 & sha2:LXEWQrcmsEQBYnyp+6wy9chTD7GQPMTbAiWHF5IaSIE=\n\
+8 row D /tempZone/home/rods/o 2 r;d2 0 X sha2:47DEQpj8HBSa+/TImW+5JCeuQeRkm5NMpJWZG3hSuFU=\n\
+8 row D /tempZone/home/rods/o 3 d3 3 X sha2:ungWv48Bz+pBQUDeXa4iI7ADYaOWF3qctBD/YfIAFa0=\n8 ok\n",
+    ),
+    (
+        b"0 get /tempZone/home/rods/o d3\n",
         b"9 data 1\nx\n9 mark ran 0 1000\n9 ok 1\n",
     ),
     (b"0 put / d3 over 1\nx", b"10 err Exists\n"),
@@ -92,7 +104,7 @@ fn what_is_written_over_or_goes_is_no_longer_sent(rt: HostRuntime) -> Result<(),
     let trimmed: &[(&[u8], &[u8])] = &TRIMMED;
     let removed: &[(&[u8], &[u8])] = &REMOVED;
     for (steps, last, paths) in [
-        (over, 9, b"/o\n".as_slice()),
+        (over, 9, b"/tempZone/home/rods/o\n".as_slice()),
         (trimmed, 15, b"/o\n"),
         (removed, 11, b"/tempZone/home/alice\n"),
     ] {
