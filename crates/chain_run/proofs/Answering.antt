@@ -14,12 +14,12 @@ use Rattle.chain_core.specs.Rest.{rule_at}
 use Rattle.chain_core.specs.Answers.{asked, failure_in, scope_in, step_at, Undoes}
 use Rattle.chain_core.specs.Ending.{IsMet}
 use Rattle.chain_run.specs.Places.{Place, course_at, Performs, Recovers}
-use Rattle.chain_run.specs.Runs.{Answers}
+use Rattle.chain_run.specs.Runs.{AnswersAction}
 use Rattle.chain_run.specs.Steps.{IsStep}
 
 -- a condition was tested
 pub tested : (rules : List Rule) (env : Env) (m : Frames) (i : ℕ) (b : Bool) (p : Place) → asked m ≡ Test i
-    → holds (scope_in rules env m i) p.grid (rule_at rules i).cond ≡ b → Answers rules env m (event.Tested b) p p
+    → holds (scope_in rules env m i) p.grid (rule_at rules i).cond ≡ b → AnswersAction rules env m (event.Tested b) p p
 tested rules env m i b p is h = record {
   user = refl;
   marks = [];
@@ -30,7 +30,7 @@ tested rules env m i b p is h = record {
 
 -- the arguments of a step were computed
 pub stepped : (rules : List Rule) (env : Env) (m : Frames) (i j : ℕ) (e : Event) (p : Place) → asked m ≡ Eval i j
-    → IsStep (scope_in rules env m i) p.grid (step_at (rule_at rules i) j) e → Answers rules env m e p p
+    → IsStep (scope_in rules env m i) p.grid (step_at (rule_at rules i) j) e → AnswersAction rules env m e p p
 stepped rules env m i j (event.Computed c recovery) p is h = record {
   user = refl;
   marks = [];
@@ -51,7 +51,7 @@ stepped rules env m i j (event.Undone y) p is h = absurd h
 
 -- a micro-service was run
 pub ran : (rules : List Rule) (env : Env) (m : Frames) (c : Call) (r : Result Unit Failure) (p q : Place) → asked m ≡ Run c → env.user ≡ p.user
-    → Performs c r p q → Answers rules env m (event.Ran r) p q
+    → Performs c r p q → AnswersAction rules env m (event.Ran r) p q
 ran rules env m c r p q is user d = record {
   user = d.user;
   marks = d.marks;
@@ -73,7 +73,7 @@ ran rules env m c r p q is user d = record {
 
 -- a recovery was run
 pub undone : (rules : List Rule) (env : Env) (m : Frames) (us : List Call) (c : Call) (y : Option Failure) (p q : Place) → asked m ≡ Undo → m.undo ≡ us ++ c ∷ []
-    → env.user ≡ p.user → Recovers c y p q → Answers rules env m (event.Undone y) p q
+    → env.user ≡ p.user → Recovers c y p q → AnswersAction rules env m (event.Undone y) p q
 undone rules env m us c y p q is last user d = record {
   user = d.brings.user;
   marks = d.brings.marks;

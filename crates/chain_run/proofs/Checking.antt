@@ -1,11 +1,10 @@
 -- In rules without a fault a `fail` has no argument, or a number.
-use Rattle.std.proofs.Common.{◌≡◌, ℕ, suc, ◌<◌, Bool, true, false, List, [], ◌∷◌, ◌++◌, length, map, get_or, Some, None, refl, sym, ap, ◌∙◌, subst, arith, eqb-true}
+use Rattle.std.proofs.Common.{◌≡◌, ℕ, ◌<◌, Bool, true, false, List, [], ◌∷◌, length, map, get_or, None, refl, sym, subst, arith, eqb-true}
 use Rattle.std.specs.Prelude.{not, ◌&&◌, ◌||◌, ◌==◌, codes}
 use Rattle.std.proofs.lemmas.List.{length-map}
 use Rattle.std.specs.List.{flat_map}
-use Rattle.grid_model.specs.Names.{Text, same_text}
 use Rattle.grid_model.specs.RuleText as meaning
-use Rattle.grid_model.specs.Parsed.{RuleAt, StepAt, CallAt, Term, rule_of, step_of, call_of, plain_rule}
+use Rattle.grid_model.specs.Parsed.{CallAt, Term, rule_of, step_of, call_of, plain_rule}
 use Rattle.grid_model.specs.Checks.{Fault, first_fault, rules_faults, rule_faults, step_faults, call_faults, argument_faults, KnownNames, known_in, fault_if, is_service, service_takes}
 use Rattle.grid_model.specs.declared.refusal.RuleCause.{RuleCause}
 use Rattle.grid_model.specs.declared.refusal.RuleCause.TheVariants.{Arity}

@@ -1,5 +1,5 @@
 -- The argument of a `fail` has a value that counts.
-use Rattle.std.proofs.Common.{◌≡◌, ℕ, ◌<◌, ◌^◌, Bool, true, false, List, [], ◌∷◌, Option, Some, None, map, refl, sym, ap, ◌∙◌, subst}
+use Rattle.std.proofs.Common.{◌≡◌, ◌<◌, ◌^◌, Bool, true, false, List, [], ◌∷◌, Option, Some, None, map, refl, sym, ap, ◌∙◌, subst}
 use Rattle.std.specs.Prelude.{codes}
 use Rattle.grid_model.specs.Names.{Text, same_text}
 use Rattle.grid_model.specs.Grid.{Grid}
@@ -7,13 +7,13 @@ use Rattle.grid_model.specs.Parsed.{Shape, Term, CallAt, literal, number, truth,
 use Rattle.grid_model.specs.Checks.{Sort, a_text, a_number, is_number_sort, sort_of, result_sort}
 use Rattle.grid_model.specs.Values.{Scope, value, value_at, session_values, size_now, computed}
 use Rattle.grid_model.specs.Services.{Service, service}
-use Rattle.grid_model.specs.Chains.{Doing, cutting, succeeding, failing, serving, naming, serves, doing}
+use Rattle.grid_model.specs.Chains.{Doing, cutting, succeeding, failing, serves, doing}
 use Rattle.grid_model.specs.declared.calls.Call.{Call}
 use Rattle.grid_model.specs.declared.rules.Operator.{Operator}
 use Rattle.grid_model.specs.declared.rules.Operator.TheVariants.{Or, And, Equal, NotEqual, Less, Greater, AtMost, AtLeast, Like, Join}
 use Rattle.grid_model.proofs.Comparing.{same_text-Decides}
 use Rattle.chain_core.specs.Answers.{IsCoded}
-use Rattle.chain_run.specs.Steps.{FitsFail, IsNumberOrNone, IsWritten, IsWrittenAlone}
+use Rattle.chain_run.specs.Steps.{FitsFail, IsNumberOrNone, FitsInt64, FitsInt64Alone}
 
 -- ---- which calls fail
 
@@ -52,7 +52,7 @@ module _ (scope : Scope) (g : Grid) (fits : size_now scope.env g < 2 ^ 64) where
   size_coded n false is h =
       let e : ◌≡◌ {A = Bool} false true = sym (ap (λ b. is_number_sort (elim b as (λ _. Sort) [ true ↦ a_number | false ↦ a_text ])) is) ∙ h in absurd (cc)
 
-  shape_coded : (s : Shape) → is_number_sort (sort_of s) ≡ true → IsWritten s → IsCoded (value scope g (plain_shape s) ∷ [])
+  shape_coded : (s : Shape) → is_number_sort (sort_of s) ≡ true → FitsInt64 s → IsCoded (value scope g (plain_shape s) ∷ [])
   shape_coded (literal t) h written = absurd (cc)
   shape_coded (number z) h written = written
   shape_coded (truth b) h written = absurd (cc)
@@ -61,10 +61,10 @@ module _ (scope : Scope) (g : Grid) (fits : size_now scope.env g < 2 ^ 64) where
   shape_coded (negated p e) h written = absurd (cc)
   shape_coded (applied op p x q y) h written = absurd (no_number op h)
 
-  args_coded : (args : List Term) → IsNumberOrNone args → IsWrittenAlone args → IsCoded (map (value scope g) (map plain args))
+  args_coded : (args : List Term) → IsNumberOrNone args → FitsInt64Alone args → IsCoded (map (value scope g) (map plain args))
   args_coded [] h written = tt
   args_coded (e ∷ []) h written = shape_coded e.shape h written
   args_coded (e ∷ f ∷ rest) h written = absurd h
 
-  pub is_coded : (c : CallAt) → FitsFail c → IsWrittenAlone c.args → doing (computed scope g (plain_call c)) ≡ failing → IsCoded (map (value scope g) (plain_call c).args)
+  pub is_coded : (c : CallAt) → FitsFail c → FitsInt64Alone c.args → doing (computed scope g (plain_call c)) ≡ failing → IsCoded (map (value scope g) (plain_call c).args)
   is_coded c fail written e = args_coded c.args (fail.fits (fail_named (computed scope g (plain_call c)) e)) written

@@ -1,10 +1,9 @@
 -- A step with computed arguments.
-use Rattle.std.proofs.Common.{◌≡◌, ℕ, ◌<◌, ◌^◌, Bool, true, false, List, [], ◌∷◌, Option, Some, None, map, refl, sym, ap, ◌∙◌, subst}
+use Rattle.std.proofs.Common.{◌≡◌, ◌<◌, ◌^◌, true, false, List, [], ◌∷◌, Option, Some, None, map, sym, ap, ◌∙◌, subst}
 use Rattle.std.specs.Prelude.{◌&&◌, option_map}
 use Rattle.grid_model.specs.Grid.{Grid}
 use Rattle.grid_model.specs.Parsed.{call_of, step_of, plain_call, plain_step}
-use Rattle.grid_model.specs.Values as values
-use Rattle.grid_model.specs.Values.{computed, is_short, value, size_now}
+use Rattle.grid_model.specs.Values.{is_short, value}
 use Rattle.grid_model.specs.Chains.{doing, failing, fixed_recovery, all_short}
 use Rattle.grid_model.specs.declared.calls.Call.{Call}
 use Rattle.grid_model.specs.declared.rules.Call0.{Call0}
@@ -13,11 +12,11 @@ use Rattle.rule_cond.specs.Scopes.{HasScopeSize, scope_seen, computed_on}
 use Rattle.rule_cond.specs.declared.scope.Scope.{Scope}
 use Rattle.chain_core.specs.Answers.{IsCoded}
 use Rattle.chain_core.specs.declared.actions.Event.TheVariants as event
-use Rattle.chain_run.specs.Steps.{FitsFail, IsStep, IsWrittenAlone, terms_of}
+use Rattle.chain_run.specs.Steps.{FitsFail, IsStep, FitsInt64Alone, terms_of}
 use Rattle.chain_run.proofs.Coding.{is_coded}
 
 module _ (s : Scope) (g : Grid) (has : HasScopeSize s g) (fits : s.size < 2 ^ 64) (step : Step) where
-  coded : (c : Call) → FitsFail (call_of step.call) → IsWrittenAlone (terms_of step.call.args) → c ≡ computed_on s g step.call
+  coded : (c : Call) → FitsFail (call_of step.call) → FitsInt64Alone (terms_of step.call.args) → c ≡ computed_on s g step.call
       → doing c ≡ failing → IsCoded (map (value (scope_seen s) g) (plain_call (call_of step.call)).args)
   coded c fail written is e =
       is_coded (scope_seen s) g (subst (λ n. n < 2 ^ 64) (sym has.size) fits) (call_of step.call) fail written (subst (λ d. doing d ≡ failing) is e)
@@ -30,7 +29,7 @@ module _ (s : Scope) (g : Grid) (has : HasScopeSize s g) (fits : s.size < 2 ^ 64
   own_is r is = ap (λ x. fixed_recovery (scope_seen s) g (option_map plain_call (option_map call_of x))) is
 
   -- one without a recovery
-  pub step_alone : (c : Call) → step.recovery ≡ None → FitsFail (call_of step.call) → IsWrittenAlone (terms_of step.call.args) → c ≡ computed_on s g step.call
+  pub step_alone : (c : Call) → step.recovery ≡ None → FitsFail (call_of step.call) → FitsInt64Alone (terms_of step.call.args) → c ≡ computed_on s g step.call
       → is_short c ≡ true → IsStep (scope_seen s) g (plain_step (step_of step)) (event.Computed c None)
   unfolding own
   step_alone c none fail written is short = record {
@@ -41,7 +40,7 @@ module _ (s : Scope) (g : Grid) (has : HasScopeSize s g) (fits : s.size < 2 ^ 64
   }
 
   -- one with a recovery
-  pub step_with : (c r : Call) (recovery : Call0) → step.recovery ≡ Some recovery → FitsFail (call_of step.call) → IsWrittenAlone (terms_of step.call.args)
+  pub step_with : (c r : Call) (recovery : Call0) → step.recovery ≡ Some recovery → FitsFail (call_of step.call) → FitsInt64Alone (terms_of step.call.args)
       → c ≡ computed_on s g step.call → is_short c ≡ true → r ≡ computed_on s g recovery → is_short r ≡ true
       → IsStep (scope_seen s) g (plain_step (step_of step)) (event.Computed c (Some r))
   unfolding own

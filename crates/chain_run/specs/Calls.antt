@@ -19,26 +19,29 @@ stop_of (Ok x) = None
 stop_of (Err s) = Some s
 
 -- it answered no stop
-abbrev pub IsAnswered : {Stop : Type 0} → Made Stop → Type 0
-IsAnswered x = x.stop ≡ None
+abbrev pub IsUnstopped : {Stop : Type 0} → Made Stop → Type 0
+IsUnstopped x = x.stop ≡ None
 
 -- none of the calls answered a stop, or the last one alone did, and this one
-abbrev pub StopsAt : {Stop : Type 0} → Option Stop → List (Made Stop) → Type 0
-StopsAt None xs = All IsAnswered xs
-StopsAt {Stop} (Some s) xs = (before : List (Made Stop)) × (last : Made Stop) × (xs ≡ before ++ last ∷ []) × All IsAnswered before × (last.stop ≡ Some s)
+abbrev pub OnlyLastStops : {Stop : Type 0} → Option Stop → List (Made Stop) → Type 0
+OnlyLastStops None xs = All IsUnstopped xs
+OnlyLastStops {Stop} (Some s) xs =
+    (before : List (Made Stop)) × (last : Made Stop) × (xs ≡ before ++ last ∷ []) × All IsUnstopped before × (last.stop ≡ Some s)
 
 -- Calls were made, each of which was due: after whatever calls before them the doer went with these too. None but the last one
 -- was stopped, and it by this.
-pub record Makes {S Stop : Type 0} (went : S → List (Made Stop) → S → Type 0) (Due : Made Stop → Type 0) (stop : Option Stop) (old new : S) : Type 0 where
+pub record MakesCalls {S Stop : Type 0} (went : S → List (Made Stop) → S → Type 0) (Due : Made Stop → Type 0) (stop : Option Stop) (old new : S)
+    : Type 0 where
   pub calls : List (Made Stop)
   pub went_so : went old calls new
   pub due : All Due calls
-  pub stops : StopsAt stop calls
+  pub stops : OnlyLastStops stop calls
   pub after : (from : S) (before : List (Made Stop)) → went from before old → went from (before ++ calls) new
 
 -- the same, by why a run was given up, if it was: for want of memory, for a call that was stopped, or for a size that was not told
-abbrev pub MakesUntil : {S Stop : Type 0} → (S → List (Made Stop) → S → Type 0) → (Made Stop → Type 0) → (S → Stop → Type 0)
+abbrev pub MakesCallsUntil : {S Stop : Type 0} → (S → List (Made Stop) → S → Type 0) → (Made Stop → Type 0) → (S → Stop → Type 0)
     → Option (RunStop Stop) → S → S → Type 0
-MakesUntil went Due no_size None old new = Makes went Due None old new
-MakesUntil went Due no_size (Some run.Memory) old new = Makes went Due None old new
-MakesUntil went Due no_size (Some (run.Stopped s)) old new = Makes went Due (Some s) old new ⊎ (Makes went Due None old new × no_size new s)
+MakesCallsUntil went Due no_size None old new = MakesCalls went Due None old new
+MakesCallsUntil went Due no_size (Some run.Memory) old new = MakesCalls went Due None old new
+MakesCallsUntil went Due no_size (Some (run.Stopped s)) old new =
+    MakesCalls went Due (Some s) old new ⊎ (MakesCalls went Due None old new × no_size new s)

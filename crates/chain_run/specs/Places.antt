@@ -24,8 +24,8 @@ abbrev pub course_at : Place → List Mark → ℕ → Bool → Course
 course_at p marks begun stopped = record { grid = p.grid; marks = marks; taken = p.taken; begun = begun; passed = p.passed; stopped = stopped }
 
 -- the same before any step
-abbrev pub stands : Place → List Mark → Course
-stands p marks = course_at p marks 0 false
+abbrev pub course_from : Place → List Mark → Course
+course_from p marks = course_at p marks 0 false
 
 -- From the one place to the other some marks were taken: every command with these marks next, and any others behind them, was
 -- brought on so.
@@ -37,12 +37,12 @@ pub record Brings (Did : Course → Course → Type 0) (from to : Place) : Type 
       → (left : Bool) × Did (course_at from (marks ++ later) begun stopped) (course_at to later begun left)
 
 -- the user's call of a micro-service did that, and ran or failed so
-abbrev pub Ran : Text → Call → Result Unit Failure → Course → Course → Type 0
-Ran user c r s t = do_call user c s ≡ gives (record { state = t; failure = failure_in r })
+abbrev pub RunsCall : Text → Call → Result Unit Failure → Course → Course → Type 0
+RunsCall user c r s t = do_call user c s ≡ gives (record { state = t; failure = failure_in r })
 
 -- the call, which ran or failed so
 abbrev pub Performs : Call → Result Unit Failure → Place → Place → Type 0
-Performs c r from to = Brings (Ran from.user c r) from to
+Performs c r from to = Brings (RunsCall from.user c r) from to
 
 -- the recovery, which was run or failed so: one that failed is passed over, and none is stopped
 pub record Recovers (c : Call) (y : Option Failure) (from to : Place) : Type 0 where

@@ -29,14 +29,14 @@ pub record FitsFail (c : CallAt) : Type 0 where
   pub fits : same_text c.name (codes "fail") ≡ true → IsNumberOrNone c.args
 
 -- what is written as a number is one of 64 bits with sign
-abbrev pub IsWritten : Shape → Type 0
-IsWritten (number z) = IsInt64 z
-IsWritten other = Unit {0}
+abbrev pub FitsInt64 : Shape → Type 0
+FitsInt64 (number z) = IsInt64 z
+FitsInt64 other = Unit {0}
 
 -- the same of an argument that stands alone
-abbrev pub IsWrittenAlone : List Term → Type 0
-IsWrittenAlone (e ∷ []) = IsWritten e.shape
-IsWrittenAlone other = Unit {0}
+abbrev pub FitsInt64Alone : List Term → Type 0
+FitsInt64Alone (e ∷ []) = FitsInt64 e.shape
+FitsInt64Alone other = Unit {0}
 
 -- the arguments as they stand in the text
 abbrev pub terms_of : List Expr → List Term

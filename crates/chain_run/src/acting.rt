@@ -3,8 +3,8 @@ ghost use Rattle.chain_core.specs.Answers.{Tells, asked};
 ghost use Rattle.chain_core.specs.Rest.{listed_recoveries, rule_at};
 ghost use Rattle.chain_core.specs.Seen.{rules_of};
 ghost use Rattle.chain_core.specs.declared.actions.Action.TheVariants as action;
-ghost use Rattle.chain_run.specs.Calls.{MakesUntil, stop_of};
-ghost use Rattle.chain_run.specs.Runs.{Acts, IsAsked};
+ghost use Rattle.chain_run.specs.Calls.{MakesCallsUntil, stop_of};
+ghost use Rattle.chain_run.specs.Runs.{DoesAction, IsCallAskedFor};
 ghost use Rattle.chain_run.specs.declared.stop.RunStop.TheVariants.{Stopped};
 ghost use Rattle.grid_model.specs.Checks.{first_fault, rules_faults};
 ghost use Rattle.grid_model.specs.Parsed.{rule_of};
@@ -53,8 +53,8 @@ fn test_rule<O: Doer>(
 ) -> Result<Acted, RunStop<O::Stop>>
     requires asked { asked frames.now ≡ action.Test rule }
     requires there { rule < length (rules_of rules.now) }
-    ensures acts { IfOk result (λ acted. Acts (rules_of rules.now) (env_of env.now) frames.now acted (O.place doer.now) (O.place doer.now)) }
-    ensures makes { MakesUntil O.went (IsAsked frames.now (O.place doer.now)) O.no_size (stop_of result) doer.now doer.now }
+    ensures acts { IfOk result (λ acted. DoesAction (rules_of rules.now) (env_of env.now) frames.now acted (O.place doer.now) (O.place doer.now)) }
+    ensures makes { MakesCallsUntil O.went (IsCallAskedFor frames.now (O.place doer.now)) O.no_size (stop_of result) doer.now doer.now }
 {
     match size_now(env, doer) {
         Err(stop) => Err(RunStop::Stopped(stop)),
@@ -77,8 +77,8 @@ fn compute_args<O: Doer>(
     requires asked { asked frames.now ≡ action.Eval place.0 place.1 }
     requires there { place.1 < length (rule_at (rules_of rules.now) place.0).steps }
     requires checked { first_fault (rules_faults (map rule_of rules.now.rules)) ≡ None }
-    ensures acts { IfOk result (λ acted. Acts (rules_of rules.now) (env_of env.now) frames.now acted (O.place doer.now) (O.place doer.now)) }
-    ensures makes { MakesUntil O.went (IsAsked frames.now (O.place doer.now)) O.no_size (stop_of result) doer.now doer.now }
+    ensures acts { IfOk result (λ acted. DoesAction (rules_of rules.now) (env_of env.now) frames.now acted (O.place doer.now) (O.place doer.now)) }
+    ensures makes { MakesCallsUntil O.went (IsCallAskedFor frames.now (O.place doer.now)) O.no_size (stop_of result) doer.now doer.now }
 {
     match size_now(env, doer) {
         Err(stop) => Err(RunStop::Stopped(stop)),
@@ -93,8 +93,8 @@ fn compute_args<O: Doer>(
 fn run_call<O: Doer>(frames: &Frames, call: &Call, doer: &mut O) -> Result<Acted, RunStop<O::Stop>>
     requires { asked frames.now ≡ action.Run call.now }
     ensures acts { IfOk result (λ acted. (rules : List Rule) (env : values.Env) → env.user ≡ (O.place doer.old).user →
-        Acts rules env frames.now acted (O.place doer.old) (O.place doer.new)) }
-    ensures makes { MakesUntil O.went (IsAsked frames.now (O.place doer.old)) O.no_size (stop_of result) doer.old doer.new }
+        DoesAction rules env frames.now acted (O.place doer.old) (O.place doer.new)) }
+    ensures makes { MakesCallsUntil O.went (IsCallAskedFor frames.now (O.place doer.old)) O.no_size (stop_of result) doer.old doer.new }
 {
     let listed = frames.undo();
     match doer.perform(call, listed) {
@@ -117,8 +117,8 @@ fn run_recovery<O: Doer>(frames: &Frames, doer: &mut O) -> Result<Acted, RunStop
     requires asked { asked frames.now ≡ action.Undo }
     requires listed { 0 < length (listed_recoveries frames.now) }
     ensures acts { IfOk result (λ acted. (rules : List Rule) (env : values.Env) → env.user ≡ (O.place doer.old).user →
-        Acts rules env frames.now acted (O.place doer.old) (O.place doer.new)) }
-    ensures makes { MakesUntil O.went (IsAsked frames.now (O.place doer.old)) O.no_size (stop_of result) doer.old doer.new }
+        DoesAction rules env frames.now acted (O.place doer.old) (O.place doer.new)) }
+    ensures makes { MakesCallsUntil O.went (IsCallAskedFor frames.now (O.place doer.old)) O.no_size (stop_of result) doer.old doer.new }
 {
     let call = last_recovery(frames);
     let listed = frames.undo();
@@ -129,7 +129,7 @@ fn run_recovery<O: Doer>(frames: &Frames, doer: &mut O) -> Result<Acted, RunStop
 }
 
 /// Does what the machine asks for.
-pub fn act<O: Doer>(
+pub(crate) fn act<O: Doer>(
     alloc: Global,
     frames: &Frames,
     rules: &RuleBase,
@@ -141,8 +141,8 @@ pub fn act<O: Doer>(
     requires checked { first_fault (rules_faults (map rule_of rules.now.rules)) ≡ None }
     requires asked { action.now ≡ asked frames.now }
     requires tells { Tells (rules_of rules.now) frames.now action.now }
-    ensures acts { IfOk result (λ acted. Acts (rules_of rules.now) (env_of env.now) frames.now acted (O.place doer.old) (O.place doer.new)) }
-    ensures makes { MakesUntil O.went (IsAsked frames.now (O.place doer.old)) O.no_size (stop_of result) doer.old doer.new }
+    ensures acts { IfOk result (λ acted. DoesAction (rules_of rules.now) (env_of env.now) frames.now acted (O.place doer.old) (O.place doer.new)) }
+    ensures makes { MakesCallsUntil O.went (IsCallAskedFor frames.now (O.place doer.old)) O.no_size (stop_of result) doer.old doer.new }
 {
     match action {
         Action::End(outcome) => Ok(Acted::Ended(*outcome)),

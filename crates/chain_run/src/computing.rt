@@ -2,7 +2,7 @@
 ghost use Rattle.chain_core.specs.Answers.{scope_in, step_at};
 ghost use Rattle.chain_core.specs.Rest.{rule_at};
 ghost use Rattle.chain_core.specs.Seen.{rules_of};
-ghost use Rattle.chain_run.specs.Steps.{FitsFail, IsStep, IsWritten, IsWrittenAlone, terms_of};
+ghost use Rattle.chain_run.specs.Steps.{FitsFail, FitsInt64, FitsInt64Alone, IsStep, terms_of};
 ghost use Rattle.grid_model.specs.Checks.{first_fault, rules_faults};
 ghost use Rattle.grid_model.specs.Grid.{Grid};
 ghost use Rattle.grid_model.specs.Parsed.{call_of, plain_rule, plain_step, rule_of, shape_of, step_of};
@@ -37,7 +37,7 @@ fn step_at(rules: &RuleBase, rule: usize, step: usize) -> &Step
 
 /// Looks at the expression: what is written as a number has 64 bits.
 fn look_at(expr: &Expr)
-    ensures { IsWritten (shape_of expr.now.form) }
+    ensures { FitsInt64 (shape_of expr.now.form) }
 {
     if let Form::Number(number) = &expr.form {
         let _number = *number;
@@ -46,7 +46,7 @@ fn look_at(expr: &Expr)
 
 /// Looks at an argument that stands alone.
 fn look_at_alone(call: &Call0)
-    ensures { IsWrittenAlone (terms_of call.now.args) }
+    ensures { FitsInt64Alone (terms_of call.now.args) }
 {
     match call.args.as_slice() {
         [arg] => look_at(arg),
@@ -90,7 +90,7 @@ fn compute_in(alloc: Global, step: &Step, scope: &Scope) -> Result<Event, AllocE
 }
 
 /// Whether the condition of the rule holds, where `$dataSize` is this. Fails for want of memory alone.
-pub fn test<'a>(
+pub(crate) fn test<'a>(
     alloc: Global,
     frames: &'a Frames,
     rules: &'a RuleBase,
@@ -113,7 +113,7 @@ pub fn test<'a>(
 }
 
 /// The step of the rule with its arguments, where `$dataSize` is this. Fails for want of memory alone.
-pub fn compute_step<'a>(
+pub(crate) fn compute_step<'a>(
     alloc: Global,
     frames: &'a Frames,
     rules: &'a RuleBase,

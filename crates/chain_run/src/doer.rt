@@ -1,5 +1,5 @@
 ghost use Rattle.chain_run.specs.Calls.{Made, stop_of};
-ghost use Rattle.chain_run.specs.Places.{Place, Performs, Recovers};
+ghost use Rattle.chain_run.specs.Places.{Performs, Place, Recovers};
 ghost use Rattle.grid_model.specs.Values.{recorded_size};
 ghost use Rattle.std.specs.Prelude.{◌≡◌, ◌++◌, ◌∷◌, [], List, IfErr, IfOk};
 

@@ -2,8 +2,8 @@
 ghost use Rattle.chain_core.specs.Answers.{IsUsable, Tells, asked};
 ghost use Rattle.chain_core.specs.Running.{HasValues};
 ghost use Rattle.chain_core.specs.Seen.{rules_of};
-ghost use Rattle.chain_run.specs.Calls.{MakesUntil, stop_of};
-ghost use Rattle.chain_run.specs.Runs.{Ends, IsDue, by_itself, rest_from, whole_from};
+ghost use Rattle.chain_run.specs.Calls.{MakesCallsUntil, stop_of};
+ghost use Rattle.chain_run.specs.Runs.{IsDue, ReachesEnd, by_itself, rest_from, whole_from};
 ghost use Rattle.grid_model.specs.Chains.{call_rule};
 ghost use Rattle.grid_model.specs.Checks.{first_fault, rules_faults};
 ghost use Rattle.grid_model.specs.Parsed.{rule_of};
@@ -34,9 +34,9 @@ fn go_on<O: Doer>(
     requires asked { action ≡ asked frames.old }
     requires tells { Tells (rules_of rules.now) frames.old action }
     ensures ends { IfOk result (λ outcome.
-        Ends (rest_from (rules_of rules.now) (env_of env.now) frames.old (O.place doer.old)) (O.place doer.old) outcome frames.new (O.place doer.new)) }
+        ReachesEnd (rest_from (rules_of rules.now) (env_of env.now) frames.old (O.place doer.old)) (O.place doer.old) outcome frames.new (O.place doer.new)) }
     ensures makes { let whole = rest_from (rules_of rules.now) (env_of env.now) frames.old (O.place doer.old) in
-        MakesUntil O.went (IsDue (rules_of rules.now) (env_of env.now) whole (O.place doer.old)) O.no_size (stop_of result) doer.old doer.new }
+        MakesCallsUntil O.went (IsDue (rules_of rules.now) (env_of env.now) whole (O.place doer.old)) O.no_size (stop_of result) doer.old doer.new }
 {
     let mut action = action;
     'actions: loop {
@@ -68,10 +68,10 @@ pub fn run_point<O: Doer>(
     requires user { (O.place doer.old).user ≡ env.now.user }
     requires checked { first_fault (rules_faults (map rule_of rules.now.rules)) ≡ None }
     ensures ends { let point = call_rule (rules_of rules.now) (env_of env.now) name [] in
-        IfOk result (λ outcome. Ends (whole_from point frames.old (O.place doer.old)) (O.place doer.old) outcome frames.new (O.place doer.new)) }
+        IfOk result (λ outcome. ReachesEnd (whole_from point frames.old (O.place doer.old)) (O.place doer.old) outcome frames.new (O.place doer.new)) }
     ensures makes { let point = call_rule (rules_of rules.now) (env_of env.now) name [] in
         let whole = whole_from point frames.old (O.place doer.old) in
-        MakesUntil O.went (IsDue (rules_of rules.now) (env_of env.now) whole (O.place doer.old)) O.no_size (stop_of result) doer.old doer.new }
+        MakesCallsUntil O.went (IsDue (rules_of rules.now) (env_of env.now) whole (O.place doer.old)) O.no_size (stop_of result) doer.old doer.new }
 {
     match frames.start(alloc, rules, Start::Point(name)) {
         Err(_) => Err(RunStop::Memory),
@@ -96,11 +96,11 @@ pub fn run_rule<O: Doer>(
     requires checked { first_fault (rules_faults (map rule_of rules.now.rules)) ≡ None }
     ensures ends { IfOk result (λ outcome. (vs : List Value) → HasValues call vs →
         let alone = by_itself (rules_of rules.now) (env_of env.now) call vs in
-        Ends (whole_from alone frames.old (O.place doer.old)) (O.place doer.old) outcome frames.new (O.place doer.new)) }
+        ReachesEnd (whole_from alone frames.old (O.place doer.old)) (O.place doer.old) outcome frames.new (O.place doer.new)) }
     ensures makes { (vs : List Value) → HasValues call vs →
         let alone = by_itself (rules_of rules.now) (env_of env.now) call vs in
         let whole = whole_from alone frames.old (O.place doer.old) in
-        MakesUntil O.went (IsDue (rules_of rules.now) (env_of env.now) whole (O.place doer.old)) O.no_size (stop_of result) doer.old doer.new }
+        MakesCallsUntil O.went (IsDue (rules_of rules.now) (env_of env.now) whole (O.place doer.old)) O.no_size (stop_of result) doer.old doer.new }
 {
     match frames.start(alloc, rules, Start::Exec(call)) {
         Err(_) => Err(RunStop::Memory),

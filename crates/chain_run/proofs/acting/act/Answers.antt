@@ -5,7 +5,7 @@ use Rattle.grid_model.specs.RuleText.{Rule}
 use Rattle.grid_model.specs.Values.{Env}
 use Rattle.rule_cond.specs.Scopes.{env_of}
 use Rattle.std.specs.Prelude.{List}
-use Rattle.chain_run.specs.Runs.{Acts}
+use Rattle.chain_run.specs.Runs.{DoesAction}
 use Rattle.chain_run.specs.declared.acting.Acted.{Acted}
 use Rattle.chain_run.proofs.Making.{none_made}
 use Rattle.chain_run.proofs.Turning.{IfOk-weaker}
@@ -59,8 +59,8 @@ pub returns-in-Run-clause-acts : goal.returns-in-Run-clause-acts
 returns-in-Run-clause-acts g c =
     let at = g.O.Doer.place c.args.doer.now in
     let left = g.O.Doer.place c.run_call.new.doer in
-    IfOk-weaker (λ (a : Acted). (rules : List Rule) (env : Env) → env.user ≡ at.user → Acts rules env c.args.frames.now a at left)
-    (λ (a : Acted). Acts (rules_of c.args.rules.now) (env_of c.args.env.now) c.args.frames.now a at left) c.run_call.result
+    IfOk-weaker (λ (a : Acted). (rules : List Rule) (env : Env) → env.user ≡ at.user → DoesAction rules env c.args.frames.now a at left)
+    (λ (a : Acted). DoesAction (rules_of c.args.rules.now) (env_of c.args.env.now) c.args.frames.now a at left) c.run_call.result
     (λ a acts. acts (rules_of c.args.rules.now) (env_of c.args.env.now) (sym c.requires.user)) c.run_call.ensures.acts
 
 pub returns-in-Run-clause-makes : goal.returns-in-Run-clause-makes
@@ -70,8 +70,8 @@ pub returns-in-Undo-clause-acts : goal.returns-in-Undo-clause-acts
 returns-in-Undo-clause-acts g c =
     let at = g.O.Doer.place c.args.doer.now in
     let left = g.O.Doer.place c.run_recovery.new.doer in
-    IfOk-weaker (λ (a : Acted). (rules : List Rule) (env : Env) → env.user ≡ at.user → Acts rules env c.args.frames.now a at left)
-    (λ (a : Acted). Acts (rules_of c.args.rules.now) (env_of c.args.env.now) c.args.frames.now a at left) c.run_recovery.result
+    IfOk-weaker (λ (a : Acted). (rules : List Rule) (env : Env) → env.user ≡ at.user → DoesAction rules env c.args.frames.now a at left)
+    (λ (a : Acted). DoesAction (rules_of c.args.rules.now) (env_of c.args.env.now) c.args.frames.now a at left) c.run_recovery.result
     (λ a acts. acts (rules_of c.args.rules.now) (env_of c.args.env.now) (sym c.requires.user)) c.run_recovery.ensures.acts
 
 pub returns-in-Undo-clause-makes : goal.returns-in-Undo-clause-makes

@@ -1,4 +1,4 @@
-use Rattle.std.proofs.Common.{◌≡◌, ◌<◌, ◌-◌, suc, length, List, sym, ◌∙◌, subst, arith}
+use Rattle.std.proofs.Common.{◌<◌, ◌-◌, length, List, sym, ◌∙◌, subst, arith}
 use Rattle.grid_model.specs.declared.calls.Call.{Call}
 use Rattle.chain_run.proofs.Turning.{by_last}
 use Rattle.chain_run.proofs.acting.last_recovery.Goals as goal

@@ -1,8 +1,8 @@
-use Rattle.std.proofs.Common.{◌≡◌, ◌∙◌, Some, None, subst}
+use Rattle.std.proofs.Common.{◌∙◌, Some, None, subst}
 use Rattle.chain_core.specs.Answers.{Tells}
 use Rattle.chain_core.specs.Seen.{rules_of}
 use Rattle.rule_cond.specs.Scopes.{env_of}
-use Rattle.chain_run.specs.Runs.{Acts, rest_from}
+use Rattle.chain_run.specs.Runs.{DoesAction, rest_from}
 use Rattle.chain_run.specs.declared.acting.Acted.{Acted}
 use Rattle.chain_run.proofs.Making.{none_made}
 use Rattle.chain_run.proofs.Reaching.{at_entry, one_on}
@@ -48,7 +48,7 @@ returns-in-Ok-Ended-clause-ends g c =
     let inv = c.actions.invariant in
     let rules = rules_of c.args.rules.now in
     let entry = g.O.Doer.place c.args.doer.now in
-    let acts = subst (λ (a : Acted). Acts rules (env_of c.args.env.now) c.actions.frames a (g.O.Doer.place c.actions.doer) (g.O.Doer.place c.act.new.doer))
+    let acts = subst (λ (a : Acted). DoesAction rules (env_of c.args.env.now) c.actions.frames a (g.O.Doer.place c.actions.doer) (g.O.Doer.place c.act.new.doer))
     c.in-Ok-Ended.field-0-is c.in-Ok-Ended.ensures.acts in
     acted_end rules (env_of c.args.env.now) (rest_from rules (env_of c.args.env.now) c.args.frames.now entry) entry c.actions.frames (g.O.Doer.place c.actions.doer)
     (g.O.Doer.place c.act.new.doer) c.in-Ok-Ended.outcome inv.reached (subst (Tells rules c.actions.frames) inv.asked inv.tells) acts
@@ -74,7 +74,7 @@ returns-in-Err-next-clause-makes g c =
 pub actions-smaller : goal.actions-smaller
 actions-smaller g c =
     let rules = rules_of c.args.rules.now in
-    let acts = subst (λ (a : Acted). Acts rules (env_of c.args.env.now) c.actions.frames a (g.O.Doer.place c.actions.doer) (g.O.Doer.place c.act.new.doer))
+    let acts = subst (λ (a : Acted). DoesAction rules (env_of c.args.env.now) c.actions.frames a (g.O.Doer.place c.actions.doer) (g.O.Doer.place c.act.new.doer))
     c.in-Ok-Came.field-0-is c.in-Ok-Came.ensures.acts in
     c.in-Ok.ensures.ends acts.met
 
@@ -85,7 +85,7 @@ actions-preserved g c =
     let env = env_of c.args.env.now in
     let entry = g.O.Doer.place c.args.doer.now in
     let whole = rest_from rules env c.args.frames.now entry in
-    let acts = subst (λ (a : Acted). Acts rules env c.actions.frames a (g.O.Doer.place c.actions.doer) (g.O.Doer.place c.act.new.doer))
+    let acts = subst (λ (a : Acted). DoesAction rules env c.actions.frames a (g.O.Doer.place c.actions.doer) (g.O.Doer.place c.act.new.doer))
     c.in-Ok-Came.field-0-is c.in-Ok-Came.ensures.acts in
     record {
       user = acts.user ∙ inv.user;

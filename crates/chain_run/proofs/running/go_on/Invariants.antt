@@ -3,7 +3,7 @@ use Rattle.rule_cond.specs.Scopes.{env_of}
 use Rattle.chain_core.specs.Seen.{rules_of}
 use Rattle.chain_core.specs.Answers.{asked, IsUsable, Tells}
 use Rattle.chain_core.specs.Ending.{events_left}
-use Rattle.chain_run.specs.Calls.{Makes}
+use Rattle.chain_run.specs.Calls.{MakesCalls}
 use Rattle.chain_run.specs.Runs.{Reaches, IsDue, rest_from}
 use Rattle.chain_run.proofs.running.go_on.Given as goal
 
@@ -15,7 +15,7 @@ invariant-actions g l = record {
   tells : Tells (rules_of l.rules) l.frames l.action;
   reached : Reaches (rules_of l.rules) (env_of l.env) (rest_from (rules_of l.rules) (env_of l.env) l.fn.frames (g.O.Doer.place l.fn.doer)) (g.O.Doer.place l.fn.doer)
       l.frames (g.O.Doer.place l.doer);
-  made : Makes g.O.Doer.went
+  made : MakesCalls g.O.Doer.went
       (IsDue (rules_of l.rules) (env_of l.env) (rest_from (rules_of l.rules) (env_of l.env) l.fn.frames (g.O.Doer.place l.fn.doer)) (g.O.Doer.place l.fn.doer))
       None l.fn.doer l.doer;
 }

@@ -3,8 +3,8 @@ use Rattle.grid_model.specs.Chains.{call_rule}
 use Rattle.chain_core.specs.Seen.{rules_of}
 use Rattle.rule_cond.specs.Scopes.{env_of}
 use Rattle.chain_run.specs.Calls.{stop_of}
-use Rattle.chain_run.specs.Places.{stands}
-use Rattle.chain_run.specs.Runs.{Ends, IsDue, rest_from, whole_from}
+use Rattle.chain_run.specs.Places.{course_from}
+use Rattle.chain_run.specs.Runs.{ReachesEnd, IsDue, rest_from, whole_from}
 use Rattle.chain_run.proofs.Making.{none_made, until_as}
 use Rattle.chain_run.proofs.Reaching.{due_as, ends_as}
 use Rattle.chain_run.proofs.Turning.{IfOk-weaker}
@@ -36,8 +36,8 @@ returns-in-Ok-clause-ends g c =
     let left = g.O.Doer.place c.go_on.new.doer in
     let v = rest_from rules env c.start.new.self entry in
     let w = whole_from (call_rule rules env c.args.name []) c.args.frames.now entry in
-    IfOk-weaker (λ o. Ends v entry o c.go_on.new.frames left) (λ o. Ends w entry o c.go_on.new.frames left) c.go_on.result
-    (λ o e. ends_as v w entry o c.go_on.new.frames left (λ marks. c.in-Ok.ensures.begins env (stands entry marks)) e) c.go_on.ensures.ends
+    IfOk-weaker (λ o. ReachesEnd v entry o c.go_on.new.frames left) (λ o. ReachesEnd w entry o c.go_on.new.frames left) c.go_on.result
+    (λ o e. ends_as v w entry o c.go_on.new.frames left (λ marks. c.in-Ok.ensures.begins env (course_from entry marks)) e) c.go_on.ensures.ends
 
 pub returns-in-Ok-clause-makes : goal.returns-in-Ok-clause-makes
 returns-in-Ok-clause-makes g c =
@@ -47,4 +47,4 @@ returns-in-Ok-clause-makes g c =
     let v = rest_from rules env c.start.new.self entry in
     let w = whole_from (call_rule rules env c.args.name []) c.args.frames.now entry in
     until_as g.O.Doer.went (IsDue rules env v entry) (IsDue rules env w entry) g.O.Doer.no_size (stop_of c.go_on.result) c.args.doer.now c.go_on.new.doer
-    (λ x due. due_as rules env v w entry (λ marks. c.in-Ok.ensures.begins env (stands entry marks)) x due) c.go_on.ensures.makes
+    (λ x due. due_as rules env v w entry (λ marks. c.in-Ok.ensures.begins env (course_from entry marks)) x due) c.go_on.ensures.makes

@@ -4,8 +4,8 @@ use Rattle.grid_model.specs.Values.{Value}
 use Rattle.rule_cond.specs.Scopes.{env_of}
 use Rattle.std.proofs.Common.{List}
 use Rattle.chain_run.specs.Calls.{stop_of}
-use Rattle.chain_run.specs.Places.{stands}
-use Rattle.chain_run.specs.Runs.{Ends, IsDue, by_itself, rest_from, whole_from}
+use Rattle.chain_run.specs.Places.{course_from}
+use Rattle.chain_run.specs.Runs.{ReachesEnd, IsDue, by_itself, rest_from, whole_from}
 use Rattle.chain_run.proofs.Making.{none_made, until_as}
 use Rattle.chain_run.proofs.Reaching.{due_as, ends_as}
 use Rattle.chain_run.proofs.Turning.{IfOk-weaker}
@@ -36,12 +36,12 @@ returns-in-Ok-clause-ends g c =
     let entry = g.O.Doer.place c.args.doer.now in
     let left = g.O.Doer.place c.go_on.new.doer in
     let v = rest_from rules env c.start.new.self entry in
-    IfOk-weaker (λ o. Ends v entry o c.go_on.new.frames left)
-    (λ o. (vs : List Value) → HasValues c.args.call vs → Ends (whole_from (by_itself rules env c.args.call vs) c.args.frames.now entry) entry o c.go_on.new.frames left)
+    IfOk-weaker (λ o. ReachesEnd v entry o c.go_on.new.frames left)
+    (λ o. (vs : List Value) → HasValues c.args.call vs → ReachesEnd (whole_from (by_itself rules env c.args.call vs) c.args.frames.now entry) entry o c.go_on.new.frames left)
     c.go_on.result
     (λ o e vs has.
     ends_as v (whole_from (by_itself rules env c.args.call vs) c.args.frames.now entry) entry o c.go_on.new.frames left
-    (λ marks. c.in-Ok.ensures.begins env vs (stands entry marks) has) e)
+    (λ marks. c.in-Ok.ensures.begins env vs (course_from entry marks) has) e)
     c.go_on.ensures.ends
 
 pub returns-in-Ok-clause-makes : goal.returns-in-Ok-clause-makes
@@ -52,4 +52,4 @@ returns-in-Ok-clause-makes g c = λ vs has.
     let v = rest_from rules env c.start.new.self entry in
     let w = whole_from (by_itself rules env c.args.call vs) c.args.frames.now entry in
     until_as g.O.Doer.went (IsDue rules env v entry) (IsDue rules env w entry) g.O.Doer.no_size (stop_of c.go_on.result) c.args.doer.now c.go_on.new.doer
-    (λ x due. due_as rules env v w entry (λ marks. c.in-Ok.ensures.begins env vs (stands entry marks) has) x due) c.go_on.ensures.makes
+    (λ x due. due_as rules env v w entry (λ marks. c.in-Ok.ensures.begins env vs (course_from entry marks) has) x due) c.go_on.ensures.makes
