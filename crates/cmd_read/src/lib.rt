@@ -8,8 +8,6 @@ mod laws;
 mod number;
 mod reading;
 mod rows;
-#[cfg(test)]
-mod tests;
 mod verbs;
 mod ways;
 mod words;

@@ -18,6 +18,3 @@ pub use framing::framed;
 pub use log::FrameLog;
 pub use records::{Record, Records};
 pub use synced::write_synced;
-
-#[cfg(test)]
-mod tests;

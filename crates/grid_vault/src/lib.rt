@@ -8,8 +8,6 @@ mod reading;
 mod removal;
 mod sending;
 mod sent;
-#[cfg(test)]
-mod tests;
 mod verifying;
 mod write;
 

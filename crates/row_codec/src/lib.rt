@@ -17,8 +17,6 @@ mod room;
 mod rows;
 mod stop;
 mod tags;
-#[cfg(test)]
-mod tests;
 
 pub use decoding::decode;
 pub use encoding::encode;

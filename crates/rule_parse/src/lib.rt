@@ -22,6 +22,3 @@ pub use error::RuleError;
 pub use laws::{one_reading, one_refusal, printed_apart};
 pub use printer::print_rules;
 pub use texts::{read_call, read_rules};
-
-#[cfg(test)]
-mod tests;

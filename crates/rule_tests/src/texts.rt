@@ -1,5 +1,5 @@
-use super::*;
 use grid_model::RuleCause;
+use rule_parse::{RuleError, print_rules, read_call, read_rules};
 use std::alloc::Global;
 use std::process::Abort;
 use std::test::Fail;

@@ -1,4 +1,4 @@
-use crate::{ReadError, body_count, read_request};
+use cmd_read::{ReadError, body_count, read_request};
 use grid_model::{Text, Texts};
 use std::alloc::{AllocError, Global};
 use std::test::Fail;

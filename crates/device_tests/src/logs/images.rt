@@ -1,7 +1,7 @@
 //! What stops may leave of an append, made from the disk's own record of its calls by the rules of disks.
 
 use super::{ONE, count_records};
-use crate::FrameLog;
+use frame_log::FrameLog;
 use grid_mem::{Call, DiskDeed, MemDisk};
 use grid_outside::Moments;
 use std::alloc::{AllocError, Global};

@@ -3,10 +3,10 @@ ghost use Rattle.grid_outside.specs.Device.{EachMember};
 ghost use Rattle.grid_mem.specs.MemSink.{sink_of};
 ghost use Rattle.grid_mem.specs.MemStore.{store_of};
 
-use crate::{Fault, NewFile, OldFile, SendError, Sent, remove, send, write_all};
 use grid_mem::{Lies, MemFile, MemFiles, MemSink, MemStore};
 use grid_model::{Digest, NewFiles};
 use grid_outside::{Moments, Plugin, add_store};
+use grid_vault::{Fault, NewFile, OldFile, SendError, Sent, remove, send, write_all};
 use std::alloc::{AllocError, Global};
 use std::test::Fail;
 

@@ -1,6 +1,6 @@
 mod images;
 
-use crate::{FrameLog, LogError, Record};
+use frame_log::{FrameLog, LogError, Record};
 use grid_mem::MemDisk;
 use grid_outside::Moments;
 use std::alloc::Global;

@@ -1,5 +1,5 @@
-use crate::{CodecError, decode, encode};
 use grid_model::Digest;
+use row_codec::{CodecError, decode, encode};
 use std::alloc::Global;
 use std::process::Abort;
 use std::test::Fail;
