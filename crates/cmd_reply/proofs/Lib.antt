@@ -1,2 +1,3 @@
 pub mod DataParts
+pub mod Reports
 pub mod Spacing

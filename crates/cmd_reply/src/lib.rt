@@ -6,9 +6,11 @@ mod ends;
 mod marks;
 mod parts;
 mod refusals;
+mod report;
 #[cfg(test)]
 mod tests;
 mod writing;
 
 pub use marks::mark_line;
+pub use report::{report_begun, report_rest};
 pub use writing::rest;

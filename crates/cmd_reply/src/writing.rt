@@ -23,7 +23,12 @@ pub fn rest(alloc: Global, number: u64, reply: &Reply) -> Result<Text, AllocErro
     Ok(Text::from_vec(text))
 }
 
-fn push_passed_lines(text: &mut Vec<u8>, number: u64, passed: &[Passed]) -> Result<(), AllocError>
+/// Adds a line for each recovery that was refused.
+pub fn push_passed_lines(
+    text: &mut Vec<u8>,
+    number: u64,
+    passed: &[Passed],
+) -> Result<(), AllocError>
     ensures { OnOk result (text.new.items ≡ text.old.items ++ flat_map (passed_line number) passed.now) }
 {
     for recovery in passed {
