@@ -65,6 +65,68 @@ fn first_requests(rt: HostRuntime) -> Result<(), Fail> {
     Ok(())
 }
 
+// The line that comes with the next request is this one, and is empty only where the request is refused.
+fn next_line_is(
+    rt: &impl Abort,
+    alloc: Global,
+    requests: &mut Requests,
+    source: &mut MemSource,
+    wanted: &[u8],
+) -> Result<(), Fail>
+    requires { requests.old.taken ≤ 2 ^ 48 }
+    ensures { OnOk result (requests.new.taken ≤ 2 ^ 48) }
+{
+    match requests.next(alloc, source) {
+        Ok(Next::Request(heard)) => {
+            assert_eq!(rt; heard.line.as_slice(), wanted);
+            assert_eq!(rt; heard.asked.is_err(), wanted.is_empty(), "{wanted:?}");
+            Ok(())
+        }
+        _ => {
+            assert!(rt; false, "no request: {wanted:?}");
+            Ok(())
+        }
+    }
+}
+
+#[test]
+fn requests_carry_their_lines(rt: HostRuntime) -> Result<(), Fail> {
+    let alloc = rt.alloc();
+    for (input, line) in [
+        (
+            b" \n0 login \"a \\\"b\\\"\"\n".as_slice(),
+            b"0 login \"a \\\"b\\\"\"".as_slice(),
+        ),
+        (b" 0  part 3\nab\n0 quit\n", b" 0  part 3"),
+        (b"0 put /a r new 3\nabc", b"0 put /a r new 3"),
+        (b"0 part 0", b"0 part 0"),
+        (b"7 logout ", b"7 logout "),
+        (b"0 part 3\nab", b""),
+        (b"0 part 3", b""),
+        (b"0 put 3\nabc", b""),
+        (b"64 quit\n", b""),
+        (b"0 nosuch", b""),
+        (b"0 \"a\n", b""),
+    ] {
+        let mut requests = Requests::new(alloc)?;
+        let mut source = MemSource::new(input.to_vec(alloc)?, Vec::new(alloc));
+        next_line_is(&rt, alloc, &mut requests, &mut source, line)?;
+    }
+    Ok(())
+}
+
+#[test]
+fn each_request_carries_its_own_line(rt: HostRuntime) -> Result<(), Fail> {
+    let alloc = rt.alloc();
+    let input = b"0 part 3\nab\n0 nosuch\n\n7 quit".to_vec(alloc)?;
+    let mut requests = Requests::new(alloc)?;
+    let mut source = MemSource::new(input, Vec::new(alloc));
+    next_line_is(&rt, alloc, &mut requests, &mut source, b"0 part 3")?;
+    next_line_is(&rt, alloc, &mut requests, &mut source, b"")?;
+    next_line_is(&rt, alloc, &mut requests, &mut source, b"7 quit")?;
+    Ok(())
+}
+
 #[test]
 fn inputs_without_requests(rt: HostRuntime) -> Result<(), Fail> {
     let alloc = rt.alloc();

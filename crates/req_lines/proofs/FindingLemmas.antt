@@ -10,14 +10,14 @@ use Rattle.grid_model.specs.Inputs.{Asked, HasBody, Takes, none_taken, takes_one
 use Rattle.grid_model.specs.declared.requests.Request.{Request}
 use Rattle.grid_model.specs.declared.refusal.Refusal.{Refusal}
 use Rattle.req_lines.specs.Reading.{Input, Gets, GetsAll, ReadsLine, ReadsPart, Passes}
-use Rattle.req_lines.specs.Hearing.{IsReadAs, held_of, ahead, GoesOver, IsAtEnd, IsOneRequest, Skips, Hears, GoesOn, BreaksOff, Finds, Stops}
+use Rattle.req_lines.specs.Hearing.{IsReadAs, held_of, KeepsLine, ahead, GoesOver, IsAtEnd, IsOneRequest, Skips, Hears, GoesOn, BreaksOff, Finds, Stops}
 use Rattle.req_lines.specs.Heads.{HearsBehind, GoesOnBehind, BreaksOffBehind, FindsBehind, IsLast, passed_so}
 use Rattle.req_lines.specs.declared.line_reader.Ended.TheVariants as ended
 use Rattle.req_lines.specs.declared.requests.Heard.{Heard}
 use Rattle.req_lines.specs.declared.requests.Next.{Next}
 use Rattle.req_lines.specs.declared.requests.Next.TheVariants as next
 use Rattle.req_lines.proofs.AskingLemmas.{held_fits}
-use Rattle.req_lines.proofs.HeadLemmas.{held_request, read_held, body_held}
+use Rattle.req_lines.proofs.HeadLemmas.{held_request, read_held, body_held, keeps_held}
 
 -- ---- one request, or one line without words
 
@@ -86,6 +86,10 @@ module _ (old mid : Input) (held : Text) (reads : ReadsLine old ended.Line mid h
   line_read_as : (body : Text) (asked : Result Request Refusal) → IsReadAs held body asked → IsReadAs reads.line body asked
   line_read_as body asked is = read_held reads.line body asked (subst (λ (t : Text). IsReadAs t body asked) reads.held is)
 
+  line_keeps : (body kept : Text) (asked : Result Request Refusal) → IsReadAs held body asked → KeepsLine asked kept held → KeepsLine asked kept reads.line
+  line_keeps body kept asked is keeps =
+      keeps_held reads.line body kept asked (subst (λ (t : Text). IsReadAs t body asked) reads.held is) (subst (λ (t : Text). KeepsLine asked kept t) reads.held keeps)
+
   joined : (body : Text) → (reads.line ++ 0x0A ∷ []) ++ body ≡ reads.line ++ 0x0A ∷ body
   joined body = append_assoc reads.line (0x0A ∷ []) body
 
@@ -117,6 +121,7 @@ module _ (old mid : Input) (held : Text) (reads : ReadsLine old ended.Line mid h
             read = line_read_as body heard.asked behind.read;
             held = behind.held;
             fits = held_size heard.body line body heard.asked (length body) behind.held (line_read_as body heard.asked behind.read) has (omega arith);
+            keeps = line_keeps body heard.line heard.asked behind.read behind.keeps;
           }
       hears_line heard true is behind passes =
           let line = reads.line in
@@ -140,6 +145,7 @@ module _ (old mid : Input) (held : Text) (reads : ReadsLine old ended.Line mid h
             read = line_read_as body heard.asked behind.read;
             held = behind.held;
             fits = held_size heard.body line body heard.asked behind.count behind.held (line_read_as body heard.asked behind.read) (line_body behind.count behind.has) (omega (arith, passes.ends.1));
+            keeps = line_keeps body heard.line heard.asked behind.read behind.keeps;
           }
 
       goes_on_line : GoesOnBehind held mid new → GoesOn old new
@@ -242,6 +248,8 @@ finds_last old new held reads tells (next.Request heard) is =
       read = read_held line [] heard.asked (subst (λ (t : Text). IsReadAs t [] heard.asked) reads.held is.1);
       held = is.2 ∙ nothing_held heard.asked;
       fits = omega (arith, ap length is.2);
+      keeps = keeps_held line [] heard.line heard.asked (subst (λ (t : Text). IsReadAs t [] heard.asked) reads.held is.1)
+          (subst (λ (t : Text). KeepsLine heard.asked heard.line t) reads.held is.4);
     }
   where
     by_size : (b : Bool) → [] ≡ (elim b as (λ x. Text) [ true ↦ [] | false ↦ [] ])

@@ -1,5 +1,5 @@
 -- What the line of a request tells, and that what is held of a line tells the same.
-use Rattle.std.proofs.Common.{◌≡◌, ℕ, ◌+◌, ◌<◌, ◌≤◌, Bool, true, false, List, length, take, arith, refl, sym, subst, ap, ◌∙◌, inl, inr}
+use Rattle.std.proofs.Common.{◌≡◌, ℕ, ◌+◌, ◌<◌, ◌≤◌, Bool, true, false, List, [], length, take, arith, refl, sym, subst, ap, ◌∙◌, inl, inr}
 use Rattle.std.specs.Prelude.{nat_le, Option, Some, None, Result, Ok, Err, IfSome, IfNone, IfOk, unwrap_or}
 use Rattle.std.proofs.lemmas.Bool.{cases_lt}
 use Rattle.std.proofs.lemmas.Bool.Decides.{nat_tests}
@@ -14,7 +14,7 @@ use Rattle.grid_model.specs.declared.refusal.Refusal.{Refusal}
 use Rattle.grid_model.specs.declared.refusal.Refusal.TheVariants as refusal
 use Rattle.cmd_read.specs.Reading.{Reads}
 use Rattle.cmd_read.specs.Orders.{promised}
-use Rattle.req_lines.specs.Hearing.{IsReadAs, a_request, cut_short, wrong_words, no_words, too_long}
+use Rattle.req_lines.specs.Hearing.{IsReadAs, a_request, cut_short, wrong_words, no_words, too_long, KeepsLine}
 use Rattle.req_lines.specs.Heads.{AreRead, IsHead, asked_with}
 use Rattle.req_lines.specs.declared.head.Head.{Head}
 use Rattle.req_lines.proofs.PromiseLemmas.{promise_is}
@@ -58,28 +58,39 @@ promise_of words (Ok request) o reads some never = promise_is words request o re
 promise_of words (Err r) o reads some never = tt
 
 -- a line of words
-pub head_of : (line : Text) (words : List Text) (asked : Result Request Refusal) (o : Option ℕ) (count : ℕ) → length line ≤ 4096 → SpellsLine line words
+pub head_of : (line : Text) (words : List Text) (asked : Result Request Refusal) (o : Option ℕ) (count : ℕ) (kept : Text) → length line ≤ 4096 → SpellsLine line words
     → ((others : List Text) → SpellsLine line others → others ≡ words) → AreRead words asked → IfSome o (λ n. PromisesBody words n)
-    → IfNone o ((n : ℕ) → ¬ PromisesBody words n) → count ≡ unwrap_or o 0 → IsHead line (record { asked = asked; count = count })
-head_of line words asked o count short spells only reads some never is =
-    let P : ℕ → Type 0 = λ n. IsHead line (record { asked = asked; count = n }) in
+    → IfNone o ((n : ℕ) → ¬ PromisesBody words n) → count ≡ unwrap_or o 0 → KeepsLine asked kept line → IsHead line (record { asked = asked; count = count; line = kept })
+head_of line words asked o count kept short spells only reads some never is keeps =
+    let P : ℕ → Type 0 = λ n. IsHead line (record { asked = asked; count = n; line = kept }) in
     let promise = promise_of words asked o reads some never in
-    subst P (sym is) (record { reads = read_so line words asked (unwrap_or o 0) short spells reads promise; has = body_of line words o short spells only some never; promises = promise })
+    subst P (sym is) (record {
+      reads = read_so line words asked (unwrap_or o 0) short spells reads promise;
+      has = body_of line words o short spells only some never;
+      promises = promise;
+      keeps = keeps;
+    })
 
 -- a line that is refused before its words are read
-refused_so : (line : Text) (head : Head) (r : Refusal) → head.asked ≡ Err r → head.count ≡ 0 → ((body : Text) → IsReadAs line body (Err r)) → ((words : List Text) → length line ≤ 4096 → ¬ SpellsLine line words) → IsHead line head
-refused_so line head r asked count reads never =
+refused_so : (line : Text) (head : Head) (r : Refusal) → head.asked ≡ Err r → head.count ≡ 0 → head.line ≡ [] → ((body : Text) → IsReadAs line body (Err r)) → ((words : List Text) → length line ≤ 4096 → ¬ SpellsLine line words) → IsHead line head
+refused_so line head r asked count none reads never =
     let P : ℕ → Type 0 = λ n. HasBody line n in
     let Q : Result Request Refusal → Type 0 = λ a. (body : Text) → IsReadAs line body (asked_with a head.count body) in
     let R : Result Request Refusal → Type 0 = λ a. IfOk a (λ request. promised request.verb ≡ head.count) in
-    record { reads = subst Q (sym asked) reads; has = subst P (sym count) (no_body (λ words n le spells. absurd (never words le spells))); promises = subst R (sym asked) tt }
+    let K : Result Request Refusal → Type 0 = λ a. KeepsLine a head.line line in
+    record {
+      reads = subst Q (sym asked) reads;
+      has = subst P (sym count) (no_body (λ words n le spells. absurd (never words le spells)));
+      promises = subst R (sym asked) tt;
+      keeps = subst K (sym asked) none;
+    }
 
-pub head_long : (line : Text) (head : Head) → head.asked ≡ Err refusal.TooLong → head.count ≡ 0 → 4096 < length line → IsHead line head
-head_long line head asked count long = refused_so line head refusal.TooLong asked count (λ body. too_long long) (λ words le spells. omega (arith, le, long))
+pub head_long : (line : Text) (head : Head) → head.asked ≡ Err refusal.TooLong → head.count ≡ 0 → head.line ≡ [] → 4096 < length line → IsHead line head
+head_long line head asked count none long = refused_so line head refusal.TooLong asked count none (λ body. too_long long) (λ words le spells. omega (arith, le, long))
 
-pub head_spoilt : (line : Text) (head : Head) (place : ℕ) → head.asked ≡ Err (refusal.Syntax place) → head.count ≡ 0 → length line ≤ 4096 → IsRefusedAt SpellsLine line place → IsHead line head
-head_spoilt line head place asked count short refused =
-    refused_so line head (refusal.Syntax place) asked count (λ body. no_words short refused) (λ words le spells. refused.spells_nothing words spells)
+pub head_spoilt : (line : Text) (head : Head) (place : ℕ) → head.asked ≡ Err (refusal.Syntax place) → head.count ≡ 0 → head.line ≡ [] → length line ≤ 4096 → IsRefusedAt SpellsLine line place → IsHead line head
+head_spoilt line head place asked count none short refused =
+    refused_so line head (refusal.Syntax place) asked count none (λ body. no_words short refused) (λ words le spells. refused.spells_nothing words spells)
 
 -- ---- what is held of a line
 
@@ -104,6 +115,17 @@ read_held line body asked is = elim (cases_lt 4096 (length line)) [
     by a (wrong_words why le spells reads is) long size = absurd (omega (arith, le, size))
     by a (no_words le refused) long size = absurd (omega (arith, le, size))
     by a (too_long lt) long size = too_long (omega (arith, long))
+
+-- it is all of the line where that is read as a request
+pub keeps_held : (line body kept : Text) (asked : Result Request Refusal) → IsReadAs (take 4097 line) body asked → KeepsLine asked kept (take 4097 line) → KeepsLine asked kept line
+keeps_held line body kept asked is keeps = elim (cases_lt 4096 (length line)) [
+  | inl long ↦ by asked is keeps (length-take-le 4097 line (omega (arith, long)))
+  | inr short ↦ let P : Text → Type 0 = λ t. KeepsLine asked kept t in subst P (take_all 4097 line (omega arith)) keeps
+]
+  where
+    by : (a : Result Request Refusal) → IsReadAs (take 4097 line) body a → KeepsLine a kept (take 4097 line) → length (take 4097 line) ≡ 4097 → KeepsLine a kept line
+    by (Ok q) (a_request request le spells reads all) keeps size = absurd (omega (arith, le, size))
+    by (Err r) read keeps size = keeps
 
 pub body_held : (line : Text) (count : ℕ) → HasBody (take 4097 line) count → HasBody line count
 body_held line count has = elim (cases_lt 4096 (length line)) [

@@ -8,7 +8,7 @@ use Rattle.grid_model.specs.declared.refusal.Refusal.{Refusal}
 use Rattle.grid_model.specs.declared.refusal.Refusal.TheVariants.{Truncated}
 use Rattle.cmd_read.specs.Orders.{promised}
 use Rattle.req_lines.specs.Reading.{Input, Passes}
-use Rattle.req_lines.specs.Hearing.{IsReadAs, held_of}
+use Rattle.req_lines.specs.Hearing.{IsReadAs, held_of, KeepsLine}
 use Rattle.req_lines.specs.Heads.{IsHead, HearsBehind, asked_with, is_held, passed_so}
 use Rattle.req_lines.specs.declared.head.Head.{Head}
 use Rattle.req_lines.specs.declared.requests.Heard.{Heard}
@@ -33,15 +33,25 @@ held_is (Ok q) count body b r e held is has = by (nat_le count (length body)) e
     by false e = let none : b ≡ [] = subst (λ x. Has body b x) e has in subst (λ x. b ≡ held_of x body) (sym e) none
 held_is (Err s) count body b r e held is has = absurd (cc held)
 
+-- what a request keeps of its line is what its head has of it
+pub keeps_so : (asked : Result Request Refusal) (count : ℕ) (body kept line text : Text) (r : Result Request Refusal) → r ≡ asked_with asked count body → KeepsLine asked kept line → KeepsLine r text kept → KeepsLine r text line
+keeps_so (Ok q) count body kept line text r e keeps has = by (nat_le count (length body)) e
+  where
+    by : (t : Bool) → r ≡ (elim t as (λ x. Result Request Refusal) [ true ↦ Ok q | false ↦ Err (Truncated (length body) count) ]) → KeepsLine r text line
+    by true e = let all : text ≡ kept = subst (λ x. KeepsLine x text kept) e has in subst (λ x. KeepsLine x text line) (sym e) (all ∙ keeps)
+    by false e = let none : text ≡ [] = subst (λ x. KeepsLine x text kept) e has in subst (λ x. KeepsLine x text line) (sym e) none
+keeps_so (Err s) count body kept line text r e keeps has = let none : text ≡ [] = subst (λ x. KeepsLine x text kept) e has in subst (λ x. KeepsLine x text line) (sym e) none
+
 pub hears_held : (line : Text) (head : Head) (old new : Input) (heard : Heard) (ends : Bool) (body : Text) → IsHead line head → is_held head.asked head.count ≡ true → Passes old head.count (passed_so ends body) new body
-    → heard.asked ≡ asked_with head.asked head.count body → Has body heard.body heard.asked → heard.ends ≡ ends → HearsBehind line old new heard
-hears_held line head old new heard ends body is held passes asked has same = record {
+    → heard.asked ≡ asked_with head.asked head.count body → Has body heard.body heard.asked → heard.ends ≡ ends → KeepsLine heard.asked heard.line head.line → HearsBehind line old new heard
+hears_held line head old new heard ends body is held passes asked has same keeps = record {
   count = head.count;
   body = body;
   has = is.has;
   passes = subst (λ (b : Bool). Passes old head.count (passed_so b body) new body) (sym same) passes;
   read = subst (λ (a : Result Request Refusal). IsReadAs line body a) (sym asked) (is.reads body);
   held = held_is head.asked head.count body heard.body heard.asked asked held is.promises has;
+  keeps = keeps_so head.asked head.count body head.line line heard.line heard.asked asked is.keeps keeps;
 }
 
 -- ---- a body that is passed over
@@ -59,12 +69,13 @@ nothing_either items b (Ok q) none has = has ∙ none
 nothing_either items b (Err s) none has = has
 
 pub hears_passed : (line : Text) (head : Head) (old new : Input) (heard : Heard) (ends : Bool) (body items : Text) → IsHead line head → is_held head.asked head.count ≡ false → Passes old head.count (passed_so ends body) new body
-    → heard.asked ≡ asked_with head.asked head.count body → items ≡ [] → Has items heard.body heard.asked → heard.ends ≡ ends → HearsBehind line old new heard
-hears_passed line head old new heard ends body items is held passes asked none has same = record {
+    → heard.asked ≡ asked_with head.asked head.count body → items ≡ [] → Has items heard.body heard.asked → heard.ends ≡ ends → KeepsLine heard.asked heard.line head.line → HearsBehind line old new heard
+hears_passed line head old new heard ends body items is held passes asked none has same keeps = record {
   count = head.count;
   body = body;
   has = is.has;
   passes = subst (λ (b : Bool). Passes old head.count (passed_so b body) new body) (sym same) passes;
   read = subst (λ (a : Result Request Refusal). IsReadAs line body a) (sym asked) (is.reads body);
   held = nothing_either items heard.body heard.asked none has ∙ passed_is head.asked head.count body heard.asked asked held is.promises;
+  keeps = keeps_so head.asked head.count body head.line line heard.line heard.asked asked is.keeps keeps;
 }

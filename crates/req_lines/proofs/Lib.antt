@@ -4,6 +4,7 @@ mod FindingLemmas
 mod HeadLemmas
 pub mod InputLemmas
 mod HoldingLemmas
+pub mod LineBytes
 mod LineLemmas
 pub mod ProgressLemmas
 pub mod PromiseLemmas

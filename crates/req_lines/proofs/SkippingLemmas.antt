@@ -52,6 +52,7 @@ module _ (old mid : Input) (tells : mid.source.tells ≡ old.source.tells) (skip
     read = hears.read;
     held = hears.held;
     fits = hears.fits;
+    keeps = hears.keeps;
   }
   finds_behind new next.End none = record {
     bytes = skips.bytes ++ none.bytes;

@@ -12,7 +12,7 @@ use Rattle.cmd_read.specs.Reading.{Reads}
 use Rattle.cmd_read.specs.Orders.{promised, refusal_of}
 use Rattle.cmd_read.specs.declared.error.ReadError.{ReadError}
 use Rattle.req_lines.specs.Reading.{Input, Passes, PassesPart}
-use Rattle.req_lines.specs.Hearing.{IsReadAs, held_of}
+use Rattle.req_lines.specs.Hearing.{IsReadAs, held_of, KeepsLine}
 use Rattle.req_lines.specs.declared.head.Head.{Head}
 use Rattle.req_lines.specs.declared.line_reader.Passed.{Passed}
 use Rattle.req_lines.specs.declared.line_reader.Passed.TheVariants as passed
@@ -40,6 +40,7 @@ pub record IsHead (line : Text) (head : Head) : Type 0 where
   pub reads : (body : Text) → IsReadAs line body (asked_with head.asked head.count body)
   pub has : HasBody line head.count
   pub promises : IfOk head.asked (λ request. promised request.verb ≡ head.count)
+  pub keeps : KeepsLine head.asked head.line line
 
 -- how this body was passed over, with which the input has ended or not
 abbrev pub passed_so : Bool → Text → Passed
@@ -54,6 +55,7 @@ pub record HearsBehind (line : Text) (old new : Input) (heard : Heard) : Type 0 
   pub passes : Passes old count (passed_so heard.ends body) new body
   pub read : IsReadAs line body heard.asked
   pub held : heard.body ≡ held_of heard.asked body
+  pub keeps : KeepsLine heard.asked heard.line line
 
 -- its body goes on past the bytes that are read
 pub record GoesOnBehind (line : Text) (old new : Input) : Type 0 where
@@ -76,6 +78,7 @@ FindsBehind line old new next.Long = GoesOnBehind line old new
 
 -- what the last line of the input is, behind which nothing comes
 abbrev pub IsLast : Text → Next → Type 0
-IsLast line (next.Request heard) = (is_request line ≡ true) × IsReadAs line [] heard.asked × (heard.body ≡ []) × (heard.ends ≡ true)
+IsLast line (next.Request heard) =
+    (is_request line ≡ true) × IsReadAs line [] heard.asked × (heard.body ≡ []) × (heard.ends ≡ true) × KeepsLine heard.asked heard.line line
 IsLast line next.End = is_request line ≡ false
 IsLast line next.Long = ⊥

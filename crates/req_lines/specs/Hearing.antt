@@ -1,5 +1,5 @@
 -- What a request of an input is found to be, by its line and its body.
-use Rattle.std.specs.Prelude.{◌≡◌, ℕ, ◌+◌, ◌^◌, ◌<◌, ◌≤◌, Bool, true, false, nat_le, List, [], ◌∷◌, ◌++◌, length, IsTrue, Some, Result, Ok, Err}
+use Rattle.std.specs.Prelude.{◌≡◌, ℕ, ◌+◌, ◌^◌, ◌<◌, ◌≤◌, Bool, true, false, nat_le, List, [], ◌∷◌, ◌++◌, length, IsTrue, Some, Result, Ok, Err, MatchResult}
 use Rattle.grid_outside.specs.Source.{SourceState}
 use Rattle.grid_model.specs.Names.{Text}
 use Rattle.grid_model.specs.Limits.{longest_line, object_size}
@@ -39,6 +39,10 @@ abbrev pub held_of : Result Request Refusal → Text → Text
 held_of (Ok request) body = kept (promised request.verb) body
 held_of (Err r) body = []
 
+-- what is kept of the line of a request: all of it, and nothing where the request is refused
+abbrev pub KeepsLine : Result Request Refusal → Text → Text → Type 0
+KeepsLine asked text line = MatchResult asked (λ _. text ≡ line) (λ _. text ≡ [])
+
 -- ---- the input
 
 -- what stands before the reader
@@ -77,6 +81,7 @@ pub record Hears (old new : Input) (heard : Heard) : Type 0 where
   pub read : IsReadAs asked.line asked.body heard.asked
   pub held : heard.body ≡ held_of heard.asked asked.body
   pub fits : length heard.body ≤ object_size
+  pub keeps : KeepsLine heard.asked heard.line asked.line
 
 -- the input has no more requests
 pub record HearsNone (old new : Input) : Type 0 where

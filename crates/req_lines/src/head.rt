@@ -1,4 +1,5 @@
 ghost use Rattle.std.specs.Prelude.{◌≡◌, ℕ, List, [], Err, IfOk, length, MatchResult};
+ghost use Rattle.req_lines.specs.Hearing.{KeepsLine};
 ghost use Rattle.req_lines.specs.Heads.{AreRead, IsHead, asked_with, is_held};
 
 use crate::requests::Heard;
@@ -11,11 +12,12 @@ use std::alloc::{AllocError, Global};
 pub(crate) const OBJECT_SIZE: u64 = 16_777_216;
 
 /// The line of a request as it was read: what it asks for where its body comes whole, or why it is refused whatever comes,
-/// and how many bytes behind it belong to it.
+/// how many bytes behind it belong to it, and the line itself, which is left out where it is refused.
 #[derive(Debug, Drop)]
 pub(crate) struct Head {
     pub(crate) asked: Result<Request, Refusal>,
     pub(crate) count: u64,
+    pub(crate) line: Text,
 }
 
 impl Head {
@@ -34,33 +36,38 @@ impl Head {
         ensures asked { (body : List ℕ) → length body ≡ have → result.asked ≡ asked_with self.asked self.count body }
         ensures body { MatchResult result.asked (λ _. result.body ≡ held.items) (λ _. result.body ≡ []) }
         ensures ends { result.ends ≡ ends }
+        ensures keeps { KeepsLine result.asked result.line self.line }
     {
-        let Head { asked, count } = self;
+        let Head { asked, count, line } = self;
         match asked {
             Ok(request) => {
                 if have < count {
                     let asked = Err(Refusal::Truncated { have, want: count });
-                    return without_body(alloc, asked, ends);
+                    return with_nothing(alloc, asked, ends);
                 }
                 let body = Text::from_vec(held);
                 Heard {
                     asked: Ok(request),
+                    line,
                     body,
                     ends,
                 }
             }
-            Err(refusal) => without_body(alloc, Err(refusal), ends),
+            Err(refusal) => with_nothing(alloc, Err(refusal), ends),
         }
     }
 }
 
-fn without_body(alloc: Global, asked: Result<Request, Refusal>, ends: bool) -> Heard
+// The request without its line and its body.
+fn with_nothing(alloc: Global, asked: Result<Request, Refusal>, ends: bool) -> Heard
     ensures asked { result.asked ≡ asked }
+    ensures line { result.line ≡ [] }
     ensures body { result.body ≡ [] }
     ensures ends { result.ends ≡ ends }
 {
     Heard {
         asked,
+        line: Text::from_vec(Vec::new(alloc)),
         body: Text::from_vec(Vec::new(alloc)),
         ends,
     }
@@ -74,22 +81,39 @@ pub(crate) fn read_head(alloc: Global, line: &[u8]) -> Result<Head, AllocError>
         Ok(words) => {
             let count = body_count(&words).unwrap_or(0);
             let asked = read_words(alloc, &words)?;
-            Ok(Head { asked, count })
+            let line = kept_line(alloc, &asked, line)?;
+            Ok(Head { asked, count, line })
         }
-        Err(WordError::TooLong) => Ok(refused(Refusal::TooLong)),
-        Err(WordError::Syntax { at }) => Ok(refused(Refusal::Syntax { at })),
+        Err(WordError::TooLong) => Ok(refused(alloc, Refusal::TooLong)),
+        Err(WordError::Syntax { at }) => Ok(refused(alloc, Refusal::Syntax { at })),
         Err(WordError::Memory) => Err(AllocError),
     }
 }
 
 // A line without words, and so without a body.
-fn refused(refusal: Refusal) -> Head
+fn refused(alloc: Global, refusal: Refusal) -> Head
     ensures asked { result.asked ≡ Err refusal }
     ensures count { result.count ≡ 0 }
+    ensures line { result.line ≡ [] }
 {
     Head {
         asked: Err(refusal),
         count: 0,
+        line: Text::from_vec(Vec::new(alloc)),
+    }
+}
+
+// What is kept of a line of words. Fails for want of memory alone.
+fn kept_line(
+    alloc: Global,
+    asked: &Result<Request, Refusal>,
+    line: &[u8],
+) -> Result<Text, AllocError>
+    ensures { IfOk result (λ text. KeepsLine asked.now text line.now) }
+{
+    match asked {
+        Ok(_) => Text::copy_of(alloc, line),
+        Err(_) => Ok(Text::from_vec(Vec::new(alloc))),
     }
 }
 

@@ -1,6 +1,6 @@
 ghost use Rattle.std.specs.Prelude.{◌≡◌, ◌+◌, ◌^◌, ◌<◌, ◌≤◌, [], ◌∷◌, ◌++◌, false, true, length, IfOk, IfSome, IfNone, IsErrOf};
 ghost use Rattle.grid_outside.specs.Fault.{Rose};
-ghost use Rattle.grid_model.specs.Names.{Text};
+ghost use Rattle.grid_model.specs.Names.{Text as TextOf};
 ghost use Rattle.grid_model.specs.Inputs.{Asked, Takes, HasBody};
 ghost use Rattle.req_lines.specs.Reading.{input};
 ghost use Rattle.req_lines.specs.Hearing.{Finds, BreaksOff, Skips, Stops};
@@ -9,7 +9,7 @@ ghost use Rattle.req_lines.specs.Heads.{IsHead, is_held, FindsBehind, BreaksOffB
 use crate::head::{Head, read_head};
 use crate::line_reader::{Ended, HELD, LineReader, Passed};
 use crate::lines::is_request;
-use grid_model::{Bytes, Refusal, Request};
+use grid_model::{Bytes, Refusal, Request, Text};
 use grid_outside::{Source, SourceFault};
 use std::alloc::{AllocError, Global};
 use std::marker::Model;
@@ -54,6 +54,8 @@ pub struct Heard {
     /// What its words make, or why it is refused whatever the state is: its line is too long or no line of words, its words
     /// are no request, or the input ended within its body.
     pub asked: Result<Request, Refusal>,
+    /// The line of the request, without its newline; empty where the request is refused.
+    pub line: Text,
     /// Its body: at most 16,777,216 bytes. It is empty where the request is refused, or has more bytes than these.
     pub body: Bytes,
     /// Whether the input has ended with it.
@@ -107,7 +109,7 @@ impl Requests {
         ensures finds { IfOk result (λ next. Finds (input self.old (S.source source.old)) (input self.new (S.source source.new)) next) }
         ensures failed { IsErrOf result ReadError.Source → BreaksOff (input self.old (S.source source.old)) (S.source source.new) }
         ensures stopped { IsErrOf result ReadError.Memory → Stops (input self.old (S.source source.old)) (S.source source.new) }
-        ensures at_once { (asked : Asked) (left : Text) → Takes self.old.unread (asked ∷ []) left → source.new ≡ source.old }
+        ensures at_once { (asked : Asked) (left : TextOf) → Takes self.old.unread (asked ∷ []) left → source.new ≡ source.old }
         ensures tells { (S.source source.new).tells ≡ (S.source source.old).tells }
         ensures later { (S.source source.old).faults ≤ (S.source source.new).faults }
         ensures cause { IsErrOf result ReadError.Source → Rose (S.source source.old).faults (S.source source.new).faults }
@@ -127,7 +129,7 @@ fn next_request<S: Source>(
     ensures finds { IfOk result (λ next. Finds (input reader.old (S.source source.old)) (input reader.new (S.source source.new)) next) }
     ensures failed { IsErrOf result ReadError.Source → BreaksOff (input reader.old (S.source source.old)) (S.source source.new) }
     ensures stopped { IsErrOf result ReadError.Memory → Stops (input reader.old (S.source source.old)) (S.source source.new) }
-    ensures at_once { (asked : Asked) (left : Text) → Takes reader.old.unread (asked ∷ []) left → source.new ≡ source.old }
+    ensures at_once { (asked : Asked) (left : TextOf) → Takes reader.old.unread (asked ∷ []) left → source.new ≡ source.old }
     ensures tells { (S.source source.new).tells ≡ (S.source source.old).tells }
     ensures later { (S.source source.old).faults ≤ (S.source source.new).faults }
     ensures cause { IsErrOf result ReadError.Source → Rose (S.source source.old).faults (S.source source.new).faults }
@@ -154,8 +156,8 @@ fn request_or_blank<S: Source>(
     ensures goes_ahead { IfOk result (λ found. IfNone found (reader.old.taken + length reader.new.unread < reader.new.taken + length reader.old.unread)) }
     ensures failed { IsErrOf result ReadError.Source → BreaksOff (input reader.old (S.source source.old)) (S.source source.new) }
     ensures stopped { IsErrOf result ReadError.Memory → Stops (input reader.old (S.source source.old)) (S.source source.new) }
-    ensures at_once { (asked : Asked) (left : Text) → Takes reader.old.unread (asked ∷ []) left → source.new ≡ source.old }
-    ensures more_at_once { (asked : Asked) (left : Text) → Takes reader.old.unread (asked ∷ []) left →
+    ensures at_once { (asked : Asked) (left : TextOf) → Takes reader.old.unread (asked ∷ []) left → source.new ≡ source.old }
+    ensures more_at_once { (asked : Asked) (left : TextOf) → Takes reader.old.unread (asked ∷ []) left →
         IfOk result (λ found. IfNone found (Takes reader.new.unread (asked ∷ []) left)) }
     ensures tells { (S.source source.new).tells ≡ (S.source source.old).tells }
     ensures later { (S.source source.old).faults ≤ (S.source source.new).faults }
@@ -202,7 +204,7 @@ fn behind_line<S: Source>(
     ensures finds { IfOk result (λ next. FindsBehind line.now (input reader.old (S.source source.old)) (input reader.new (S.source source.new)) next) }
     ensures failed { IsErrOf result ReadError.Source → BreaksOffBehind line.now (input reader.old (S.source source.old)) (S.source source.new) }
     ensures stopped { IsErrOf result ReadError.Memory → Stops (input reader.old (S.source source.old)) (S.source source.new) }
-    ensures at_once { (body more : Text) → HasBody line.now (length body) → reader.old.unread ≡ body ++ more → source.new ≡ source.old }
+    ensures at_once { (body more : TextOf) → HasBody line.now (length body) → reader.old.unread ≡ body ++ more → source.new ≡ source.old }
     ensures tells { (S.source source.new).tells ≡ (S.source source.old).tells }
     ensures later { (S.source source.old).faults ≤ (S.source source.new).faults }
     ensures cause { IsErrOf result ReadError.Source → Rose (S.source source.old).faults (S.source source.new).faults }
@@ -227,9 +229,9 @@ fn hold_body<S: Source>(
 ) -> Result<Next, ReadError>
     requires most { reader.old.taken ≤ 2 ^ 48 }
     requires held { is_held head.asked head.count ≡ true }
-    ensures finds { (line : Text) → IsHead line head →
+    ensures finds { (line : TextOf) → IsHead line head →
         IfOk result (λ next. FindsBehind line (input reader.old (S.source source.old)) (input reader.new (S.source source.new)) next) }
-    ensures failed { (line : Text) → IsHead line head →
+    ensures failed { (line : TextOf) → IsHead line head →
         IsErrOf result ReadError.Source → BreaksOffBehind line (input reader.old (S.source source.old)) (S.source source.new) }
     ensures stopped { IsErrOf result ReadError.Memory → Stops (input reader.old (S.source source.old)) (S.source source.new) }
     ensures at_once { head.count ≤ length reader.old.unread → source.new ≡ source.old }
@@ -258,9 +260,9 @@ fn pass_body<S: Source>(
 ) -> Result<Next, ReadError>
     requires most { reader.old.taken ≤ 2 ^ 48 }
     requires not_held { is_held head.asked head.count ≡ false }
-    ensures finds { (line : Text) → IsHead line head →
+    ensures finds { (line : TextOf) → IsHead line head →
         IfOk result (λ next. FindsBehind line (input reader.old (S.source source.old)) (input reader.new (S.source source.new)) next) }
-    ensures failed { (line : Text) → IsHead line head →
+    ensures failed { (line : TextOf) → IsHead line head →
         IsErrOf result ReadError.Source → BreaksOffBehind line (input reader.old (S.source source.old)) (S.source source.new) }
     ensures stopped { IsErrOf result ReadError.Memory → Stops (input reader.old (S.source source.old)) (S.source source.new) }
     ensures at_once { head.count ≤ length reader.old.unread → source.new ≡ source.old }
