@@ -13,8 +13,6 @@ use Rattle.grid_deed.specs.Frame.{Goes}
 use Rattle.grid_journal.specs.Stands.{StandsFor}
 use Rattle.grid_headline.specs.Worlds.{World, LeavesFiles, LeavesDisks, StoreTells, faults_of}
 use Rattle.grid_headline.specs.Files.{DisksAreSettled, WereWhole, AllStayWhole, AllAreWhole, IsKnown}
-use Rattle.grid_headline.proofs.PutStops.{the_catalogue}
-use Rattle.run_laws.specs.Sofar.{KeepsWhole}
 use Rattle.run_laws.specs.Went.{StoresRest, Rests, Went, AreInOrder}
 
 pub goes-then : {C : Type 0} (from to : ℕ) (old mid new : DeviceState C) → from ≤ to → Goes from old mid → Goes to mid new → Goes from old new

@@ -3,7 +3,7 @@ use Rattle.std.proofs.Common.{◌≡◌, ◌⊎◌, inl, inr, ℕ, zero, suc, �
 use Rattle.std.specs.Prelude.{max, Bool, true, false, ◌==◌, codes, decimal, flat_map}
 use Rattle.std.specs.Bool.{MatchBool}
 use Rattle.std.proofs.lemmas.List.{append-nil, take-append-le, take_at, length-take-le}
-use Rattle.std.proofs.lemmas.Option.{slice_get_past, same_Some}
+use Rattle.std.proofs.lemmas.Option.{slice_get_past, slice_get_within, same_Some}
 use Rattle.std.proofs.lemmas.Bool.{cases_lt}
 use Rattle.grid_outside.specs.Sink.{AddsPart}
 use Rattle.grid_model.specs.Names.{Text}
@@ -15,15 +15,17 @@ use Rattle.grid_model.specs.Working.{Done, Sent}
 use Rattle.grid_model.specs.Printing.{line, spaced}
 use Rattle.grid_model.specs.DataLines.{data_lines}
 use Rattle.grid_model.specs.Replies.{mark_words, mark_line, passed_line, row_line, end_words, end_line, rest_lines}
-use Rattle.grid_model.specs.Runs.{Marked}
+use Rattle.grid_model.specs.Runs.{Marked, Request}
 use Rattle.grid_model.specs.ReplyTexts.{SendsBytes, IsPiece, ArePieces, reply_text}
+use Rattle.grid_model.specs.declared.calls.Call.{Call}
 use Rattle.grid_model.specs.declared.replies.Reply.{Reply}
 use Rattle.grid_model.specs.declared.marks.Mark.{Mark}
 use Rattle.grid_journal.specs.Stands.{StandsFor}
 use Rattle.grid_headline.specs.Served.{joined_texts, whole_in}
 use Rattle.grid_headline.specs.Numbers.{KeepsNumbers}
-use Rattle.run_laws.specs.Handled.{Handled, with_one, replies_of, marks_within, told_within, reached_by, state_behind, IsOfRun, IsBehindSome, OneOfRun, not_begun, in_run, ShowsMost}
-use Rattle.run_laws.specs.Steps.{IsLike, IsLeftBehind, ComesAfter, kept, unseen, IsUntold, OneOf, not_kept, kept_so}
+use Rattle.grid_headline.specs.Reads.{MeansRequest}
+use Rattle.run_laws.specs.Handled.{Handled, with_one, replies_of, marks_within, told_within, reached_by, state_behind, IsOfRun, IsBehindSome, WaitsBehind, OneOfRun, not_begun, in_run, in_deed_of_run, ShowsMost, whole_report}
+use Rattle.run_laws.specs.Steps.{IsLike, IsLeftBehind, ComesAfter, kept, unseen, WaitsIn, with_deed, HasLine, IsUntold, OneOf, not_kept, in_first_deed, kept_so}
 use Rattle.run_laws.proofs.Lists.{get-front, get-last, state-more, state-last}
 use Rattle.run_laws.proofs.Texts.{HaveBytes, joined-push, whole-none, whole-behind, whole-more, whole-most, whole-all, whole-less}
 
@@ -82,6 +84,9 @@ module _ (found : Cat) (h : Handled) (m : Marked) (d : Done) (ts : List Text) (t
   abbrev more : Handled
   more = with_one h m d ts
 
+  abbrev report : Text
+  report = whole_report found
+
   abbrev bytes : ℕ
   bytes = length (joined_texts (replies_of h))
 
@@ -126,13 +131,45 @@ module _ (found : Cat) (h : Handled) (m : Marked) (d : Done) (ts : List Text) (t
               ∙ no_more_told (whole_in (replies_of h) count) (whole-most (replies_of h) count) (b.untold (omega (arith, less, same_whole)));
         }
 
+    -- as many are done
+    reached-more : (c : Cat) → reached_by found more c count ≡ reached_by found h c count
+    reached-more c = ap (λ k. max k c.numbers.last) same_whole
+
+  -- what waits in its first deed does so still
+  waits-more : (rows : Cat) (n user : ℕ) (text : Text) (call : Call) → WaitsBehind found h rows n user text call
+      → WaitsBehind found more rows n user text call
+  waits-more rows n user text call waits =
+      let less : n < length h.begun = slice_get_within h.begun n waits.next waits.is_next in
+      let same : state_behind found h n ≡ state_behind found more n =
+      sym (state-more (begins (grid_of found) []) h.done d n (omega (arith, less, one.begun_length, one.done_length))) in
+      record {
+        next = waits.next;
+        is_next = get-front h.begun (m ∷ []) n less ∙ waits.is_next;
+        line_is = waits.line_is;
+        request = waits.request;
+        means = subst (λ (x : State). MeansRequest x waits.next.asked waits.request) same waits.means;
+        waits_in = subst (λ (x : State). WaitsIn x waits.request rows user call) same waits.waits_in;
+      }
+
+  -- a front of what was to be written is a front of what is now
+  split-more : (part left : Text) → report ++ joined_texts (replies_of h) ≡ part ++ left → report ++ joined_texts (replies_of more) ≡ part ++ (left ++ t)
+  split-more part left split =
+      ap (λ (u : Text). report ++ u) (ap joined_texts one.texts_are ∙ joined-push (replies_of h) t) ∙ sym (append_assoc report (joined_texts (replies_of h)) t)
+      ∙ ap (λ (u : Text). u ++ t) split ∙ append_assoc part left t
+
+  -- so many bytes of replies are shown by it
+  within-front : (part left : Text) → report ++ joined_texts (replies_of h) ≡ part ++ left → length part - length report ≤ bytes
+  within-front part left split = omega (arith, ap length split, length-append part left, length-append report (joined_texts (replies_of h)))
+
   -- what was left of the requests before it is left of it
   pub image-more : (old_sink main sink : Text) → OneOfRun found h old_sink main sink → OneOfRun found more old_sink main sink
-  image-more old_sink main sink (not_begun stands is) = not_begun stands is
+  image-more old_sink main sink (not_begun stands adds) = not_begun stands adds
   image-more old_sink main sink (in_run c part left stands is split behind) =
-      in_run c part (left ++ t) stands is
-      (ap joined_texts one.texts_are ∙ joined-push (replies_of h) t ∙ ap (λ (u : Text). u ++ t) split ∙ append_assoc part left t)
-      (behind-more (length part) (omega (arith, ap length split, length-append part left)) c behind)
+      in_run c part (left ++ t) stands is (split-more part left split) (behind-more (length part - length report) (within-front part left split) c behind)
+  image-more old_sink main sink (in_deed_of_run rows n user text call part left stands is split behind reached waits) =
+      let within = within-front part left split in
+      in_deed_of_run rows n user text call part (left ++ t) stands is (split-more part left split) (behind-more (length part - length report) within rows behind)
+      (reached-more (length part - length report) within rows ∙ reached) (waits-more rows n user text call waits)
 
   -- ---- so many bytes of its own text
 
@@ -172,6 +209,18 @@ module _ (found : Cat) (h : Handled) (m : Marked) (d : Done) (ts : List Text) (t
     at_next : state_behind found more (suc size) ≡ d.state
     at_next = ap (λ k. state_behind found more (suc k)) (sym one.done_length) ∙ state-last (begins (grid_of found) []) h.done d
 
+    -- it waits in its first deed
+    waits_here : (rows : Cat) (user : ℕ) (text : Text) (call : Call) (request : Request) → MeansRequest at m.asked request → text ≡ m.asked.line
+        → WaitsIn at request rows user call → WaitsBehind found more rows size user text call
+    waits_here rows user text call request means same waits = record {
+      next = m;
+      is_next = ap (slice_get more.begun) (sym one.begun_length) ∙ get-last h.begun m;
+      line_is = same;
+      request = request;
+      means = subst (λ (x : State). MeansRequest x m.asked request) (sym at_size) means;
+      waits_in = subst (λ (x : State). WaitsIn x request rows user call) (sym at_size) waits;
+    }
+
     -- a catalogue with so many bytes shown, where that many requests are shown whole, and that many done
     made : (c : Cat) (k w n : ℕ) → IsOfRun found c → whole_in (replies_of more) (bytes + k) ≡ w → max w c.numbers.last ≡ n → n ≤ suc size
         → c.numbers.last ≤ w + 1
@@ -197,6 +246,10 @@ module _ (found : Cat) (h : Handled) (m : Marked) (d : Done) (ts : List Text) (t
           made e k size size (like-of found c e its like) (whole_cut k less) (omega (arith, last, like.last)) (omega arith) (omega (arith, last, like.last)) at at_size none_at
           (like.grid ∙ grid) (λ l. told_next k ∙ ap (λ i. take i m.marks) none)
 
+      -- where nothing is shown of it, those before it are done
+      reached_here : (e : Cat) → IsLike c e → reached_by found more e (bytes + 0) ≡ size
+      reached_here e like = ap (λ k. max k e.numbers.last) (whole_cut 0 one.has_bytes) ∙ omega (arith, last, like.last)
+
       -- it was kept
       changed : (e : Cat) (k : ℕ) → IsLeftBehind c n d e → (k < length t) ⊎ (length t ≡ k) → IsBehindSome found more e (bytes + k)
       changed e k behind (inl less) =
@@ -221,47 +274,72 @@ module _ (found : Cat) (h : Handled) (m : Marked) (d : Done) (ts : List Text) (t
 
   -- ---- a part of its text is shown
 
-  module _ (old_sink shown sink : Text) (shown_is : shown ≡ old_sink ++ joined_texts (replies_of h)) (adds : AddsPart t shown sink) where
-    abbrev part : Text
-    part = joined_texts (replies_of h) ++ take adds.count t
+  module _ (old_sink shown sink : Text) (shown_is : shown ≡ (old_sink ++ report) ++ joined_texts (replies_of h)) (adds : AddsPart t shown sink) where
+    -- of the replies
+    abbrev of_replies : Text
+    of_replies = joined_texts (replies_of h) ++ take adds.count t
 
-    part_length : length part ≡ bytes + adds.count
-    part_length = length-append (joined_texts (replies_of h)) (take adds.count t) ∙ ap (λ k. bytes + k) (length-take-le adds.count t adds.within)
+    abbrev part : Text
+    part = report ++ of_replies
+
+    behind_report : length part - length report ≡ bytes + adds.count
+    behind_report =
+        let own = length-append (joined_texts (replies_of h)) (take adds.count t) ∙ ap (λ k. bytes + k) (length-take-le adds.count t adds.within) in
+        omega (arith, own, length-append report of_replies)
 
     sink_is : sink ≡ old_sink ++ part
-    sink_is = adds.is ∙ ap (λ (u : Text). u ++ take adds.count t) shown_is ∙ append_assoc old_sink (joined_texts (replies_of h)) (take adds.count t)
+    sink_is = adds.is ∙ ap (λ (u : Text). u ++ take adds.count t) shown_is ∙ append_assoc (old_sink ++ report) (joined_texts (replies_of h)) (take adds.count t)
+        ∙ append_assoc old_sink report of_replies
 
-    split : joined_texts (replies_of more) ≡ part ++ drop adds.count t
-    split = ap joined_texts one.texts_are ∙ joined-push (replies_of h) t ∙ ap (λ (u : Text). joined_texts (replies_of h) ++ u) (sym (take-append-drop adds.count t))
+    split_replies : joined_texts (replies_of more) ≡ of_replies ++ drop adds.count t
+    split_replies = ap joined_texts one.texts_are ∙ joined-push (replies_of h) t ∙ ap (λ (u : Text). joined_texts (replies_of h) ++ u) (sym (take-append-drop adds.count t))
         ∙ sym (append_assoc (joined_texts (replies_of h)) (take adds.count t) (drop adds.count t))
+
+    split : report ++ joined_texts (replies_of more) ≡ part ++ drop adds.count t
+    split = ap (λ (u : Text). report ++ u) split_replies ∙ sym (append_assoc report of_replies (drop adds.count t))
 
     cut_or_full : (adds.count < length t) ⊎ (length t ≡ adds.count)
     cut_or_full = elim (cases_lt adds.count (length t)) [ inl less ↦ inl less | inr all ↦ inr (omega (arith, all, adds.within)) ]
 
     image_by : (main : Text) (c : Cat) → StandsFor main c → IsBehindSome found more c (bytes + adds.count) → OneOfRun found more old_sink main sink
-    image_by main c stands behind = in_run c part (drop adds.count t) stands sink_is split (subst (IsBehindSome found more c) (sym part_length) behind)
+    image_by main c stands behind = in_run c part (drop adds.count t) stands sink_is split (subst (IsBehindSome found more c) (sym behind_report) behind)
 
-    pub shows-one : ShowsMost more old_sink sink
+    -- it waits in its first deed
+    image_waiting : (main : Text) (rows : Cat) (user : ℕ) (text : Text) (call : Call) → StandsFor main (with_deed rows (size + 1) user text call)
+        → IsBehindSome found more rows (bytes + adds.count) → reached_by found more rows (bytes + adds.count) ≡ size
+        → WaitsBehind found more rows size user text call → OneOfRun found more old_sink main sink
+    image_waiting main rows user text call stands behind reached waits =
+        in_deed_of_run rows size user text call part (drop adds.count t) stands sink_is split (subst (IsBehindSome found more rows) (sym behind_report) behind)
+        (ap (reached_by found more rows) behind_report ∙ reached) waits
+
+    pub shows-one : ShowsMost report more old_sink sink
     shows-one = record {
       part = part;
       more = drop adds.count t;
       is = sink_is;
       split = split;
+      report_first = λ some. omega (arith, length-append report of_replies);
       all_but_one =
-          let w : whole_in (replies_of more) (length part) ≡ size + whole_in (t ∷ []) adds.count = ap (whole_in (replies_of more)) part_length ∙ whole_with adds.count in
+          let w : whole_in (replies_of more) (length part - length report) ≡ size + whole_in (t ∷ []) adds.count = ap (whole_in (replies_of more)) behind_report ∙ whole_with adds.count in
           omega (arith, w, length-append h.begun (m ∷ []), one.begun_length);
     }
 
 -- all that was handled is shown
-pub shows-all : (h : Handled) (old_sink sink : Text) → length h.begun ≡ length (replies_of h) → sink ≡ old_sink ++ joined_texts (replies_of h)
-    → ShowsMost h old_sink sink
-shows-all h old_sink sink e is = record {
-  part = joined_texts (replies_of h);
-  more = [];
-  is = is;
-  split = sym (append-nil (joined_texts (replies_of h)));
-  all_but_one = omega (arith, e, whole-all (replies_of h));
-}
+pub shows-all : (report : Text) (h : Handled) (old_sink sink : Text) → length h.begun ≡ length (replies_of h)
+    → sink ≡ (old_sink ++ report) ++ joined_texts (replies_of h)
+    → ShowsMost report h old_sink sink
+shows-all report h old_sink sink e is =
+    let replies = joined_texts (replies_of h) in
+    let behind : length (report ++ replies) - length report ≡ length replies = omega (arith, length-append report replies) in
+    let whole : whole_in (replies_of h) (length (report ++ replies) - length report) ≡ length (replies_of h) = ap (whole_in (replies_of h)) behind ∙ whole-all (replies_of h) in
+    record {
+      part = report ++ replies;
+      more = [];
+      is = is ∙ append_assoc old_sink report replies;
+      split = sym (append-nil (report ++ replies));
+      report_first = λ some. omega (arith, length-append report replies);
+      all_but_one = omega (arith, e, whole);
+    }
 
 -- ---- one request
 
@@ -270,17 +348,25 @@ untold_cut [] t rest k some e untold = (omega (arith, some, untold), refl)
 untold_cut (u ∷ ts) t rest k some e untold =
     (omega (arith, untold, ap length e, length-append (u ++ joined_texts ts) rest, length-append u (joined_texts ts)), whole-less u ts k untold)
 
--- while a request is handled a stop leaves that nothing is seen of it, or that it is kept
-pub image-one : (found c : Cat) (h : Handled) (m : Marked) (d : Done) (ts : List Text) (n : ℕ) → IsOneMore h m d ts (reply_text n d.reply ts) → (at : State)
-    → state_behind found h (length (replies_of h)) ≡ at → at.rules ≡ [] → d.state.rules ≡ [] → IsOfRun found c → c.numbers.last ≤ length (replies_of h)
+-- while a request is handled a stop leaves that nothing is seen of it, that it waits in its first deed, or that it is kept
+pub image-one : (found c : Cat) (h : Handled) (m : Marked) (d : Done) (ts : List Text) (n : ℕ) → IsOneMore h m d ts (reply_text n d.reply ts) → (at : State) (request : Request)
+    → MeansRequest at m.asked request → state_behind found h (length (replies_of h)) ≡ at → at.rules ≡ [] → d.state.rules ≡ [] → IsOfRun found c → c.numbers.last ≤ length (replies_of h)
     → grid_of c ≡ at.grid
-    → d.reply.marks ≡ m.marks → n ≡ length (replies_of h) + 1 → (old_sink shown main sink : Text) → shown ≡ old_sink ++ joined_texts (replies_of h)
-    → OneOf c n d ts shown main sink → OneOfRun found (with_one h m d ts) old_sink main sink
-image-one found c h m d ts n one at at_is none_at none_next its last grid marks_are n_is old_sink shown main sink shown_is (not_kept e like stands adds untold) =
+    → d.reply.marks ≡ m.marks → n ≡ length (replies_of h) + 1 → (old_sink shown main sink : Text)
+    → shown ≡ (old_sink ++ whole_report found) ++ joined_texts (replies_of h)
+    → ((e : Cat) → StandsFor main e → HasLine m.asked.line e.pending) → OneOf at c n request d ts shown main sink → OneOfRun found (with_one h m d ts) old_sink main sink
+image-one found c h m d ts n one at request means at_is none_at none_next its last grid marks_are n_is old_sink shown main sink shown_is noted (not_kept e like stands adds untold) =
     let cut = untold_cut ts (reply_text n d.reply ts) one.rest adds.count one.has_bytes one.pieces_first untold in
     image_by found h m d ts (reply_text n d.reply ts) one old_sink shown sink shown_is adds main e stands
     (not_changed found h m d ts (reply_text n d.reply ts) one at at_is none_at none_next c its last grid marks_are n n_is e adds.count like cut.0 cut.1)
-image-one found c h m d ts n one at at_is none_at none_next its last grid marks_are n_is old_sink shown main sink shown_is (kept_so e after stands adds) =
+image-one found c h m d ts n one at request means at_is none_at none_next its last grid marks_are n_is old_sink shown main sink shown_is noted (in_first_deed rows user text call like waits stands is) =
+    let t = reply_text n d.reply ts in
+    let adds : AddsPart t shown sink = record { count = 0; within = omega arith; is = is ∙ sym (append-nil shown) } in
+    image_waiting found h m d ts t one old_sink shown sink shown_is adds main rows user text call (subst (λ k. StandsFor main (with_deed rows k user text call)) n_is stands)
+    (not_changed found h m d ts t one at at_is none_at none_next c its last grid marks_are n n_is rows 0 like one.has_bytes (whole-none ts one.pieces_have))
+    (reached_here found h m d ts t one at at_is none_at none_next c its last grid marks_are n n_is rows like)
+    (waits_here found h m d ts t one at at_is none_at none_next rows user text call request means (noted (with_deed rows n user text call) stands) waits)
+image-one found c h m d ts n one at request means at_is none_at none_next its last grid marks_are n_is old_sink shown main sink shown_is noted (kept_so e after stands adds) =
     image_by found h m d ts (reply_text n d.reply ts) one old_sink shown sink shown_is adds main e stands
     (follows found h m d ts (reply_text n d.reply ts) one at at_is none_at none_next c its last grid marks_are n n_is e adds.count after
     (cut_or_full found h m d ts (reply_text n d.reply ts) one old_sink shown sink shown_is adds))

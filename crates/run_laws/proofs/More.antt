@@ -20,8 +20,8 @@ use Rattle.grid_headline.specs.Files.{IsKnown, AreSettled, DisksAreSettled, Keep
 use Rattle.grid_headline.specs.Causes.{AreCaused}
 use Rattle.grid_headline.specs.Ends.{AllStill, HasOneMore}
 use Rattle.grid_headline.specs.Headline.{BeginsOn}
-use Rattle.run_laws.specs.Handled.{Handled, with_one, replies_of, IsOfRun, state_behind, OneOfRun}
-use Rattle.run_laws.specs.Steps.{Gave, IsToldOf, ComesAfter, kept, unseen, RequestStep, IsHandledWhole}
+use Rattle.run_laws.specs.Handled.{Handled, with_one, replies_of, IsOfRun, state_behind, OneOfRun, whole_report}
+use Rattle.run_laws.specs.Steps.{Gave, IsToldOf, ComesAfter, kept, unseen, NotesLine, RequestStep, IsHandledWhole}
 use Rattle.run_laws.specs.Sofar.{Ran, Sofar, KeepsWhole, KeepsNames}
 use Rattle.run_laws.specs.Went.{Went, AreInOrder}
 use Rattle.run_laws.proofs.Texts.{joined-push}
@@ -86,7 +86,8 @@ module _ {B : Type 0} (old mid : World B) (found c : Cat) (at : State) (asked : 
 
 module _ {B : Type 0} (old mid new : World B) (found c : Cat) (at : State) (asked : List Asked) (begin : BeginsOn old found) (order : AreInOrder mid)
     (so : Sofar old mid found c at asked) (then : Went mid new)
-    (stay : KeepsWhole mid new c) (names : NoneSweeps old.source.left → KeepsNames mid new c) (a : Asked) (request : Request) (means : MeansRequest at a request) (step : RequestStep mid new at c (length asked + 1) request) where
+    (stay : KeepsWhole mid new c) (names : NoneSweeps old.source.left → KeepsNames mid new c) (a : Asked) (noted : NotesLine a.line mid new)
+    (request : Request) (means : MeansRequest at a request) (step : RequestStep mid new at c (length asked + 1) request) where
   abbrev h : Handled
   h = so.ran.handled
 
@@ -138,12 +139,15 @@ module _ {B : Type 0} (old mid new : World B) (found c : Cat) (at : State) (aske
         → OneOfRun found more old.sink.holds main sink
     images-more settled t main sink late main_left sink_left = by (cases_lt mid.moments t)
       where
+        mid_tells : IsTrue mid.main.tells
+        mid_tells = subst IsTrue (sym so.ran.went.main.tells) begin.main_tells
+
         by : (mid.moments < t) ⊎ (t ≤ mid.moments) → OneOfRun found more old.sink.holds main sink
         by (inl later) =
-            image-one found c h m step.d step.pieces (length asked + 1) one-more at (state-now old mid found at asked so.ran) so.no_rules no-rules so.of_run
+            image-one found c h m step.d step.pieces (length asked + 1) one-more at request means (state-now old mid found at asked so.ran) so.no_rules no-rules so.of_run
             (omega (arith, so.last, replies-many old mid found at asked so.ran)) so.grid step.marks_are (omega (arith, replies-many old mid found at asked so.ran))
-            old.sink.holds mid.sink.holds main sink (so.text tells)
-            (step.images (subst IsTrue (sym so.ran.went.main.tells) begin.main_tells) sink-mid (so.main_settled settled.disks.of_main) (so.sink_settled tells settled.of_sink) t main sink later main_left sink_left)
+            old.sink.holds mid.sink.holds main sink (so.text tells) (λ e stands. noted mid_tells (so.main_settled settled.disks.of_main) t main e later main_left stands)
+            (step.images mid_tells sink-mid (so.main_settled settled.disks.of_main) (so.sink_settled tells settled.of_sink) t main sink later main_left sink_left)
         by (inr early) =
             image-more found h m step.d step.pieces (reply_text (length asked + 1) step.d.reply step.pieces) one-more old.sink.holds main sink
             (so.ran.images tells settled t main sink late (then.main.earlier t main early main_left) (then.sink.earlier t sink early sink_left))
@@ -171,11 +175,11 @@ module _ {B : Type 0} (old mid new : World B) (found c : Cat) (at : State) (aske
 
   module _ (after : Cat) (end : State) (whole : IsHandledWhole mid new at c (length asked + 1) request step after end) where
     -- all replies are shown
-    pub text-more : IsTrue old.sink.tells → new.sink.holds ≡ old.sink.holds ++ joined_texts (replies_of more)
+    pub text-more : IsTrue old.sink.tells → new.sink.holds ≡ (old.sink.holds ++ whole_report found) ++ joined_texts (replies_of more)
     text-more tells =
         whole.text (sink-mid tells) ∙ ap (λ (t : Text). t ++ reply_text (length asked + 1) step.d.reply step.pieces) (so.text tells)
-        ∙ append_assoc old.sink.holds (joined_texts (replies_of h)) (reply_text (length asked + 1) step.d.reply step.pieces)
-        ∙ ap (λ (t : Text). old.sink.holds ++ t) (sym (ap joined_texts texts_are ∙ joined-push (replies_of h) (reply_text (length asked + 1) step.d.reply step.pieces)))
+        ∙ append_assoc (old.sink.holds ++ whole_report found) (joined_texts (replies_of h)) (reply_text (length asked + 1) step.d.reply step.pieces)
+        ∙ ap (λ (t : Text). (old.sink.holds ++ whole_report found) ++ t) (sym (ap joined_texts texts_are ∙ joined-push (replies_of h) (reply_text (length asked + 1) step.d.reply step.pieces)))
 
     pub of-run-more : IsOfRun found after
     of-run-more = by whole.follows

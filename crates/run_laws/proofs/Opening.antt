@@ -1,5 +1,5 @@
--- A run is begun over a catalogue without a pending command or rules.
-use Rattle.std.proofs.Common.{◌≡◌, inl, inr, ℕ, ◌<◌, [], None, Ok, IsTrue, refl, sym, ◌∙◌, subst, arith}
+-- A run is begun over a catalogue without rules, and without a pending command that has recoveries.
+use Rattle.std.proofs.Common.{◌≡◌, inl, inr, ℕ, ◌<◌, [], ◌++◌, take, drop, Ok, IsTrue, refl, sym, ◌∙◌, subst, take-append-drop, arith}
 use Rattle.std.proofs.lemmas.List.{append-nil}
 use Rattle.grid_outside.specs.Ambient.{AmbientState}
 use Rattle.grid_outside.specs.Device.{IsSettled}
@@ -19,16 +19,15 @@ use Rattle.grid_headline.specs.Numbers.{KeepsNumbers}
 use Rattle.grid_headline.specs.Served.{NoneSweeps}
 use Rattle.grid_headline.specs.Headline.{BeginsOn}
 use Rattle.grid_headline.proofs.PutStops.{the_catalogue}
-use Rattle.run_laws.specs.Handled.{none_handled, IsOfRun, OneOfRun, not_begun, in_run}
-use Rattle.run_laws.specs.Opening.{Opens, Opened}
+use Rattle.run_laws.specs.Handled.{none_handled, IsOfRun, OneOfRun, not_begun, in_run, whole_report}
+use Rattle.run_laws.specs.Opening.{OneOfOpening, Opens, Opened}
 use Rattle.run_laws.specs.Sofar.{run_begun, Ran, Sofar}
 use Rattle.run_laws.specs.Steps.{Gave}
 use Rattle.run_laws.specs.Went.{Rests, AreInOrder}
 use Rattle.run_laws.proofs.Lists.{all-map}
-use Rattle.run_laws.proofs.Goings.{files-rest, rests-settled}
+use Rattle.run_laws.proofs.Goings.{files-rest}
 use Rattle.run_laws.proofs.Causes.{caused-none}
 use Rattle.run_laws.proofs.Draws.{gave-none}
-use Rattle.run_laws.proofs.Images.{shows-all}
 
 -- what the disks stand for does not hang on spare
 any_spare : {main spare : Text} {c : Cat} → Stands main spare (Ok c) → StandsFor main c
@@ -64,12 +63,12 @@ module _ (found : Cat) where
   grid-begun : grid_of (run_begun found) ≡ grid_of found
   grid-begun = grid-same found (run_begun found) refl (grid_of found) refl
 
-  of-run-begun : found.pending ≡ None → found.rules ≡ [] → IsOfRun found (run_begun found)
-  of-run-begun pending rules = record { number = refl; rules = rules; none = pending; keeps = keeps_begun; stores = refl }
+  of-run-begun : found.rules ≡ [] → IsOfRun found (run_begun found)
+  of-run-begun rules = record { number = refl; rules = rules; none = refl; keeps = keeps_begun; stores = refl }
 
 -- ---- the world
 
-module _ {B : Type 0} (old now : World B) (found : Cat) (begin : BeginsOn old found) (order : AreInOrder old) (pending : found.pending ≡ None)
+module _ {B : Type 0} (old now : World B) (found : Cat) (begin : BeginsOn old found) (order : AreInOrder old)
     (rules : found.rules ≡ [])
     (opens : Opens old now found) where
   whole_found : (t : ℕ) → AllAreWhole old t found → AllAreWhole now t found
@@ -78,36 +77,40 @@ module _ {B : Type 0} (old now : World B) (found : Cat) (begin : BeginsOn old fo
   whole_begun : (t : ℕ) → AllAreWhole old t found → AllAreWhole now t (run_begun found)
   whole_begun t whole = record {
     rows = rows_begun found whole.rows;
-    call = whole.call;
+    call = tt;
     files = λ slot files left. files_begun found slot files (whole.files slot files (files-rest old now opens.went opens.stores t slot files left));
   }
 
   pub stay-whole : DisksAreSettled old → WereWhole old old.moments found → AllStayWhole now old.moments
-  stay-whole settled whole t main spare c late left its = by (opens.images settled.of_main t main late left.of_main)
+  stay-whole settled whole t main spare c late left its = by (opens.main settled.of_main t main late left.of_main)
     where
       by : StandsEither found (run_begun found) main → AllAreWhole now t c
       by (inl is) = subst (AllAreWhole now t) (sym (the_catalogue main spare found c (is spare) its)) (whole_found t (whole t late))
       by (inr is) = subst (AllAreWhole now t) (sym (the_catalogue main spare (run_begun found) c (is spare) its)) (whole_begun t (whole t late))
 
   pub stay-named : NoneSweeps old.source.left → IsSettled old.main → StayNamed now old.moments found
-  stay-named none settled t main c late left stands = by (opens.images settled t main late left)
+  stay-named none settled t main c late left stands = by (opens.main settled t main late left)
     where
       by : StandsEither found (run_begun found) main → KeepsNamed found c
       by (inl is) slot name one = let P : Cat → Type 0 = λ d. IsNamed d slot name in subst P (sym (the_catalogue main [] found c (is []) (stands []))) one
       by (inr is) slot name one = let P : Cat → Type 0 = λ d. IsNamed d slot name in
           subst P (sym (the_catalogue main [] (run_begun found) c (is []) (stands []))) (named_begun found slot name one)
 
+  abbrev report : Text
+  report = whole_report found
+
+  pub part_of : (count : ℕ) → report ++ [] ≡ take count report ++ drop count report
+  part_of count = append-nil report ∙ sym (take-append-drop count report)
+
   pub images-none : IsTrue old.sink.tells → AreSettled old → (t : ℕ) (main sink : Text) → old.moments < t → now.main.left t main → now.sink.left t sink
       → OneOfRun found none_handled old.sink.holds main sink
-  images-none tells settled t main sink late main_left sink_left = by (opens.images settled.disks.of_main t main late main_left)
+  images-none tells settled t main sink late main_left sink_left =
+      by (opens.images tells settled.disks.of_main settled.of_sink t main sink late main_left sink_left)
     where
-      same : sink ≡ old.sink.holds
-      same = settled.of_sink t sink (omega (arith, order.sink_last, late)) (opens.sink.left t sink sink_left)
-
-      by : StandsEither found (run_begun found) main → OneOfRun found none_handled old.sink.holds main sink
-      by (inl is) = not_begun is same
-      by (inr is) = in_run (run_begun found) [] [] is (same ∙ sym (append-nil old.sink.holds)) refl (record {
-        of_run = of-run-begun found pending rules;
+      by : OneOfOpening found old.sink.holds main sink → OneOfRun found none_handled old.sink.holds main sink
+      by (inl is) = not_begun is.0 is.1
+      by (inr is) = in_run (run_begun found) (take is.1.count report) (drop is.1.count report) is.0 is.1.is (part_of is.1.count) (record {
+        of_run = of-run-begun found rules;
         within = omega arith;
         near = omega arith;
         no_rules = refl;
@@ -125,7 +128,14 @@ module _ {B : Type 0} (old now : World B) (found : Cat) (begin : BeginsOn old fo
     told_of = tt;
     by_rows = tt;
     went = opens.went;
-    shown = λ tells. shows-all none_handled old.sink.holds now.sink.holds refl (opens.sink.holds tells ∙ sym (append-nil old.sink.holds));
+    shown = λ tells. (let adds = opens.shown tells in record {
+      part = take adds.count report;
+      more = drop adds.count report;
+      is = adds.is;
+      split = part_of adds.count;
+      report_first = λ some. absurd (omega (arith, some));
+      all_but_one = omega arith;
+    });
     caused = caused-none old now opens.went;
     gave = λ tells. (let P : AmbientState → Type 0 = λ s. IsTrue s.tells → Gave [] old.ambient s in subst P (sym opens.ambient) (gave-none old.ambient) tells);
     whole = stay-whole;
@@ -134,21 +144,21 @@ module _ {B : Type 0} (old now : World B) (found : Cat) (begin : BeginsOn old fo
   }
 
 -- it is begun
-pub sofar-none : {B : Type 0} (old now : World B) (found : Cat) → BeginsOn old found → AreInOrder old → found.pending ≡ None → found.rules ≡ []
+pub sofar-none : {B : Type 0} (old now : World B) (found : Cat) → BeginsOn old found → AreInOrder old → found.rules ≡ []
     → Opened old now found
     → Sofar old now found (run_begun found) (begins (grid_of found) []) []
-sofar-none old now found begin order pending rules opened = record {
-  ran = ran-none old now found begin order pending rules opened.opens;
+sofar-none old now found begin order rules opened = record {
+  ran = ran-none old now found begin order rules opened.opens;
   none_end = tt;
-  text = λ tells. opened.opens.sink.holds tells ∙ sym (append-nil old.sink.holds);
-  of_run = of-run-begun found pending rules;
+  text = λ tells. opened.text tells ∙ sym (append-nil (old.sink.holds ++ whole_report found));
+  of_run = of-run-begun found rules;
   last = omega arith;
   grid = grid-begun found;
   no_rules = refl;
   still = λ all. (opened.one, grid-begun found);
   stands = opened.stands;
   main_settled = opened.settled;
-  sink_settled = λ tells settled. rests-settled old.sink now.sink tells opened.opens.sink settled;
+  sink_settled = opened.sink_settled;
 }
 
 -- where main was not even called a stop leaves what was found

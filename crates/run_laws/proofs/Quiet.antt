@@ -1,5 +1,5 @@
 -- The requests that were handled, where nothing is seen of what came behind them, or the source alone was read.
-use Rattle.std.proofs.Common.{◌≡◌, ◌⊎◌, inl, inr, ℕ, ◌<◌, ◌≤◌, List, [], ◌-◌, length, take, slice_get, Option, None, IsTrue, sym, ap, ◌∙◌, subst, arith}
+use Rattle.std.proofs.Common.{◌≡◌, ◌⊎◌, inl, inr, ℕ, ◌<◌, ◌≤◌, List, [], ◌++◌, ◌-◌, length, take, slice_get, Option, None, IsTrue, sym, ap, ◌∙◌, subst, append_assoc, length-append, arith}
 use Rattle.std.specs.Prelude.{max}
 use Rattle.std.proofs.lemmas.Bool.{cases_lt}
 use Rattle.std.proofs.lemmas.List.{append-nil}
@@ -15,7 +15,7 @@ use Rattle.grid_headline.specs.Worlds.{World}
 use Rattle.grid_headline.specs.Files.{AreSettled}
 use Rattle.grid_headline.specs.Served.{NoneSweeps, joined_texts, whole_in, marks_of}
 use Rattle.grid_headline.specs.Headline.{BeginsOn}
-use Rattle.run_laws.specs.Handled.{Handled, replies_of, marks_within, reached_by, state_behind, IsBehindSome, OneOfRun, in_run}
+use Rattle.run_laws.specs.Handled.{Handled, replies_of, marks_within, reached_by, state_behind, IsBehindSome, OneOfRun, in_run, whole_report}
 use Rattle.run_laws.specs.Steps.{IsLike, Gave, IsQuiet}
 use Rattle.run_laws.specs.Sofar.{Ran, Sofar, KeepsWhole, KeepsNames}
 use Rattle.run_laws.specs.Went.{Went, AreInOrder}
@@ -34,6 +34,9 @@ module _ {B : Type 0} (old mid new : World B) (found c : Cat) (at : State) (aske
 
   abbrev bytes : ℕ
   bytes = length (joined_texts (replies_of h))
+
+  abbrev report : Text
+  report = whole_report found
 
   pub sink-mid : IsTrue old.sink.tells → IsTrue mid.sink.tells
   sink-mid tells = subst IsTrue (sym so.ran.went.sink.tells) tells
@@ -65,7 +68,9 @@ module _ {B : Type 0} (old mid new : World B) (found c : Cat) (at : State) (aske
       by (inl later) =
           let q = quiet.images (subst IsTrue (sym so.ran.went.main.tells) begin.main_tells) (sink-mid tells) (so.main_settled settled.disks.of_main)
           (so.sink_settled tells settled.of_sink) t main sink later main_left sink_left in
-          in_run q.0 (joined_texts (replies_of h)) [] q.2 (q.3 ∙ so.text tells) (sym (append-nil (joined_texts (replies_of h)))) (like_all q.0 q.1)
+          let behind : bytes ≡ length (report ++ joined_texts (replies_of h)) - length report = omega (arith, length-append report (joined_texts (replies_of h))) in
+          in_run q.0 (report ++ joined_texts (replies_of h)) [] q.2 (q.3 ∙ so.text tells ∙ append_assoc old.sink.holds report (joined_texts (replies_of h)))
+          (sym (append-nil (report ++ joined_texts (replies_of h)))) (subst (IsBehindSome found h q.0) behind (like_all q.0 q.1))
       by (inr early) = so.ran.images tells settled t main sink late (then.main.earlier t main early main_left) (then.sink.earlier t sink early sink_left)
 
   -- nothing is seen of what came behind
@@ -78,7 +83,7 @@ module _ {B : Type 0} (old mid new : World B) (found c : Cat) (at : State) (aske
     told_of = so.ran.told_of;
     by_rows = so.ran.by_rows;
     went = went-then old mid new so.ran.went then;
-    shown = λ tells. shows-all h old.sink.holds new.sink.holds (begun-many old mid found at asked so.ran ∙ sym (replies-many old mid found at asked so.ran))
+    shown = λ tells. shows-all report h old.sink.holds new.sink.holds (begun-many old mid found at asked so.ran ∙ sym (replies-many old mid found at asked so.ran))
         (quiet.sink (sink-mid tells) ∙ so.text tells);
     caused = caused-on old mid new (marks_of h.begun) then so.ran.caused;
     gave = λ tells. (let P : List Mark → Type 0 = λ ms. Gave ms old.ambient new.ambient in

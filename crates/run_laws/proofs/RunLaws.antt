@@ -16,7 +16,7 @@ use Rattle.grid_headline.specs.Headline.{Serves}
 use Rattle.run_laws.specs.Ends.{ReadsSo, StopsSo, IsGoodIfNoneFailed}
 use Rattle.run_laws.specs.Opening.{Opens, Opened}
 use Rattle.run_laws.specs.Sofar.{run_begun, BeginsPlainly, CallsGoOn, Sofar}
-use Rattle.run_laws.specs.Steps.{RequestStep, IsHandledWhole, IsQuiet}
+use Rattle.run_laws.specs.Steps.{NotesLine, RequestStep, IsHandledWhole, IsQuiet}
 use Rattle.run_laws.specs.Went.{AreInOrder}
 use Rattle.run_laws.proofs.More.{ran-more, no-rules, text-more, of-run-more, stands-more, still-more, sofar-more}
 use Rattle.run_laws.proofs.Opening.{ran-none, sofar-none}
@@ -28,7 +28,7 @@ use Rattle.run_laws.proofs.Runs.{serves}
 -- the run is begun
 pub none_yet : {B : Type 0} {old now : World B} {found : Cat} → BeginsPlainly old found → AreInOrder old → Opened old now found
     → Sofar old now found (run_begun found) (begins (grid_of found) []) []
-none_yet {old = old} {now = now} {found = found} plain order opened = sofar-none old now found plain.begin order plain.pending plain.rules opened
+none_yet {old = old} {now = now} {found = found} plain order opened = sofar-none old now found plain.begin order plain.rules opened
 
 -- the source alone was read
 pub read_on : {B : Type 0} {old now : World B} {found c : Cat} {at : State} {asked : List Asked} (source : SourceState) → Sofar old now found c at asked
@@ -38,10 +38,11 @@ read_on {old = old} {now = now} {found = found} {c = c} {at = at} {asked = asked
 -- one more request was handled whole, which does not end the input
 pub one_more : {B : Type 0} {old mid new : World B} {found c after : Cat} {at end : State} {asked : List Asked} {a : Asked} {request : Request}
     → BeginsPlainly old found
-    → Sofar old mid found c at asked → CallsGoOn old.source.left mid new c → MeansRequest at a request → ¬ EndsInput a → (step : RequestStep mid new at c (length asked + 1) request)
+    → Sofar old mid found c at asked → CallsGoOn old.source.left mid new c → NotesLine a.line mid new → MeansRequest at a request → ¬ EndsInput a
+    → (step : RequestStep mid new at c (length asked + 1) request)
     → IsHandledWhole mid new at c (length asked + 1) request step after end → Sofar old new found after end (asked ++ a ∷ [])
-one_more {old = old} {mid = mid} {new = new} {found = found} {c = c} {after = after} {at = at} {end = end} {asked = asked} {a = a} {request = request} plain so goes means more step whole =
-    sofar-more old mid new found c at asked plain.begin goes.order so goes.went goes.whole goes.names a request means step after end whole more
+one_more {old = old} {mid = mid} {new = new} {found = found} {c = c} {after = after} {at = at} {end = end} {asked = asked} {a = a} {request = request} plain so goes noted means more step whole =
+    sofar-more old mid new found c at asked plain.begin goes.order so goes.went goes.whole goes.names a noted request means step after end whole more
 
 -- ---- how it ends
 
@@ -61,7 +62,7 @@ end-behind (x ∷ y ∷ more) a none = (none.0, end-behind (y ∷ more) a none.1
 pub ends_before : {B : Type 0} {old now : World B} {found : Cat} {end : RunEnd} → BeginsPlainly old found → AreInOrder old → Opens old now found
     → StopsSo old now found (begins (grid_of found) []) [] end → IsGoodIfNoneFailed old now end → Serves old now found end
 ends_before {old = old} {now = now} {found = found} {end = end} plain order opens stops good =
-    serves old now found (begins (grid_of found) []) [] plain.pending plain.rules (ran-none old now found plain.begin order plain.pending plain.rules opens)
+    serves old now found (begins (grid_of found) []) [] plain.pending plain.rules (ran-none old now found plain.begin order plain.rules opens)
     (inl (old.source.left, none_taken)) tt end (inr stops) good
 
 -- the input was read, and all is answered
@@ -88,13 +89,14 @@ ends_quiet {old = old} {mid = mid} {new = new} {found = found} {c = c} {at = at}
 
 module _ {B : Type 0} {old mid new : World B} {found c : Cat} {at : State} {asked : List Asked} {a : Asked} {request : Request} {end : RunEnd}
     (plain : BeginsPlainly old found)
-    (so : Sofar old mid found c at asked) (goes : CallsGoOn old.source.left mid new c) (means : MeansRequest at a request) (step : RequestStep mid new at c (length asked + 1) request)
+    (so : Sofar old mid found c at asked) (goes : CallsGoOn old.source.left mid new c) (noted : NotesLine a.line mid new)
+    (means : MeansRequest at a request) (step : RequestStep mid new at c (length asked + 1) request)
     (first : BeginsWithRequests old.source.left (asked ++ a ∷ [])) where
   -- something ran out or failed in a request, which was begun and may not be shown whole
   pub ends_within : StopsSo old new found step.d.state (asked ++ a ∷ []) end → IsGoodIfNoneFailed old new end → Serves old new found end
   ends_within stops good =
       serves old new found step.d.state (asked ++ a ∷ []) plain.pending plain.rules
-      (ran-more old mid new found c at asked plain.begin goes.order so goes.went goes.whole goes.names a request means step) first (end-behind asked a so.none_end) end (inr stops) good
+      (ran-more old mid new found c at asked plain.begin goes.order so goes.went goes.whole goes.names a noted request means step) first (end-behind asked a so.none_end) end (inr stops) good
 
   -- the input ended with a request, which was handled whole
   pub ends_with : {after : Cat} {left : State} → IsHandledWhole mid new at c (length asked + 1) request step after left
@@ -102,16 +104,16 @@ module _ {B : Type 0} {old mid new : World B} {found c : Cat} {at : State} {aske
       → IsGoodIfNoneFailed old new end → Serves old new found end
   ends_with {after = after} {left = left} whole reads good =
       serves old new found step.d.state (asked ++ a ∷ []) plain.pending plain.rules
-      (ran-more old mid new found c at asked plain.begin goes.order so goes.went goes.whole goes.names a request means step) first (end-behind asked a so.none_end) end
+      (ran-more old mid new found c at asked plain.begin goes.order so goes.went goes.whole goes.names a noted request means step) first (end-behind asked a so.none_end) end
       (inl (
         record {
-          text = text-more old mid new found c at asked plain.begin goes.order so goes.went goes.whole goes.names a request means step after left whole;
+          text = text-more old mid new found c at asked plain.begin goes.order so goes.went goes.whole goes.names a noted request means step after left whole;
           cat = after;
-          stands = stands-more old mid new found c at asked plain.begin goes.order so goes.went goes.whole goes.names a request means step after left whole;
-          of_run = of-run-more old mid new found c at asked plain.begin goes.order so goes.went goes.whole goes.names a request means step after left whole;
+          stands = stands-more old mid new found c at asked plain.begin goes.order so goes.went goes.whole goes.names a noted request means step after left whole;
+          of_run = of-run-more old mid new found c at asked plain.begin goes.order so goes.went goes.whole goes.names a noted request means step after left whole;
           grid = whole.grid ∙ ap (λ (s : State). s.grid) (sym whole.state);
-          no_rules = no-rules old mid new found c at asked plain.begin goes.order so goes.went goes.whole goes.names a request means step;
-          still = λ all. (still-more old mid new found c at asked plain.begin goes.order so goes.went goes.whole goes.names a request means step after left whole all).0;
+          no_rules = no-rules old mid new found c at asked plain.begin goes.order so goes.went goes.whole goes.names a noted request means step;
+          still = λ all. (still-more old mid new found c at asked plain.begin goes.order so goes.went goes.whole goes.names a noted request means step after left whole all).0;
         },
         reads,
       )) good

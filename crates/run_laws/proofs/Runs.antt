@@ -1,7 +1,8 @@
--- Requests that were handled over a catalogue without a pending command or rules are a run, of which all that is promised holds.
-use Rattle.std.proofs.Common.{◌≡◌, ◌⊎◌, inl, inr, ℕ, ◌-◌, List, [], ◌∷◌, ◌++◌, length, take, slice_get, Option, Some, None, Ok, IsTrue, refl, sym, ap, ◌∙◌, subst, arith}
+-- Requests that were handled over a catalogue without rules, and without a pending command that has recoveries, are a run, of which all that
+-- is promised holds.
+use Rattle.std.proofs.Common.{◌≡◌, ◌⊎◌, inl, inr, ℕ, ◌+◌, ◌-◌, List, [], ◌∷◌, ◌++◌, length, take, drop, slice_get, Option, Some, None, Ok, IsTrue, refl, sym, ap, ◌∙◌, subst, append_assoc, length-append, take-append-drop, arith}
 use Rattle.std.specs.Prelude.{◌≢◌, max}
-use Rattle.std.proofs.lemmas.List.{append-nil, take_all, nil_from_length}
+use Rattle.std.proofs.lemmas.List.{length-take, length-take-le, take_all, drop_all, nil_from_length}
 use Rattle.grid_outside.specs.declared.outside.Wear.{Wear}
 use Rattle.grid_outside.specs.declared.outside.Wear.TheVariants as wear
 use Rattle.grid_model.specs.Names.{Text}
@@ -11,24 +12,32 @@ use Rattle.grid_model.specs.Inputs.{Asked}
 use Rattle.grid_model.specs.Orders.{Order, works, closes}
 use Rattle.grid_model.specs.Operations.Table.{put, repl}
 use Rattle.grid_model.specs.Sessions.{State}
-use Rattle.grid_model.specs.Runs.{Marked}
+use Rattle.grid_model.specs.Meanings.{gives}
+use Rattle.grid_model.specs.Reopening.{Unwound, reopened_by}
+use Rattle.grid_model.specs.Runs.{Marked, Request}
+use Rattle.grid_model.specs.Whole.{Names, Naming, by_replica, by_orphan}
+use Rattle.grid_model.specs.Completing.{AreClean}
+use Rattle.grid_model.specs.declared.calls.Call.{Call}
+use Rattle.grid_model.specs.declared.deltas.Pending.{Pending}
 use Rattle.grid_model.specs.declared.marks.Mark.{Mark}
 use Rattle.grid_model.specs.declared.marks.Mark.TheVariants.{Stop}
 use Rattle.grid_model.specs.declared.marks.Mark.TheVariants as mark
 use Rattle.rule_parse.specs.Printed.{print_rules}
+use Rattle.tables_laws.proofs.Grids.{grid-same}
 use Rattle.grid_headline.specs.Worlds.{World, DevicesImage}
 use Rattle.grid_headline.specs.Reads.{MeansRequest, EndsInputLast}
-use Rattle.grid_headline.specs.Served.{Run, BeginsWithRequests, joined_texts, asked_of, marks_of, whole_in, run_text, acknowledged, told_marks, first_marks, state_at}
+use Rattle.grid_headline.specs.Served.{Run, BeginsWithRequests, joined_texts, asked_of, marks_of, whole_in, acknowledged, front_of, report_back, told_marks, told_of, first_marks, state_at}
 use Rattle.grid_headline.specs.Served as served
-use Rattle.grid_headline.specs.Stops.{OneImage, IsAtState, KeepsTold, KeepsReport}
+use Rattle.grid_headline.specs.Stops.{AreFirst, OneImage, IsAtState, IsInterrupted, IsSame, KeepsTold, KeepsReport}
+use Rattle.grid_headline.specs.Numbers.{KeepsNumbers}
 use Rattle.grid_headline.specs.Files.{IsKnown, IsOfUnknown, DisksAreSettled, WereWhole}
 use Rattle.grid_headline.specs.Causes.{NoneFailed, AllTell}
-use Rattle.grid_headline.specs.Draws.{DrawsMarks, word_of, time_of}
+use Rattle.grid_headline.specs.Draws.{DrawsMarks, AreSomeOf, word_of, time_of, told_words, times_of, kept_count}
 use Rattle.grid_headline.specs.Ends.{RunEnd, read_all, source_failed, too_long, worn, no_memory, disk_failed, sink_failed, SaysOfEnd, AnswersAll, Needs, MakesFiles}
 use Rattle.grid_headline.specs.Headline.{Shows, Completes, Serves, IsGoodEnd}
-use Rattle.run_laws.specs.Handled.{replies_of, OneOfRun, not_begun, in_run}
+use Rattle.run_laws.specs.Handled.{replies_of, HasNoRecovery, WaitsBehind, OneOfRun, not_begun, in_run, in_deed_of_run, passed_of, report_begun, whole_report}
 use Rattle.run_laws.specs.Handled as handled
-use Rattle.run_laws.specs.Steps.{IsToldOf}
+use Rattle.run_laws.specs.Steps.{IsToldOf, in_deed, with_deed}
 use Rattle.run_laws.specs.Sofar.{Ran}
 use Rattle.run_laws.specs.Ends.{ReadsSo, IsAnswered, MakesFile, NeedsSo, StopsSo, IsGoodIfNoneFailed}
 use Rattle.run_laws.proofs.Lists.{all-map, after-length, state-all}
@@ -54,17 +63,49 @@ makes_files run old new (works (repl p r) count) makes = tt
 makes_files run old new closes makes = tt
 makes_files run old new other makes = absurd makes
 
+-- ---- a pending command without recoveries
+
+-- no front of these marks and a stop goes on behind them
+drop-front : (n : ℕ) (ms : List Mark) → drop (length ms + 1) (take n (ms ++ Stop ∷ [])) ≡ []
+drop-front n ms = drop_all (length ms + 1) (take n (ms ++ Stop ∷ [])) (omega (arith, length-take n (ms ++ Stop ∷ []), length-append ms (Stop ∷ [])))
+
+abbrev without_recoveries : Option Pending → Option Pending
+without_recoveries None = None
+without_recoveries (Some p) = Some (record p { undo = [] })
+
+-- opening the catalogue again leaves its grid
+abbrev opened_without : Cat → Option Pending → Unwound
+opened_without c o = record { grid = grid_of c; passed = passed_of (without_recoveries o); left = [] }
+
+reopened_without : (c : Cat) (o : Option Pending) → reopened_by c (without_recoveries o) [] ≡ gives (opened_without c o)
+reopened_without c None = refl
+reopened_without c (Some p) = refl
+
+-- ---- a command in its first deed
+
+-- it is pending and all else is as before
+module _ (rows : Cat) (n user : ℕ) (text : Text) (call : Call) where
+  deed_grid : grid_of (with_deed rows n user text call) ≡ grid_of rows
+  deed_grid = grid-same rows (with_deed rows n user text call) refl (grid_of rows) refl
+
+  deed_names : (slot name : ℕ) (row : Naming) → Names (with_deed rows n user text call) slot name row → Names rows slot name row
+  deed_names slot name (by_replica r) its = its
+  deed_names slot name (by_orphan o) its = its
+
+  deed_keeps : (found : Cat) → KeepsNumbers found rows → KeepsNumbers found (with_deed rows n user text call)
+  deed_keeps found keeps = record { rises = keeps.rises; names = λ slot name row low its. keeps.names slot name row low (deed_names slot name row its) }
+
 module _ {B : Type 0} (old new : World B) (base : Cat) (at : State) (asked : List Asked) where
-  -- nothing is pending, and there are no rules
+  -- nothing that is pending has recoveries, and there are no rules
   abbrev found : Cat
-  found = record base { pending = None; rules = [] }
+  found = record base { pending = without_recoveries base.pending; rules = [] }
 
   module _ (ran : Ran old new found at asked) (first : BeginsWithRequests old.source.left asked) (end_last : EndsInputLast asked) where
     abbrev run : Run (IsKnown old found) found old.source.left
     run = record {
       report = [];
-      opened = record { grid = grid_of found; passed = []; left = [] };
-      opened_is = refl;
+      opened = opened_without found base.pending;
+      opened_is = reopened_without found base.pending;
       opened_all = refl;
       rules = [];
       rules_are = refl;
@@ -81,14 +122,22 @@ module _ {B : Type 0} (old new : World B) (base : Cat) (at : State) (asked : Lis
 
     -- ---- what is shown
 
-    acknowledged_is : (count : ℕ) → acknowledged run count ≡ whole_in (replies_of ran.handled) count
-    acknowledged_is count = let e : count - 0 ≡ count = omega arith in ap (whole_in (replies_of ran.handled)) e
+    abbrev report : Text
+    report = whole_report found
+
+    acknowledged_is : (count : ℕ) → acknowledged run count ≡ whole_in (replies_of ran.handled) (count - length report)
+    acknowledged_is count = refl
 
     first_at : (m : Option Marked) (ts : Option (List Text)) (count : ℕ) → AreFirstAt (first_marks run m ts count) m
     first_at None None count = tt
     first_at None (Some ts) count = tt
     first_at (Some m) None count = (0, refl)
     first_at (Some m) (Some ts) count = (whole_in ts count, refl)
+
+    -- the report has no mark of this run
+    none_of_report : (o : Option Pending) (count : ℕ) → drop (kept_count o) (told_of run o count) ≡ []
+    none_of_report None count = refl
+    none_of_report (Some p) count = drop-front (whole_in (front_of run) count - 1) p.marks
 
     module _ (count : ℕ) where
       abbrev n : ℕ
@@ -103,16 +152,18 @@ module _ {B : Type 0} (old new : World B) (base : Cat) (at : State) (asked : Lis
           let front = front-shown ran.handled.begun (told_marks run n count) n first_told in
           let words = words-shown (told_marks run n count) n ran.after first_told in
           let all = marks_of (shown ran.handled.begun (told_marks run n count) n) in
+          let none = none_of_report found.pending count in
           record {
             told = g.told;
             times = g.times;
             times_are = g.times_are;
-            times_told = some-of (some-front time_of all (marks_of ran.handled.begun) front) g.times_told;
+            times_told = subst (λ (ms : List Mark). AreSomeOf (times_of (ms ++ all)) g.times) (sym none) (some-of (some-front time_of all (marks_of ran.handled.begun) front) g.times_told);
             words = g.words;
             words_are = g.words_are;
             of_requests = words.words;
             have = words.have;
-            words_told = some-of words.in_all (some-of (some-front word_of all (marks_of ran.handled.begun) front) g.words_told);
+            words_told = subst (λ (ms : List Mark). AreSomeOf (told_words ms ++ words.words.words) g.words) (sym none)
+                (some-of words.in_all (some-of (some-front word_of all (marks_of ran.handled.begun) front) g.words_told));
           }
 
     shows : IsTrue old.sink.tells → Shows old new run
@@ -123,7 +174,7 @@ module _ {B : Type 0} (old new : World B) (base : Cat) (at : State) (asked : Lis
           more = s.more;
           sink = s.is;
           split = s.split;
-          report_first = λ some. omega arith;
+          report_first = s.report_first;
           all_but_one = omega (arith, s.all_but_one, acknowledged_is (length s.part));
           drawn = draws (length s.part);
         }
@@ -138,7 +189,8 @@ module _ {B : Type 0} (old new : World B) (base : Cat) (at : State) (asked : Lis
         let front = front-shown ran.handled.begun (told_marks run (n count) count) (n count) (first_told count) in
         record {
           good_end = good;
-          clean = clean-prefix (marks_of (shown ran.handled.begun (told_marks run (n count) count) (n count))) front.rest (marks_of ran.handled.begun) front.is all;
+          clean = subst (λ (ms : List Mark). AreClean (ms ++ marks_of (shown ran.handled.begun (told_marks run (n count) count) (n count)))) (sym (none_of_report found.pending count))
+              (clean-prefix (marks_of (shown ran.handled.begun (told_marks run (n count) count) (n count))) front.rest (marks_of ran.handled.begun) front.is all);
           by_rows = by_rows-first (n count) ran.handled.begun ran.handled.done (after-length ran.after) ran.by_rows all;
         }
 
@@ -150,27 +202,96 @@ module _ {B : Type 0} (old new : World B) (base : Cat) (at : State) (asked : Lis
     same_first (Some m) None count = refl
     same_first (Some m) (Some ts) count = refl
 
-    same_told : (k count : ℕ) → told_marks run k count ≡ handled.told_within ran.handled k count
-    same_told k count = same_first (slice_get ran.handled.begun k) (slice_get ran.handled.pieces k) (count - length (served.text_before run k))
+    same_told : (k count : ℕ) → told_marks run k count ≡ handled.told_within ran.handled k (count - length report)
+    same_told k count =
+        let before = joined_texts (take k (replies_of ran.handled)) in
+        let e : count - length (report ++ before) ≡ count - length report - length before = omega (arith, length-append report before) in
+        same_first (slice_get ran.handled.begun k) (slice_get ran.handled.pieces k) (count - length (served.text_before run k))
+        ∙ ap (handled.marks_within (slice_get ran.handled.begun k) (slice_get ran.handled.pieces k)) e
+
+    -- what was pending is so still, and what is told of it is kept
+    same_pending : (o : Option Pending) → IsSame run found o o
+    same_pending None = refl
+    same_pending (Some p) = record {
+      of_run = refl;
+      number = refl;
+      line = refl;
+      user = refl;
+      d = [];
+      kept = refl;
+      same = λ w. refl;
+      of_report = record { rest = Stop ∷ []; are = refl };
+    }
+
+    keeps_report : (o : Option Pending) (count : ℕ) → KeepsReport run found (told_of run o count) o
+    keeps_report None count = tt
+    keeps_report (Some p) count = λ e.
+        let k = whole_in (front_of run) count - 1 in
+        record { rest = drop k (p.marks ++ Stop ∷ []); are = sym (take-append-drop k (p.marks ++ Stop ∷ [])) }
+
+    -- the report, up to where the run is begun and behind that, and the replies
+    abbrev begun : Text
+    begun = report_begun found
+
+    abbrev behind : Text
+    behind = report_back found.pending (passed_of found.pending)
+
+    abbrev replies : Text
+    replies = joined_texts (replies_of ran.handled)
+
+    -- a request that waits in its first deed was interrupted there
+    interrupted : (rows : Cat) (k user : ℕ) (text : Text) (call : Call) → WaitsBehind found ran.handled rows k user text call
+        → grid_of rows ≡ (state_at run k).grid
+        → IsInterrupted run (with_deed rows (k + 1) user text call) (in_deed rows.numbers.run (k + 1) user text call) k
+    interrupted rows k user text call behind grid =
+        let waits = behind.waits_in in
+        record {
+          of_run = refl;
+          number = refl;
+          next = behind.next;
+          is_next = behind.is_next;
+          line = behind.line_is;
+          session = waits.session;
+          order = waits.order;
+          asks = subst (λ (x : Request). MeansRequest (state_at run k) behind.next.asked x) waits.is behind.means;
+          of = waits.of;
+          logged_in = waits.logged_in;
+          user = waits.name;
+          waiting = record { call = call; grid = (state_at run k).grid; taken = []; passed = []; undo = [] };
+          waits_there = waits.waits_there;
+          running = refl;
+          grid = deed_grid rows (k + 1) user text call ∙ grid;
+          taken = refl;
+          passed = refl;
+          undo = refl;
+          kept = record { rest = behind.next.marks; are = refl };
+        }
 
     image : (i : DevicesImage) → OneOfRun found ran.handled old.sink.holds i.main i.sink → OneImage run old.sink.holds i
-    image i (not_begun stands is) = record {
+    image i (not_begun stands adds) = record {
       cat = found;
       stands = stands i.spare;
-      part = [];
-      more = run_text run;
-      sink = is ∙ sym (append-nil old.sink.holds);
-      split = refl;
-      on_the_way = inl (record { number = refl; rules = refl; same = refl; shown = omega arith });
-      told = record { of_request = λ e. absurd (omega (arith, e)); of_report = tt };
+      part = take adds.count begun;
+      more = drop adds.count begun ++ (behind ++ replies);
+      sink = adds.is;
+      split = append_assoc begun behind replies ∙ ap (λ (t : Text). t ++ (behind ++ replies)) (sym (take-append-drop adds.count begun))
+          ∙ append_assoc (take adds.count begun) (drop adds.count begun) (behind ++ replies);
+      on_the_way = inl (record {
+        number = refl;
+        rules = refl;
+        same = same_pending found.pending;
+        shown = omega (arith, length-take-le adds.count begun adds.within);
+      });
+      told = record { of_request = λ e. absurd (omega (arith, e)); of_report = keeps_report found.pending (length (take adds.count begun)) };
       numbers = record { rises = omega arith; names = λ slot name row less h. (row, h) };
       stores = refl;
     }
     image i (in_run c part more stands is split b) =
         let count = length part in
-        let a : acknowledged run count ≡ whole_in (replies_of ran.handled) count = acknowledged_is count in
-        let r : served.reached run c count ≡ handled.reached_by found ran.handled c count = ap (λ k. max k c.numbers.last) a in
-        let s : (state_at run (served.reached run c count)) ≡ handled.state_behind found ran.handled (handled.reached_by found ran.handled c count) = ap (state_at run) r in
+        let own = count - length report in
+        let a : acknowledged run count ≡ whole_in (replies_of ran.handled) own = acknowledged_is count in
+        let r : served.reached run c count ≡ handled.reached_by found ran.handled c own = ap (λ k. max k c.numbers.last) a in
+        let s : (state_at run (served.reached run c count)) ≡ handled.state_behind found ran.handled (handled.reached_by found ran.handled c own) = ap (state_at run) r in
         record {
           cat = c;
           stands = stands i.spare;
@@ -187,10 +308,43 @@ module _ {B : Type 0} (old new : World B) (base : Cat) (at : State) (asked : Lis
           });
           told = record {
             of_request = λ e. subst (KeepsTold run (told_marks run (n count) count) (n count) c.numbers.last) (sym b.of_run.none)
-                (λ less. same_told (n count) count ∙ ap (λ k. handled.told_within ran.handled k count) a ∙ b.untold (omega (arith, less, a)));
-            of_report = subst (KeepsReport run c []) (sym b.of_run.none) tt;
+                (λ less. same_told (n count) count ∙ ap (λ k. handled.told_within ran.handled k own) a ∙ b.untold (omega (arith, less, a)));
+            of_report = subst (KeepsReport run c (told_of run found.pending count)) (sym b.of_run.none) tt;
           };
           numbers = b.of_run.keeps;
+          stores = b.of_run.stores;
+        }
+    image i (in_deed_of_run rows k user text call part more stands is split b reached waits) =
+        let count = length part in
+        let own = count - length report in
+        let c = with_deed rows (k + 1) user text call in
+        let a : acknowledged run count ≡ whole_in (replies_of ran.handled) own = acknowledged_is count in
+        let r : served.reached run c count ≡ k = ap (λ j. max j rows.numbers.last) a ∙ reached in
+        let s : state_at run k ≡ handled.state_behind found ran.handled (handled.reached_by found ran.handled rows own) = ap (state_at run) (sym reached) in
+        let most : max (whole_in (replies_of ran.handled) own) rows.numbers.last ≡ k = reached in
+        record {
+          cat = c;
+          stands = stands i.spare;
+          part = part;
+          more = more;
+          sink = is;
+          split = split;
+          on_the_way = inr (record {
+            number = b.of_run.number;
+            within = omega (arith, b.within, r, reached);
+            near = omega (arith, b.near, a);
+            rules = b.of_run.rules ∙ sym (ap (λ j. print_rules (state_at run j).rules) r ∙ ap (λ (x : State). print_rules x.rules) s ∙ ap print_rules b.no_rules);
+            at = subst (IsInterrupted run c (in_deed rows.numbers.run (k + 1) user text call)) (sym r)
+                (interrupted rows k user text call waits (b.grid ∙ ap (λ (x : State). x.grid) (sym s)));
+          });
+          told = record {
+            of_request = λ e same.
+                let none : told_marks run (n count) count ≡ [] =
+                same_told (n count) count ∙ ap (λ j. handled.told_within ran.handled j own) a ∙ b.untold (omega (arith, most, same, a)) in
+                subst (λ (ms : List Mark). AreFirst ms []) (sym none) (record { rest = []; are = refl });
+            of_report = λ e. absurd (omega (arith, e, b.of_run.number));
+          };
+          numbers = deed_keeps rows (k + 1) user text call found b.of_run.keeps;
           stores = b.of_run.stores;
         }
 
@@ -198,7 +352,7 @@ module _ {B : Type 0} (old new : World B) (base : Cat) (at : State) (asked : Lis
 
     answers : IsAnswered old new found at ran.handled → AnswersAll run old new
     answers all = record {
-      text = all.text;
+      text = λ tells. all.text tells ∙ append_assoc old.sink.holds report replies;
       stand = record {
         cat = all.cat;
         stands = all.stands new.spare.holds;
@@ -265,7 +419,7 @@ module _ {B : Type 0} (old new : World B) (base : Cat) (at : State) (asked : Lis
     }
 
 -- All that is promised of a run.
-pub serves : {B : Type 0} (old new : World B) (found : Cat) (at : State) (asked : List Asked) → found.pending ≡ None → found.rules ≡ []
+pub serves : {B : Type 0} (old new : World B) (found : Cat) (at : State) (asked : List Asked) → HasNoRecovery found.pending → found.rules ≡ []
     → (ran : Ran old new found at asked)
     → BeginsWithRequests old.source.left asked → EndsInputLast asked → (end : RunEnd)
     → (IsAnswered old new found at ran.handled × ReadsSo asked old.source new.source end) ⊎ StopsSo old new found at asked end
@@ -277,5 +431,9 @@ serves {B = B} old new found at asked pending rules = subst Promised same (λ ra
         → (IsAnswered old new f at ran.handled × ReadsSo asked old.source new.source end) ⊎ StopsSo old new f at asked end
         → IsGoodIfNoneFailed old new end → Serves old new f end
 
-    same : record found { pending = None; rules = [] } ≡ found
-    same i = record found { pending = sym pending i; rules = sym rules i }
+    as_found : (o : Option Pending) → HasNoRecovery o → without_recoveries o ≡ o
+    as_found None none = refl
+    as_found (Some p) none = λ i. Some (record p { undo = sym none i })
+
+    same : record found { pending = without_recoveries found.pending; rules = [] } ≡ found
+    same i = record found { pending = as_found found.pending pending i; rules = sym rules i }

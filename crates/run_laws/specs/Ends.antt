@@ -18,7 +18,7 @@ use Rattle.grid_headline.specs.Served.{BeginsWithRequests, joined_texts}
 use Rattle.grid_headline.specs.Ends.{RunEnd, read_all, source_failed, too_long, worn, no_memory, disk_failed, sink_failed}
 use Rattle.grid_headline.specs.Ends.{EndsInRequest, EndsAtEnd, ReadsEnded, ReadsMost, HasRunOut, AllStill, HasOneMore}
 use Rattle.grid_headline.specs.Headline.{IsGoodEnd}
-use Rattle.run_laws.specs.Handled.{Handled, replies_of, IsOfRun}
+use Rattle.run_laws.specs.Handled.{Handled, replies_of, IsOfRun, whole_report}
 
 -- ---- the input was read
 
@@ -29,9 +29,9 @@ ReadsSo asked from to source_failed = ReadsEnded asked from to
 ReadsSo asked from to (too_long taken) = ReadsMost asked from to × (taken ≡ 2 ^ 48 + 1)
 ReadsSo asked from to other = ⊥
 
--- All replies are shown, and main stands for what the requests left.
+-- The report and all replies are shown, and main stands for what the requests left.
 pub record IsAnswered {B : Type 0} (old new : World B) (found : Cat) (at : State) (h : Handled) : Type 0 where
-  pub text : IsTrue old.sink.tells → new.sink.holds ≡ old.sink.holds ++ joined_texts (replies_of h)
+  pub text : IsTrue old.sink.tells → new.sink.holds ≡ (old.sink.holds ++ whole_report found) ++ joined_texts (replies_of h)
   pub cat : Cat
   pub stands : StandsFor new.main.holds cat
   pub of_run : IsOfRun found cat

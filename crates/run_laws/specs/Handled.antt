@@ -1,16 +1,22 @@
 -- Requests of a run that were handled, and what a stop leaves of main and the sink while they are.
 use Rattle.std.specs.Prelude.{◌≡◌, ℕ, ◌+◌, ◌-◌, ◌<◌, ◌≤◌, max, List, [], ◌∷◌, ◌++◌, Option, Some, None, length, take, slice_get}
+use Rattle.grid_outside.specs.Sink.{AddsPart}
 use Rattle.grid_model.specs.Names.{Text}
 use Rattle.grid_model.specs.Rows.{Cat}
 use Rattle.grid_model.specs.RowGrids.{grid_of}
 use Rattle.grid_model.specs.Beginning.{begins}
 use Rattle.grid_model.specs.Sessions.{State}
 use Rattle.grid_model.specs.Working.{Done}
-use Rattle.grid_model.specs.Runs.{Marked, state_after}
+use Rattle.grid_model.specs.Runs.{Marked, Request, state_after}
+use Rattle.grid_model.specs.declared.calls.Call.{Call}
+use Rattle.grid_model.specs.declared.deltas.Pending.{Pending}
 use Rattle.grid_model.specs.declared.marks.Mark.{Mark}
+use Rattle.grid_model.specs.declared.replies.Passed.{Passed}
 use Rattle.grid_journal.specs.Stands.{StandsFor}
-use Rattle.grid_headline.specs.Served.{joined_texts, reply_texts, whole_in}
+use Rattle.grid_headline.specs.Served.{joined_texts, reply_texts, report_front, report_back, whole_in}
 use Rattle.grid_headline.specs.Numbers.{KeepsNumbers}
+use Rattle.grid_headline.specs.Reads.{MeansRequest}
+use Rattle.run_laws.specs.Steps.{WaitsIn, with_deed}
 
 -- requests with their marks, what each did, and the texts of its marks
 pub record Handled : Type 0 where
@@ -39,6 +45,28 @@ marks_within m ts count = []
 abbrev pub told_within : Handled → ℕ → ℕ → List Mark
 told_within h n count = marks_within (slice_get h.begun n) (slice_get h.pieces n) (count - length (joined_texts (take n (replies_of h))))
 
+-- ---- the report
+
+-- the recoveries of a command that were refused
+abbrev pub passed_of : Option Pending → List Passed
+passed_of None = []
+passed_of (Some p) = p.passed
+
+-- what is told of the pending command before the run is begun: the marks that were kept, and that it was stopped
+abbrev pub report_begun : Cat → Text
+report_begun found = joined_texts (report_front found.pending [])
+
+-- the whole report of a pending command without recoveries; where none is pending there is none
+abbrev pub whole_report : Cat → Text
+whole_report found = report_begun found ++ report_back found.pending (passed_of found.pending)
+
+-- a pending command has no recoveries that are still to be run
+abbrev pub HasNoRecovery : Option Pending → Type 0
+HasNoRecovery None = Unit {0}
+HasNoRecovery (Some p) = p.undo ≡ []
+
+-- ---- catalogues and images
+
 -- what the catalogues of a run that was begun have in common
 pub record IsOfRun (found c : Cat) : Type 0 where
   pub number : c.numbers.run ≡ found.numbers.run + 1
@@ -66,18 +94,34 @@ module _ (found : Cat) (h : Handled) where
     -- no mark of a request that is not done is told
     pub untold : c.numbers.last < whole_in (replies_of h) count + 1 → told_within h (whole_in (replies_of h) count) count ≡ []
 
-  -- What a stop leaves of main, and of the sink that had these bytes before: main stands for what was found and nothing is shown, or it
-  -- stands for a catalogue of the run and a front of the replies is shown.
-  pub data OneOfRun (old_sink main sink : Text) : Type 0 where
-    not_begun : StandsFor main found → sink ≡ old_sink → OneOfRun old_sink main sink
-    in_run : (c : Cat) (part more : Text) → StandsFor main c → sink ≡ old_sink ++ part → joined_texts (replies_of h) ≡ part ++ more
-        → IsBehindSome c (length part)
-        → OneOfRun old_sink main sink
+  -- The request behind the first n ones waits in this call, before it has told a mark.
+  pub record WaitsBehind (rows : Cat) (n user : ℕ) (line : Text) (call : Call) : Type 0 where
+    pub next : Marked
+    pub is_next : slice_get h.begun n ≡ Some next
+    pub line_is : line ≡ next.asked.line
+    pub request : Request
+    pub means : MeansRequest (state_behind n) next.asked request
+    pub waits_in : WaitsIn (state_behind n) request rows user call
 
--- A front of the replies is shown, with at least all but the last one.
-pub record ShowsMost (h : Handled) (old_sink sink : Text) : Type 0 where
+  -- What a stop leaves of main, and of the sink that had these bytes before: main stands for what was found and no more is shown than what
+  -- is told before the run is begun, or it stands for a catalogue of the run, in which the next request may be pending, and a front of the
+  -- report and the replies is shown.
+  pub data OneOfRun (old_sink main sink : Text) : Type 0 where
+    not_begun : StandsFor main found → AddsPart (report_begun found) old_sink sink → OneOfRun old_sink main sink
+    in_run : (c : Cat) (part more : Text) → StandsFor main c → sink ≡ old_sink ++ part
+        → whole_report found ++ joined_texts (replies_of h) ≡ part ++ more
+        → IsBehindSome c (length part - length (whole_report found))
+        → OneOfRun old_sink main sink
+    in_deed_of_run : (rows : Cat) (n user : ℕ) (line : Text) (call : Call) (part more : Text) → StandsFor main (with_deed rows (n + 1) user line call)
+        → sink ≡ old_sink ++ part → whole_report found ++ joined_texts (replies_of h) ≡ part ++ more
+        → IsBehindSome rows (length part - length (whole_report found)) → reached_by rows (length part - length (whole_report found)) ≡ n
+        → WaitsBehind rows n user line call → OneOfRun old_sink main sink
+
+-- A front of this report and of the replies is shown, with at least all but the last of these texts.
+pub record ShowsMost (report : Text) (h : Handled) (old_sink sink : Text) : Type 0 where
   pub part : Text
   pub more : Text
   pub is : sink ≡ old_sink ++ part
-  pub split : joined_texts (replies_of h) ≡ part ++ more
-  pub all_but_one : length h.begun ≤ whole_in (replies_of h) (length part) + 1
+  pub split : report ++ joined_texts (replies_of h) ≡ part ++ more
+  pub report_first : 0 < length h.begun → length report ≤ length part
+  pub all_but_one : length h.begun ≤ whole_in (replies_of h) (length part - length report) + 1

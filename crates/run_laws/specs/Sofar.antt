@@ -19,13 +19,13 @@ use Rattle.grid_headline.specs.Files.{IsKnown, AreSettled, DisksAreSettled, Were
 use Rattle.grid_headline.specs.Causes.{AreCaused}
 use Rattle.grid_headline.specs.Ends.{AllStill, HasOneMore}
 use Rattle.grid_headline.specs.Headline.{BeginsOn}
-use Rattle.run_laws.specs.Handled.{Handled, replies_of, IsOfRun, OneOfRun, ShowsMost}
+use Rattle.run_laws.specs.Handled.{Handled, replies_of, HasNoRecovery, IsOfRun, OneOfRun, ShowsMost, whole_report}
 use Rattle.run_laws.specs.Steps.{Gave, IsToldOf}
 use Rattle.run_laws.specs.Went.{Went, AreInOrder}
 
--- the catalogue of the next run, of which no command has changed anything
+-- the catalogue of the next run, of which no command has changed anything and none is pending
 abbrev pub run_begun : Cat → Cat
-run_begun c = record c { numbers = record { next_vault = c.numbers.next_vault; run = c.numbers.run + 1; last = 0 } }
+run_begun c = record c { numbers = record { next_vault = c.numbers.next_vault; run = c.numbers.run + 1; last = 0 }; pending = None }
 
 -- each of them ends by rows where its marks are clean
 abbrev pub AllByRows : List Marked → List Done → Type 0
@@ -48,13 +48,13 @@ pub record CallsGoOn {B : Type 0} (input : Text) (mid new : World B) (c : Cat) :
   pub whole : KeepsWhole mid new c
   pub names : NoneSweeps input → KeepsNames mid new c
 
--- The run begins on a catalogue without a pending command or rules.
+-- The run begins on a catalogue without rules, and without a pending command that has recoveries.
 pub record BeginsPlainly {B : Type 0} (old : World B) (found : Cat) : Type 0 where
   pub begin : BeginsOn old found
-  pub pending : found.pending ≡ None
+  pub pending : HasNoRecovery found.pending
   pub rules : found.rules ≡ []
 
--- Requests that were begun from the first world over a catalogue without a pending command or rules to the second: what they did, what
+-- Requests that were begun from the first world over a catalogue without rules to the second: what they did, what
 -- is shown of them, what a stop leaves, and that what their marks tell has its cause.
 pub record Ran {B : Type 0} (old now : World B) (found : Cat) (at : State) (asked : List Asked) : Type 0 where
   pub handled : Handled
@@ -64,7 +64,7 @@ pub record Ran {B : Type 0} (old now : World B) (found : Cat) (at : State) (aske
   pub told_of : AllByRecursion (IsToldOf (IsKnown old found) (length old.stores)) (marks_of handled.begun)
   pub by_rows : AllByRows handled.begun handled.done
   pub went : Went old now
-  pub shown : IsTrue old.sink.tells → ShowsMost handled old.sink.holds now.sink.holds
+  pub shown : IsTrue old.sink.tells → ShowsMost (whole_report found) handled old.sink.holds now.sink.holds
   pub caused : AreCaused old now (marks_of handled.begun)
   pub gave : IsTrue now.ambient.tells → Gave (marks_of handled.begun) old.ambient now.ambient
   pub whole : DisksAreSettled old → WereWhole old old.moments found → AllStayWhole now old.moments
@@ -76,7 +76,7 @@ pub record Ran {B : Type 0} (old now : World B) (found : Cat) (at : State) (aske
 pub record Sofar {B : Type 0} (old now : World B) (found c : Cat) (at : State) (asked : List Asked) : Type 0 where
   pub ran : Ran old now found at asked
   pub none_end : AllByRecursion (λ a. ¬ EndsInput a) asked
-  pub text : IsTrue old.sink.tells → now.sink.holds ≡ old.sink.holds ++ joined_texts (replies_of ran.handled)
+  pub text : IsTrue old.sink.tells → now.sink.holds ≡ (old.sink.holds ++ whole_report found) ++ joined_texts (replies_of ran.handled)
   -- the catalogue
   pub of_run : IsOfRun found c
   pub last : c.numbers.last ≤ length asked

@@ -1,19 +1,23 @@
 -- One request of a run: what it did, what it wrote, and what a stop at any moment of it leaves.
-use Rattle.std.specs.Prelude.{◌≡◌, ℕ, ◌<◌, List, [], ◌∷◌, ◌++◌, Ok, length, IsTrue}
+use Rattle.std.specs.Prelude.{◌≡◌, ℕ, ◌<◌, List, [], ◌∷◌, ◌++◌, Option, Some, None, Ok, length, IsTrue}
 use Rattle.std.specs.List.{AllByRecursion}
 use Rattle.grid_outside.specs.Device.{IsSettled}
 use Rattle.grid_outside.specs.Ambient.{AmbientState}
 use Rattle.grid_outside.specs.Sink.{AddsPart}
+use Rattle.grid_model.specs.Maps.{get}
 use Rattle.grid_model.specs.Names.{Text}
 use Rattle.grid_model.specs.Rows.{Cat}
-use Rattle.grid_model.specs.RowGrids.{grid_of}
-use Rattle.grid_model.specs.Meanings.{gives}
-use Rattle.grid_model.specs.Sessions.{State}
+use Rattle.grid_model.specs.RowGrids.{grid_of, user_name}
+use Rattle.grid_model.specs.Meanings.{gives, waits}
+use Rattle.grid_model.specs.Sessions.{Session, State}
 use Rattle.grid_model.specs.Working.{Done}
 use Rattle.grid_model.specs.ReplyTexts.{ArePieces, reply_text}
-use Rattle.grid_model.specs.Orders.{sweeps}
+use Rattle.grid_model.specs.Orders.{Order, sweeps}
+use Rattle.grid_model.specs.Obeying.{command}
 use Rattle.grid_model.specs.Runs.{Request, does}
 use Rattle.grid_model.specs.Completing.{AreClean, EndsByRows}
+use Rattle.grid_model.specs.declared.calls.Call.{Call}
+use Rattle.grid_model.specs.declared.deltas.Pending.{Pending}
 use Rattle.grid_model.specs.declared.marks.Mark.{Mark}
 use Rattle.grid_model.specs.declared.marks.Mark.TheVariants.{Ran, Fault, Bad, Stop}
 use Rattle.grid_journal.specs.Stands.{StandsFor}
@@ -50,6 +54,36 @@ pub data ComesAfter (before : Cat) (n : ℕ) (d : Done) : Cat → Type 0 where
   kept : {c : Cat} → IsLeftBehind before n d c → ComesAfter before n d c
   unseen : {c : Cat} → IsLike before c → d.reply.marks ≡ [] → d.state.grid ≡ grid_of before → ComesAfter before n d c
 
+-- ---- a command in its first deed
+
+-- the command of this run and number, which waits in the call of its first deed: it has told no mark, and has no recovery
+abbrev pub in_deed : ℕ → ℕ → ℕ → Text → Call → Pending
+in_deed run n user line call = record { run = run; number = n; user = user; line = line; marks = []; passed = []; running = Some call; undo = [] }
+
+-- these rows, where the command of this number is pending so
+abbrev pub with_deed : Cat → ℕ → ℕ → Text → Call → Cat
+with_deed rows n user line call = record rows { pending = Some (in_deed rows.numbers.run n user line call) }
+
+-- The request is an order of the user with this id in these rows, and waits in this call before it has told a mark.
+pub record WaitsIn (at : State) (request : Request) (rows : Cat) (user : ℕ) (call : Call) : Type 0 where
+  pub session : ℕ
+  pub order : Order
+  pub is : request ≡ Ok (session, order)
+  pub of : Session
+  pub logged_in : get at.sessions session ≡ Some of
+  pub name : user_name rows user ≡ of.user
+  pub waits_there : command at session order [] ≡ waits (record { call = call; grid = at.grid; taken = []; passed = []; undo = [] })
+
+-- a command that is pending has this line
+abbrev pub HasLine : Text → Option Pending → Type 0
+HasLine line None = Unit {0}
+HasLine line (Some p) = p.line ≡ line
+
+-- what a stop leaves of main from there on has no other command pending than one of this line
+abbrev pub NotesLine : {B : Type 0} → Text → World B → World B → Type 0
+NotesLine line old new = IsTrue old.main.tells → IsSettled old.main → (t : ℕ) (main : Text) (c : Cat) → old.moments < t → new.main.left t main
+    → StandsFor main c → HasLine line c.pending
+
 -- ---- images
 
 -- so many bytes of a reply with these pieces tell no mark and are not all of it
@@ -57,13 +91,15 @@ abbrev pub IsUntold : List Text → ℕ → Type 0
 IsUntold [] count = count ≡ 0
 IsUntold (piece ∷ pieces) count = count < length piece
 
--- What a stop leaves of main and of the sink: nothing is seen to be changed and no mark is told, or main stands for the catalogue
--- behind the request.
-pub data OneOf (before : Cat) (n : ℕ) (d : Done) (pieces : List Text) (shown main sink : Text) : Type 0 where
+-- What a stop leaves of main and of the sink: nothing is seen to be changed and no mark is told, or all that is seen is that the request is
+-- pending, or main stands for the catalogue behind the request.
+pub data OneOf (at : State) (before : Cat) (n : ℕ) (request : Request) (d : Done) (pieces : List Text) (shown main sink : Text) : Type 0 where
   not_kept : (c : Cat) → IsLike before c → StandsFor main c → (part : AddsPart (reply_text n d.reply pieces) shown sink)
-      → IsUntold pieces part.count → OneOf before n d pieces shown main sink
+      → IsUntold pieces part.count → OneOf at before n request d pieces shown main sink
+  in_first_deed : (rows : Cat) (user : ℕ) (line : Text) (call : Call) → IsLike before rows → WaitsIn at request rows user call
+      → StandsFor main (with_deed rows n user line call) → sink ≡ shown → OneOf at before n request d pieces shown main sink
   kept_so : (c : Cat) → ComesAfter before n d c → StandsFor main c → AddsPart (reply_text n d.reply pieces) shown sink
-      → OneOf before n d pieces shown main sink
+      → OneOf at before n request d pieces shown main sink
 
 -- ---- marks
 
@@ -103,7 +139,7 @@ pub record RequestStep {B : Type 0} (old new : World B) (at : State) (before : C
   pub caused : AreCaused old new marks
   pub gave : IsTrue new.ambient.tells → Gave marks old.ambient new.ambient
   pub images : IsTrue old.main.tells → IsTrue old.sink.tells → IsSettled old.main → IsSettled old.sink → (t : ℕ) (main sink : Text)
-      → old.moments < t → new.main.left t main → new.sink.left t sink → OneOf before n d pieces old.sink.holds main sink
+      → old.moments < t → new.main.left t main → new.sink.left t sink → OneOf at before n request d pieces old.sink.holds main sink
 
 -- the request asks for no sweep
 abbrev pub RemovesNoFile : Request → Type 0

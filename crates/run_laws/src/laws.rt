@@ -12,14 +12,14 @@ ghost use Rattle.grid_headline.specs.Served.{BeginsWithRequests};
 ghost use Rattle.run_laws.specs.Ends.{IsGoodIfNoneFailed, ReadsSo, StopsSo};
 ghost use Rattle.run_laws.specs.Opening.{Opened};
 ghost use Rattle.run_laws.specs.Sofar.{BeginsPlainly, CallsGoOn, Sofar, run_begun};
-ghost use Rattle.run_laws.specs.Steps.{IsQuiet, IsHandledWhole, RequestStep};
+ghost use Rattle.run_laws.specs.Steps.{IsQuiet, IsHandledWhole, NotesLine, RequestStep};
 ghost use Rattle.run_laws.specs.Surrounding.{world};
 ghost use Rattle.run_laws.specs.Went.{AreInOrder};
 
 use crate::around::Around;
 use grid_outside::{Ambient, Disk, Plugin, Sink, Source};
 
-/// A run that is begun over a catalogue without a pending command or rules has handled no request yet.
+/// A run that is begun over a catalogue without rules, and without a pending command that has recoveries, has handled no request yet.
 pub fn a_run_is_begun<D: Disk, S: Source, K: Sink, A: Ambient, P: Plugin>(
     old: &Around<D, S, K, A, P>,
     now: &Around<D, S, K, A, P>,
@@ -38,7 +38,7 @@ pub fn a_run_goes_on<D: Disk, S: Source, K: Sink, A: Ambient, P: Plugin>(
     ensures { let from = world D.disk S.source K.sink A.ambient P.plugin old.now in let by = world D.disk S.source K.sink A.ambient P.plugin mid.now in
         let to = world D.disk S.source K.sink A.ambient P.plugin new.now in
         (found c after : Cat) (at end : State) (asked : List Asked) (a : Asked) (request : Request) → BeginsPlainly from found →
-        Sofar from by found c at asked → CallsGoOn from.source.left by to c → MeansRequest at a request → ¬ EndsInput a
+        Sofar from by found c at asked → CallsGoOn from.source.left by to c → NotesLine a.line by to → MeansRequest at a request → ¬ EndsInput a
         → (step : RequestStep by to at c (length asked + 1) request) →
         IsHandledWhole by to at c (length asked + 1) request step after end → Sofar from to found after end (asked ++ a ∷ []) }
 {}
