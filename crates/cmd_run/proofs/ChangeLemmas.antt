@@ -91,9 +91,9 @@ module _ {B : Type 0} (old new : World B) (at : State) (c : Cat) (number : ℕ) 
   abbrev pub Image : Text → Text → Type 0
   Image main sink = (StandsFor main c × (sink ≡ old.sink.holds)) ⊎ (StandsFor main (named number after) × AddsPart text old.sink.holds sink)
 
-  pub image_of : (main sink : Text) → Image main sink → OneOf c number s.d [] old.sink.holds main sink
+  pub image_of : (main sink : Text) → Image main sink → OneOf at c number request s.d [] old.sink.holds main sink
   image_of main sink (inl (stands, same)) =
-      let Q : Text → Type 0 = λ x. OneOf c number s.d [] old.sink.holds main x in
+      let Q : Text → Type 0 = λ x. OneOf at c number request s.d [] old.sink.holds main x in
       subst Q (sym same) (not_kept c (like_self c) stands (none_of text old.sink.holds) refl)
   image_of main sink (inr (stands, part)) = kept_so (named number after) (kept behind) stands part
 

@@ -20,6 +20,7 @@ use Rattle.grid_model.specs.RowGrids.{grid_of, user_name}
 use Rattle.grid_model.specs.Deeds.{differs}
 use Rattle.grid_model.specs.Operations.Table.{repl}
 use Rattle.grid_model.specs.Runs.{Request}
+use Rattle.grid_model.specs.Working.{running}
 use Rattle.grid_model.specs.declared.marks.Mark.{Mark}
 use Rattle.grid_model.specs.declared.marks.Mark.TheVariants as mark
 use Rattle.grid_model.specs.declared.plans.Plan.{Plan}
@@ -50,16 +51,16 @@ use Rattle.cmd_run.specs.Answers.{IsTextPut, PutEnds}
 use Rattle.cmd_run.specs.Copies.{PlansRepl, IsCarriedOut, Backs, copied_mark, copied_end, copied_text, kept_behind}
 use Rattle.cmd_run.specs.Fits.{state_of, FitsMain}
 use Rattle.cmd_run.specs.Gets.{Drawn, Drew}
-use Rattle.cmd_run.specs.Keeps.{named}
-use Rattle.cmd_run.specs.Obeys.{Obeys, IsWorn, Remembers}
+use Rattle.cmd_run.specs.Noting.{ended}
+use Rattle.cmd_run.specs.Obeys.{IsNoted, Obeys, IsWorn, RemembersDeed}
 use Rattle.cmd_run.specs.Puts.{AsksToDo}
 use Rattle.cmd_run.specs.Writes.{Kept, Writing, WriteEnds}
-use Rattle.cmd_run.proofs.ChangeLemmas.{grid_named, keeps_named}
 use Rattle.cmd_run.proofs.DeedEnds.{Behind, cut, told_then, ends_unsunk, ends_worn, ends_logs}
 use Rattle.cmd_run.proofs.DeedMarks.{ran_told, failed_told, damaged_told}
 use Rattle.cmd_run.proofs.GotLemmas.{differs_so}
-use Rattle.cmd_run.proofs.PutSteps.{marked_done, MarkTold}
-use Rattle.cmd_run.proofs.Remembering.{one_remembers, keeps_numbered}
+use Rattle.cmd_run.proofs.Noted.{left_ended, middle}
+use Rattle.cmd_run.proofs.PutSteps.{IsMiddle, marked_done, MarkTold}
+use Rattle.cmd_run.proofs.Remembering.{one_remembers, keeps_ended, noted_none}
 use Rattle.cmd_run.proofs.SentFiles.{IsNamedFile, SentFile, known_text, read_is_text}
 use Rattle.cmd_run.proofs.Users.{KeepsUsers, users_apply_all, users_then, users_same}
 use Rattle.cmd_run.proofs.Vaults.{some_vault}
@@ -79,18 +80,18 @@ worn_carried now plugin server after_server request w file old new e same tells 
     ends_worn now server after_server request (kept_behind w so.answer) so.answer e old.main (ap (λ (m : DiskState). m.tells) same ∙ tells) (subst E (sym same) so.ends)
 
 -- what main remembers of it
-pub carried_remembers : {B : Type 0} (plugin : B → StoreState) (w : Writing) (file : OldFile) (old new : Kept B) (r : Result Copied Ending) (s : Server) → w.before.pending ≡ None → w.mid.pending ≡ None → KeepsNamed w.before w.mid → w.end.pending ≡ None
-    → IsCarriedOut plugin w file old new r s → Remembers w.before w.from old.main new.main
-carried_remembers plugin w file old new r s none mid_none begins end_none so = by so.answer so.backs so.leaves
+pub carried_remembers : {B : Type 0} (line : Text) (plugin : B → StoreState) (w : Writing) (file : OldFile) (old new : Kept B) (r : Result Copied Ending) (s : Server) → w.before.pending ≡ None → IsNoted line w.mid.pending → KeepsNamed w.before w.mid → w.end.pending ≡ None
+    → IsCarriedOut plugin w file old new r s → RemembersDeed line w.before w.from old.main new.main
+carried_remembers line plugin w file old new r s none noted begins end_none so = by so.answer so.backs so.leaves
   where
-    by : (answer : Copied) → Backs plugin w file old new answer → (IsTrue old.main.tells → IsSettled old.main → Leaves w.from (StandsOne w.before w.mid (kept_behind w answer)) new.main) → Remembers w.before w.from old.main new.main
-    by copied.Done (inl either) leaves = one_remembers w old.main new.main none mid_none begins w.mid mid_none begins (λ told settled t image late left. inl (either told settled t image late left))
-    by copied.Done (inr ends) leaves = one_remembers w old.main new.main none mid_none begins w.end end_none (λ slot name is. ends slot name (begins slot name is)) leaves
-    by (copied.Fault fault) backs leaves = one_remembers w old.main new.main none mid_none begins (named w.number w.mid) mid_none (keeps_numbered w.number w.before w.mid begins) leaves
-    by (copied.Bad found) backs leaves = one_remembers w old.main new.main none mid_none begins (named w.number w.mid) mid_none (keeps_numbered w.number w.before w.mid begins) leaves
+    by : (answer : Copied) → Backs plugin w file old new answer → (IsTrue old.main.tells → IsSettled old.main → Leaves w.from (StandsOne w.before w.mid (kept_behind w answer)) new.main) → RemembersDeed line w.before w.from old.main new.main
+    by copied.Done (inl either) leaves = one_remembers line w old.main new.main none noted begins w.mid noted begins (λ told settled t image late left. inl (either told settled t image late left))
+    by copied.Done (inr ends) leaves = one_remembers line w old.main new.main none noted begins w.end (noted_none line w.end.pending end_none) (λ slot name is. ends slot name (begins slot name is)) leaves
+    by (copied.Fault fault) backs leaves = one_remembers line w old.main new.main none noted begins (ended w.number w.mid) (tt, tt) (keeps_ended w.number w.before w.mid begins) leaves
+    by (copied.Bad found) backs leaves = one_remembers line w old.main new.main none noted begins (ended w.number w.mid) (tt, tt) (keeps_ended w.number w.before w.mid begins) leaves
 
 module _ {D A P : Type 0} (disk : D → DiskState) (ambient : A → AmbientState) (plugin : P → StoreState) (source : SourceState) (o n : Outside D A P) (last : ℕ) (from : SinkState) (server after_server : Server) (number : ℕ) (request : Request) (id : ℕ) (path : Path) (resource : Text) (file : OldFile) (plan : Plan) (drawn : Drawn)
-    (fits : FitsMain (disk o.main) server) (asks : AsksToDo server id (repl path resource) request) (pr : PlansRepl server.store.cat (user_name server.store.cat id) path resource drawn number file plan) (slots : server.store.cat.stores ≡ length o.stores.items) (file_named : IsNamedFile server.store.cat file) (file_within : file.slot < server.store.cat.stores)
+    (fits : FitsMain (disk o.main) server) (asks : AsksToDo server id (repl path resource) request) (line : Text) (pr : PlansRepl server.store.cat id line path resource drawn number file plan) (slots : server.store.cat.stores ≡ length o.stores.items) (file_named : IsNamedFile server.store.cat file) (file_within : file.slot < server.store.cat.stores)
     (stores_last : EachMember (λ k store. (plugin store).last ≤ o.moments) o.stores.items) (sink_last : from.last ≤ o.moments) (sessions_same : after_server.sessions ≡ server.sessions) (drew : IsTrue (ambient n.ambient).tells → Drew drawn (ambient o.ambient) (ambient n.ambient)) (go : StoresGo plugin o.moments o.stores.items n.stores.items) where
   abbrev c : Cat
   c = server.store.cat
@@ -113,6 +114,9 @@ module _ {D A P : Type 0} (disk : D → DiskState) (ambient : A → AmbientState
   abbrev kept_new : Kept P
   kept_new = record { main = disk n.main; stores = n.stores.items }
 
+  middle_of : IsMiddle (state_of server) c number request mid
+  middle_of = middle server request id (repl path resource) asks pr.of pr.row_is number line mid pr.before
+
   -- ---- the rows behind it
 
   keeps_mid : KeepsUsers c mid
@@ -126,16 +130,8 @@ module _ {D A P : Type 0} (disk : D → DiskState) (ambient : A → AmbientState
   grid_behind other = grid_of c
 
   -- the command was kept and nothing else
-  left_failed : (m : Mark) (e : End) → IsLeftBehind c number (marked_done (state_of server) (grid_of c) m e) (named number mid)
-  left_failed m e = record {
-    grid = grid_named number mid some_mid ∙ pr.before.grid;
-    run = pr.before.run;
-    last = refl;
-    rules = pr.before.rules;
-    stores = pr.before.stores;
-    pending = pr.before.pending;
-    keeps = keeps_named number c mid pr.before.keeps;
-  }
+  left_failed : (m : Mark) (e : End) → IsLeftBehind c number (marked_done (state_of server) (grid_of c) m e) (ended number mid)
+  left_failed m e = left_ended c mid number id line (running (repl path resource)) pr.before fits.pending some_mid (state_of server) m e
 
   left_behind : (a : Copied) → IsLeftBehind c number (marked_done (state_of server) (grid_behind a) (copied_mark drawn file a) (copied_end file a)) (kept_behind writing a)
   left_behind copied.Done = record {
@@ -150,8 +146,8 @@ module _ {D A P : Type 0} (disk : D → DiskState) (ambient : A → AmbientState
   left_behind (copied.Fault fault) = left_failed (copied_mark drawn file (copied.Fault fault)) (copied_end file (copied.Fault fault))
   left_behind (copied.Bad found) = left_failed (copied_mark drawn file (copied.Bad found)) (copied_end file (copied.Bad found))
 
-  keeps_failed : KeepsUsers c (named number mid)
-  keeps_failed = users_then c mid (named number mid) keeps_mid (users_same mid (named number mid) refl)
+  keeps_failed : KeepsUsers c (ended number mid)
+  keeps_failed = users_then c mid (ended number mid) keeps_mid (users_same mid (ended number mid) refl)
 
   keeps_of : (a : Copied) → KeepsUsers c (kept_behind writing a)
   keeps_of copied.Done = users_then c mid pr.is_plan.end keeps_mid (users_apply_all plan.after mid pr.is_plan.end pr.is_plan.then)
@@ -184,7 +180,7 @@ module _ {D A P : Type 0} (disk : D → DiskState) (ambient : A → AmbientState
       (damaged_told disk ambient plugin source o n last from server request id (repl path resource) asks drawn pr.of pr.row_is (λ marks. refl) drew go to file.slot found.len found.digest (slot_within file.slot (inr refl)) (never found why.1) (pr.bad_fits why.0 found.len found.digest other))
 
   abbrev IsBehind : Type 1
-  IsBehind = Behind disk ambient plugin source o n last from server after_server number request mid fits pr.before sink_last sessions_same
+  IsBehind = Behind disk ambient plugin source o n last from server after_server number request mid fits middle_of sink_last sessions_same
 
   abbrev behind_of : (a : Copied) → Backs plugin writing file kept_old kept_new a → IsBehind
   behind_of a why = record {
@@ -201,7 +197,7 @@ module _ {D A P : Type 0} (disk : D → DiskState) (ambient : A → AmbientState
 
   -- nothing was put
   pub cut_copy : (r : Result Copied Ending) (x : Ending) → IsCarriedOut plugin writing file kept_old kept_new r after_server → Obeys old (new from) server number request (Err x) after_server
-  cut_copy r x so = cut disk ambient plugin source o n last from server after_server number request mid fits pr.before sink_last sessions_same (behind_of so.answer so.backs) so.leaves x
+  cut_copy r x so = cut disk ambient plugin source o n last from server after_server number request mid fits middle_of sink_last sessions_same (behind_of so.answer so.backs) so.leaves x
 
   -- mark and end were put
   pub told_copy : (a : Copied) (to : SinkState) → o.moments ≤ n.moments → (disk n.main).last ≤ n.moments → (disk n.main).tells ≡ (disk o.main).tells → IsCarriedOut plugin writing file kept_old kept_new (Ok a) after_server
@@ -210,4 +206,4 @@ module _ {D A P : Type 0} (disk : D → DiskState) (ambient : A → AmbientState
       let same : a ≡ so.answer = so.ends.0 in
       let Q : Copied → Type 0 = λ x. IsTextPut (copied_text number drawn file x) n.moments from to in
       let R : Copied → Type 0 = λ x. PutEnds (copied_text number drawn file x) from to r in
-      told_then disk ambient plugin source o n last from server after_server number request mid fits pr.before sink_last sessions_same (behind_of so.answer so.backs) so.leaves so.ends.1 to (subst Q same put) drawn_more main_last tells r (subst R same put_ends)
+      told_then disk ambient plugin source o n last from server after_server number request mid fits middle_of sink_last sessions_same (behind_of so.answer so.backs) so.leaves so.ends.1 to (subst Q same put) drawn_more main_last tells r (subst R same put_ends)

@@ -22,7 +22,8 @@ use Rattle.cmd_run.specs.declared.server.Server.{Server}
 use Rattle.cmd_run.specs.declared.server.Ending.{Ending}
 use Rattle.cmd_run.specs.Copies.{IsCarriedOut, is_copied, kept_behind}
 use Rattle.cmd_run.specs.Errors.{IsOfCommit, ending_of}
-use Rattle.cmd_run.specs.Keeps.{named, IsKeptSo}
+use Rattle.cmd_run.specs.Keeps.{IsKeptSo}
+use Rattle.cmd_run.specs.Noting.{ended}
 use Rattle.cmd_run.specs.Writes.{Kept, Writing}
 use Rattle.cmd_run.proofs.WriteLemmas.{ends_err, ends_kept, kept_since, kept_then, of_deed, one_of}
 
@@ -76,34 +77,34 @@ module _ {D A P : Type 0} (disk : D → DiskState) (plugin : P → StoreState) {
 
   -- and then the command was kept, or how far that came
   module _ (main_new : DiskState) (to : ℕ) (goes : Goes to (disk m.main) main_new) (tells : (disk m.main).tells ≡ (disk o.main).tells) where
-    pub carried_failed : (answer : Copied) → is_copied answer ≡ false → IsCopied disk plugin p o m (Ok answer) store → (server : Server) → IsKeptSo p.mid (named number p.mid) to (disk m.main) main_new (Ok tt) server
+    pub carried_failed : (answer : Copied) → is_copied answer ≡ false → IsCopied disk plugin p o m (Ok answer) store → (server : Server) → IsKeptSo p.mid (ended number p.mid) to (disk m.main) main_new (Ok tt) server
         → IsCarriedOut plugin writing from kept_old (kept_new main_new) (Ok answer) server
     carried_failed copied.Done is done server k = absurd cc
     carried_failed (copied.Fault fault) is done server k = record {
       answer = copied.Fault fault;
       backs = done.says;
-      ends = (refl, kept_since (named number p.mid) (disk o.main) (disk m.main) main_new server.store tells k.ends);
-      leaves = kept_then cat p.mid (named number p.mid) o.moments to (disk o.main) (disk m.main) main_new done.leaves done.ends.settled tells goes k.leaves;
+      ends = (refl, kept_since (ended number p.mid) (disk o.main) (disk m.main) main_new server.store tells k.ends);
+      leaves = kept_then cat p.mid (ended number p.mid) o.moments to (disk o.main) (disk m.main) main_new done.leaves done.ends.settled tells goes k.leaves;
     }
     carried_failed (copied.Bad found) is done server k = record {
       answer = copied.Bad found;
       backs = done.says;
-      ends = (refl, kept_since (named number p.mid) (disk o.main) (disk m.main) main_new server.store tells k.ends);
-      leaves = kept_then cat p.mid (named number p.mid) o.moments to (disk o.main) (disk m.main) main_new done.leaves done.ends.settled tells goes k.leaves;
+      ends = (refl, kept_since (ended number p.mid) (disk o.main) (disk m.main) main_new server.store tells k.ends);
+      leaves = kept_then cat p.mid (ended number p.mid) o.moments to (disk o.main) (disk m.main) main_new done.leaves done.ends.settled tells goes k.leaves;
     }
 
-    pub carried_cut : (answer : Copied) → is_copied answer ≡ false → IsCopied disk plugin p o m (Ok answer) store → (e : Ending) (server : Server) → IsKeptSo p.mid (named number p.mid) to (disk m.main) main_new (Err e) server
+    pub carried_cut : (answer : Copied) → is_copied answer ≡ false → IsCopied disk plugin p o m (Ok answer) store → (e : Ending) (server : Server) → IsKeptSo p.mid (ended number p.mid) to (disk m.main) main_new (Err e) server
         → IsCarriedOut plugin writing from kept_old (kept_new main_new) (Err e) server
     carried_cut copied.Done is done e server k = absurd cc
     carried_cut (copied.Fault fault) is done e server k = record {
       answer = copied.Fault fault;
       backs = done.says;
-      ends = ends_kept p.mid (named number p.mid) (let a : Copied = copied.Fault fault in a) (disk o.main) (disk m.main) main_new tells e server k.ends;
-      leaves = kept_then cat p.mid (named number p.mid) o.moments to (disk o.main) (disk m.main) main_new done.leaves done.ends.settled tells goes k.leaves;
+      ends = ends_kept p.mid (ended number p.mid) (let a : Copied = copied.Fault fault in a) (disk o.main) (disk m.main) main_new tells e server k.ends;
+      leaves = kept_then cat p.mid (ended number p.mid) o.moments to (disk o.main) (disk m.main) main_new done.leaves done.ends.settled tells goes k.leaves;
     }
     carried_cut (copied.Bad found) is done e server k = record {
       answer = copied.Bad found;
       backs = done.says;
-      ends = ends_kept p.mid (named number p.mid) (let a : Copied = copied.Bad found in a) (disk o.main) (disk m.main) main_new tells e server k.ends;
-      leaves = kept_then cat p.mid (named number p.mid) o.moments to (disk o.main) (disk m.main) main_new done.leaves done.ends.settled tells goes k.leaves;
+      ends = ends_kept p.mid (ended number p.mid) (let a : Copied = copied.Bad found in a) (disk o.main) (disk m.main) main_new tells e server k.ends;
+      leaves = kept_then cat p.mid (ended number p.mid) o.moments to (disk o.main) (disk m.main) main_new done.leaves done.ends.settled tells goes k.leaves;
     }

@@ -33,7 +33,7 @@ use Rattle.grid_deed.specs.Held.{IsHeld, IsKept}
 use Rattle.grid_deed.proofs.Keeping.{held_stands}
 use Rattle.grid_headline.specs.Numbers.{last_vault}
 use Rattle.grid_headline.specs.Worlds.{World}
-use Rattle.run_laws.specs.Steps.{RequestStep, IsHandledWhole, IsLeftBehind, IsLike}
+use Rattle.run_laws.specs.Steps.{RequestStep, IsHandledWhole, IsLeftBehind}
 use Rattle.sess.specs.Places.{Places, sessions_of}
 use Rattle.cmd_run.specs.declared.server.Server.{Server}
 use Rattle.cmd_run.specs.declared.server.Ending.{Ending}
@@ -49,7 +49,7 @@ use Rattle.cmd_run.specs.Writes.{WriteEnds}
 use Rattle.cmd_run.proofs.ChangeEnds.{rests_self, fits_on}
 use Rattle.cmd_run.proofs.GotLemmas.{gave_untold}
 use Rattle.cmd_run.proofs.Operating.{with_login, not_too_much, refused_so, refused_work}
-use Rattle.cmd_run.proofs.PutSteps.{marked_done, marked_text, MarkTold, cut_short, said, whole}
+use Rattle.cmd_run.proofs.PutSteps.{IsMiddle, marked_done, marked_text, MarkTold, cut_short, said, whole}
 use Rattle.cmd_run.proofs.Resting.{like_self, stands_still}
 use Rattle.cmd_run.proofs.Users.{KeepsUsers, users_stay, sessions_stay}
 
@@ -143,7 +143,7 @@ refused_said s request id op asks unsent r is of_grid =
 -- ---- what it leaves
 
 module _ {D A P : Type 0} (disk : D → DiskState) (ambient : A → AmbientState) (plugin : P → StoreState) (source : SourceState) (o n : Outside D A P) (last : ℕ) (from : SinkState) (server after_server : Server) (number : ℕ) (request : Request) (mid : Cat)
-    (fits : FitsMain (disk o.main) server) (like : IsLike server.store.cat mid) (sink_last : from.last ≤ o.moments) (sessions_same : after_server.sessions ≡ server.sessions) where
+    (fits : FitsMain (disk o.main) server) (middle : IsMiddle (state_of server) server.store.cat number request mid) (sink_last : from.last ≤ o.moments) (sessions_same : after_server.sessions ≡ server.sessions) where
   abbrev c : Cat
   c = server.store.cat
 
@@ -169,14 +169,14 @@ module _ {D A P : Type 0} (disk : D → DiskState) (ambient : A → AmbientState
   module _ (b : Behind) (leaves : IsTrue (disk o.main).tells → IsSettled (disk o.main) → Leaves o.moments (StandsOne c mid b.fin) (disk n.main)) where
     -- nothing was put
     pub cut : (e : Ending) → Obeys old (new from) server number request (Err e) after_server
-    cut e = handled (cut_short old (new from) at c mid b.fin number request b.g b.m b.e (b.told from) like b.behind sink_last leaves (rests_self from)) tt
+    cut e = handled (cut_short old (new from) at c mid b.fin number request b.g b.m b.e (b.told from) middle b.behind sink_last leaves (rests_self from)) tt
 
     module _ (k : IsKept b.fin (disk o.main) (disk n.main) after_server.store) (to : SinkState) (put : IsTextPut (marked_text number b.m b.e) n.moments from to) (drawn_more : o.moments ≤ n.moments) (main_last : (disk n.main).last ≤ n.moments) (tells : (disk n.main).tells ≡ (disk o.main).tells) where
       stands : IsTrue (disk o.main).tells → StandsFor (disk n.main).holds b.fin
       stands told = held_stands b.fin (disk n.main) after_server.store k.held (subst IsTrue (sym tells) told)
 
       abbrev step : RequestStep old (new to) at c number request
-      step = said old (new to) at c mid b.fin number request b.g b.m b.e (b.told to) like b.behind sink_last leaves n.moments put drawn_more main_last stands k.settled
+      step = said old (new to) at c mid b.fin number request b.g b.m b.e (b.told to) middle b.behind sink_last leaves n.moments put drawn_more main_last stands k.settled
 
       state_new : record at { grid = b.g } ≡ state_of after_server
       state_new =
@@ -187,7 +187,7 @@ module _ {D A P : Type 0} (disk : D → DiskState) (ambient : A → AmbientState
       whole_step : (IsTrue from.tells → to.holds ≡ from.holds ++ marked_text number b.m b.e) → IsHandledWhole old (new to) at c number request step after_server.store.cat (state_of after_server)
       whole_step all =
           let W : Cat → Type 0 = λ x. IsHandledWhole old (new to) at c number request step x (state_of after_server) in
-          subst W (sym k.cat) (whole old (new to) at c mid b.fin number request b.g b.m b.e (b.told to) like b.behind sink_last leaves n.moments put drawn_more main_last stands k.settled (state_of after_server) state_new (ap grid_of (sym k.cat)) all)
+          subst W (sym k.cat) (whole old (new to) at c mid b.fin number request b.g b.m b.e (b.told to) middle b.behind sink_last leaves n.moments put drawn_more main_last stands k.settled (state_of after_server) state_new (ap grid_of (sym k.cat)) all)
 
       fits_new : FitsMain (disk n.main) after_server
       fits_new =

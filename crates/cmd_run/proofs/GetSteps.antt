@@ -120,7 +120,7 @@ module _ {B : Type 0} (old new : World B) (server : Server) (n : ℕ) (request :
   pub part_of_reply : (sink : Text) → AddsPart (lines ++ text) old.sink.holds sink → AddsPart (reply_text n d.reply (piece ∷ [])) old.sink.holds sink
   part_of_reply sink part = let P : Text → Type 0 = λ x. AddsPart x old.sink.holds sink in subst P (sym reply_is) part
 
-  pub image_of : (main sink : Text) → Image main sink → OneOf c n d (piece ∷ []) old.sink.holds main sink
+  pub image_of : (main sink : Text) → Image main sink → OneOf (state_of server) c n request d (piece ∷ []) old.sink.holds main sink
   unfolding part_of_reply part_of_all front_part
   image_of main sink (inl (stands, part)) =
       let in_piece : AddsPart piece old.sink.holds sink = front_part lines (mark_line n t.m) piece old.sink.holds sink refl part in

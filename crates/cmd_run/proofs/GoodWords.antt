@@ -121,13 +121,17 @@ collections_so = (
   ),
 )
 
+-- a word that is a text is good where the word is
+same_word : (w text : Text) → is_word w ≡ true → w ≡ text → is_word text ≡ true
+same_word w text good same = subst (λ x. is_word x ≡ true) same good
+
 objects_so : AllRows of_objects
 objects_so = (
-  (λ a b c d e f g h i j k l m n o p. tt, tt),
+  (λ a b c d e f g h i j k l m n o p. same_word e f g h, tt),
   (
     (λ a b c d e f g h. tt, tt),
     (
-      (λ a b c d e f g h. tt, tt),
+      (λ a b c d e f g h. same_word e f g h, tt),
       (
         (λ a b c d. tt, tt),
         (
@@ -156,10 +160,6 @@ uploads_so = (
     ),
   ),
 )
-
--- a word that is a text is good where the word is
-same_word : (w text : Text) → is_word w ≡ true → w ≡ text → is_word text ≡ true
-same_word w text good same = subst (λ x. is_word x ≡ true) same good
 
 -- the kind by its word is one of two
 kind_of_two : (a b : Bool) (x y kind : ItemKind) → elim a as (λ _. Option ItemKind) [ true ↦ Some x | false ↦ elim b as (λ _. Option ItemKind) [ true ↦ Some y | false ↦ None ] ] ≡ Some kind

@@ -15,6 +15,7 @@ pub mod KeptEnds
 pub mod Listings
 pub mod LoginLemmas
 pub mod Meant
+pub mod Noted
 pub mod NotRefused
 pub mod OfDeeds
 pub mod OfGrid

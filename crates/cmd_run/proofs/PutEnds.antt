@@ -20,7 +20,7 @@ use Rattle.grid_model.specs.Deeds.{deed}
 use Rattle.grid_model.specs.Orders.{works}
 use Rattle.grid_model.specs.Runs.{Request, does}
 use Rattle.grid_model.specs.Sessions.{State, Sessions}
-use Rattle.grid_model.specs.Working.{well, begun, operate}
+use Rattle.grid_model.specs.Working.{well, begun, operate, running}
 use Rattle.grid_model.specs.declared.marks.Mark.{Mark}
 use Rattle.grid_model.specs.declared.marks.Mark.TheVariants as mark
 use Rattle.grid_model.specs.declared.plans.Plan.{Plan}
@@ -48,7 +48,7 @@ use Rattle.cmd_run.specs.Around.{around}
 use Rattle.cmd_run.specs.Answers.{IsTextPut, PutEnds}
 use Rattle.cmd_run.specs.Fits.{state_by, state_of, FitsMain, AreUsers}
 use Rattle.cmd_run.specs.Gets.{Drawn, Drew}
-use Rattle.cmd_run.specs.Keeps.{named}
+use Rattle.cmd_run.specs.Noting.{ended}
 use Rattle.cmd_run.specs.Obeys.{Obeys, SaysOnly, IsWorn, IsWornAt, AsksForFile, handled, quiet}
 use Rattle.file_laws.specs.Plans.{IsPlan, Turns}
 use Rattle.grid_headline.specs.Numbers.{last_vault}
@@ -60,10 +60,10 @@ use Rattle.cmd_run.specs.Writes.{Kept, Writing, WriteEnds, IsWritten}
 use Rattle.cmd_run.proofs.ChangeEnds.{rests_self, fits_on}
 use Rattle.cmd_run.proofs.DeedEnds.{ends_unsunk, ends_worn, Behind, cut, told_then, refused_said}
 use Rattle.cmd_run.proofs.DeedMarks.{ran_told, failed_told}
-use Rattle.cmd_run.proofs.ChangeLemmas.{grid_named, keeps_named}
 use Rattle.cmd_run.proofs.GotLemmas.{caused_none, caused_fault, gave_ran, gave_untold}
 use Rattle.cmd_run.proofs.Operating.{with_login, not_too_much, ran_so, failed_so, refused_so, refused_work}
-use Rattle.cmd_run.proofs.PutSteps.{marked_done, marked_text, MarkTold, cut_short, said, whole}
+use Rattle.cmd_run.proofs.Noted.{left_ended, middle}
+use Rattle.cmd_run.proofs.PutSteps.{IsMiddle, marked_done, marked_text, MarkTold, cut_short, said, whole}
 use Rattle.cmd_run.proofs.Resting.{like_self, stands_still}
 use Rattle.cmd_run.proofs.Users.{KeepsUsers, users_apply_all, users_then, users_same, users_stay, sessions_stay}
 use Rattle.cmd_run.proofs.Vaults.{some_vault}
@@ -91,7 +91,7 @@ says_refused_put s p request asks word r finds =
 
 pub written_unsunk : {B : Type 0} (plugin : B → StoreState) (w : Writing) (old new : Kept B) (e : Ending) (s : Server) → IsWritten plugin w old new (Err e) s → IsErrOf {T = ⊤} {E = Ending} (Err e) ending.Sink → ⊥
 written_unsunk plugin w old new e s (inl ends) is = ends_unsunk {T = Option ℕ} w.end None old.main new.main s e ends.ends is
-written_unsunk plugin w old new e s (inr f) is = ends_unsunk {T = Option ℕ} (named w.number w.mid) (Some f.slot) old.main new.main s e f.ends.ends is
+written_unsunk plugin w old new e s (inr f) is = ends_unsunk {T = Option ℕ} (ended w.number w.mid) (Some f.slot) old.main new.main s e f.ends.ends is
 
 module _ {D A P : Type 0} (disk : D → DiskState) (ambient : A → AmbientState) (plugin : P → StoreState) (source : SourceState) (o n : Outside D A P) (last : ℕ) (from : SinkState) (server after_server : Server) (number : ℕ) (request : Request) (p : Putting) (plan : Plan) (drawn : Drawn)
     (fits : FitsMain (disk o.main) server) (asks : AsksToPut server p request) (pp : PlansPut server.store.cat p drawn.word drawn.now number plan) (slots : server.store.cat.stores ≡ length o.stores.items) (sink_last : from.last ≤ o.moments)
@@ -120,10 +120,13 @@ module _ {D A P : Type 0} (disk : D → DiskState) (ambient : A → AmbientState
   abbrev ran : Mark
   ran = mark.Ran drawn.word drawn.now []
 
+  middle_of : IsMiddle (state_of server) c number request mid
+  middle_of = middle server request p.user (operation_of p) asks pp.of pp.row_is number p.line mid pp.before
+
   -- ---- the rows behind it
 
   abbrev IsBehind : Type 1
-  IsBehind = Behind disk ambient plugin source o n last from server after_server number request mid fits pp.before sink_last sessions_same
+  IsBehind = Behind disk ambient plugin source o n last from server after_server number request mid fits middle_of sink_last sessions_same
 
   keeps_mid : KeepsUsers c mid
   keeps_mid = users_apply_all plan.before c mid pp.is_plan.first
@@ -158,22 +161,14 @@ module _ {D A P : Type 0} (disk : D → DiskState) (ambient : A → AmbientState
     m = fault slot;
     e = refused slot;
     g = grid_of c;
-    fin = named number mid;
-    behind = record {
-      grid = grid_named number mid some_mid ∙ pp.before.grid;
-      run = pp.before.run;
-      last = refl;
-      rules = pp.before.rules;
-      stores = pp.before.stores;
-      pending = pp.before.pending;
-      keeps = keeps_named number c mid pp.before.keeps;
-    };
-    keeps = users_then c mid (named number mid) keeps_mid (users_same mid (named number mid) refl);
+    fin = ended number mid;
+    behind = left_ended c mid number p.user p.line (running (operation_of p)) pp.before fits.pending some_mid (state_of server) (fault slot) (refused slot);
+    keeps = users_then c mid (ended number mid) keeps_mid (users_same mid (ended number mid) refl);
     told = λ to. failed_told disk ambient plugin source o n last from server request p.user (operation_of p) asks drawn pp.of pp.row_is (λ marks. refl) drew go to slot (within slot among) rose (pp.fault_fits slot among);
   }
 
   abbrev cut_so : (b : IsBehind) → (IsTrue (disk o.main).tells → IsSettled (disk o.main) → Leaves o.moments (StandsOne c mid b.fin) (disk n.main)) → (e : Ending) → Obeys (around disk ambient plugin o from source) (around disk ambient plugin (record n { moments = last }) from source) server number request (Err e) after_server
-  cut_so = cut disk ambient plugin source o n last from server after_server number request mid fits pp.before sink_last sessions_same
+  cut_so = cut disk ambient plugin source o n last from server after_server number request mid fits middle_of sink_last sessions_same
 
   abbrev old : World P
   old = around disk ambient plugin o from source
@@ -199,7 +194,7 @@ module _ {D A P : Type 0} (disk : D → DiskState) (ambient : A → AmbientState
   module _ (to : SinkState) (drawn_more : o.moments ≤ n.moments) (main_last : (disk n.main).last ≤ n.moments) (tells : (disk n.main).tells ≡ (disk o.main).tells) where
     -- all was written
     pub ran_then : IsWritten plugin writing kept_old kept_new (Ok None) after_server → IsTextPut (marked_text number ran well) n.moments from to → (r : Result ⊤ Ending) → PutEnds (marked_text number ran well) from to r → Obeys old (new to) server number request r after_server
-    ran_then (inl ends) put r put_ends = told_then disk ambient plugin source o n last from server after_server number request mid fits pp.before sink_last sessions_same ran_behind ends.leaves ends.ends.1 to put drawn_more main_last tells r put_ends
+    ran_then (inl ends) put r put_ends = told_then disk ambient plugin source o n last from server after_server number request mid fits middle_of sink_last sessions_same ran_behind ends.leaves ends.ends.1 to put drawn_more main_last tells r put_ends
     ran_then (inr f) put r put_ends = absurd (none_some f.slot f.ends.ends.0)
       where
         none_some : (s : ℕ) → None ≡ Some s → ⊥
@@ -216,9 +211,9 @@ module _ {D A P : Type 0} (disk : D → DiskState) (ambient : A → AmbientState
         let same : slot ≡ f.slot = cc in
         let Q : ℕ → Type 0 = λ s. IsTextPut (marked_text number (fault s) (refused s)) n.moments from to in
         let R : ℕ → Type 0 = λ s. PutEnds (marked_text number (fault s) (refused s)) from to r in
-        told_then disk ambient plugin source o n last from server after_server number request mid fits pp.before sink_last sessions_same (failed_behind f.slot f.among f.rose) f.ends.leaves f.ends.ends.1 to (subst Q same put) drawn_more main_last tells r (subst R same put_ends)
+        told_then disk ambient plugin source o n last from server after_server number request mid fits middle_of sink_last sessions_same (failed_behind f.slot f.among f.rose) f.ends.leaves f.ends.ends.1 to (subst Q same put) drawn_more main_last tells r (subst R same put_ends)
 
   -- room behind the log is all that it runs out of
   pub worn_of : (e : Ending) → (disk n.main).tells ≡ (disk o.main).tells → IsWritten plugin writing kept_old kept_new (Err e) after_server → IsWorn (new from) server request (Err e)
   worn_of e tells (inl ends) = ends_worn {T = Option ℕ} (new from) server after_server request pp.is_plan.end None e (disk o.main) tells ends.ends
-  worn_of e tells (inr f) = ends_worn {T = Option ℕ} (new from) server after_server request (named number mid) (Some f.slot) e (disk o.main) tells f.ends.ends
+  worn_of e tells (inr f) = ends_worn {T = Option ℕ} (new from) server after_server request (ended number mid) (Some f.slot) e (disk o.main) tells f.ends.ends

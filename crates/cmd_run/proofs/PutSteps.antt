@@ -16,6 +16,7 @@ use Rattle.grid_model.specs.Runs.{Request, does}
 use Rattle.grid_model.specs.Sessions.{State}
 use Rattle.grid_model.specs.Working.{Done}
 use Rattle.grid_model.specs.Completing.{AreClean, EndsByRows}
+use Rattle.grid_model.specs.declared.calls.Call.{Call}
 use Rattle.grid_model.specs.declared.marks.Mark.{Mark}
 use Rattle.grid_model.specs.declared.replies.End.{End}
 use Rattle.grid_journal.specs.Stands.{StandsFor, StandsEither}
@@ -23,7 +24,7 @@ use Rattle.grid_deed.specs.Deeds.{StandsOne}
 use Rattle.grid_headline.specs.Worlds.{World}
 use Rattle.grid_headline.specs.Files.{IsKnown}
 use Rattle.grid_headline.specs.Causes.{AreCaused}
-use Rattle.run_laws.specs.Steps.{RequestStep, IsHandledWhole, IsLike, IsLeftBehind, Gave, IsToldOf, OneOf, not_kept, kept_so, kept}
+use Rattle.run_laws.specs.Steps.{RequestStep, IsHandledWhole, IsLike, IsLeftBehind, Gave, IsToldOf, WaitsIn, with_deed, OneOf, not_kept, in_first_deed, kept_so, kept}
 use Rattle.run_laws.specs.Went.{Rests}
 use Rattle.cmd_run.specs.Answers.{IsTextPut}
 use Rattle.cmd_run.proofs.GetSteps.{line_has_bytes}
@@ -51,7 +52,21 @@ pub record MarkTold {B : Type 0} (old new : World B) (at : State) (c : Cat) (req
   pub caused : AreCaused old new (m ∷ [])
   pub gave : IsTrue new.ambient.tells → Gave (m ∷ []) old.ambient new.ambient
 
-module _ {B : Type 0} (old new : World B) (at : State) (c mid fin : Cat) (n : ℕ) (request : Request) (g : Grid) (m : Mark) (e : End) (t : MarkTold old new at c request g m e) (like : IsLike c mid) (behind : IsLeftBehind c n (marked_done at g m e) fin) (sink_last : old.sink.last ≤ old.moments) where
+-- the catalogue between the two commits of a deed: all that is seen of the request is that it is pending
+pub record IsPendingIn (at : State) (c : Cat) (n : ℕ) (request : Request) (mid : Cat) : Type 0 where
+  pub rows : Cat
+  pub user : ℕ
+  pub line : Text
+  pub call : Call
+  pub like : IsLike c rows
+  pub waits_in : WaitsIn at request rows user call
+  pub is : mid ≡ with_deed rows n user line call
+
+-- or nothing is seen of it
+abbrev pub IsMiddle : State → Cat → ℕ → Request → Cat → Type 0
+IsMiddle at c n request mid = IsLike c mid ⊎ IsPendingIn at c n request mid
+
+module _ {B : Type 0} (old new : World B) (at : State) (c mid fin : Cat) (n : ℕ) (request : Request) (g : Grid) (m : Mark) (e : End) (t : MarkTold old new at c request g m e) (middle : IsMiddle at c n request mid) (behind : IsLeftBehind c n (marked_done at g m e) fin) (sink_last : old.sink.last ≤ old.moments) where
   abbrev d : Done
   d = marked_done at g m e
 
@@ -68,14 +83,17 @@ module _ {B : Type 0} (old new : World B) (at : State) (c mid fin : Cat) (n : �
   abbrev pub Image : Text → Text → Type 0
   Image main sink = (StandsEither c mid main × (sink ≡ old.sink.holds)) ⊎ (StandsFor main fin × AddsPart text old.sink.holds sink)
 
-  not_kept_of : (x : Cat) → IsLike c x → (main sink : Text) → StandsFor main x → sink ≡ old.sink.holds → OneOf c n d pieces old.sink.holds main sink
+  not_kept_of : (x : Cat) → IsLike c x → (main sink : Text) → StandsFor main x → sink ≡ old.sink.holds → OneOf at c n request d pieces old.sink.holds main sink
   not_kept_of x same main sink stands is =
-      let Q : Text → Type 0 = λ s. OneOf c n d pieces old.sink.holds main s in
+      let Q : Text → Type 0 = λ s. OneOf at c n request d pieces old.sink.holds main s in
       subst Q (sym is) (not_kept x same stands (none_of text old.sink.holds) (line_has_bytes n (codes "mark" ∷ mark_words m)))
 
-  pub image_of : (main sink : Text) → Image main sink → OneOf c n d pieces old.sink.holds main sink
+  pub image_of : (main sink : Text) → Image main sink → OneOf at c n request d pieces old.sink.holds main sink
   image_of main sink (inl (inl stands, is)) = not_kept_of c (like_self c) main sink stands is
-  image_of main sink (inl (inr stands, is)) = not_kept_of mid like main sink stands is
+  image_of main sink (inl (inr stands, is)) = elim middle [
+    | inl like ↦ not_kept_of mid like main sink stands is
+    | inr w ↦ in_first_deed w.rows w.user w.line w.call w.like w.waits_in (subst (StandsFor main) w.is stands) is
+  ]
   image_of main sink (inr (stands, part)) = kept_so fin (kept behind) stands part
 
   -- before mark and end are put

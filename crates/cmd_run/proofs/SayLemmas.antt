@@ -75,7 +75,7 @@ module _ {D A P : Type 0} (disk : D → DiskState) (ambient : A → AmbientState
     by_rows = subst EndsByRows (sym (ap (λ (r : Reply). r.end) s.reply_is)) s.by_rows
 
     -- main still stands for the rows, and the sink has a part of the reply
-    pub image_of : (t : ℕ) (main sink : Text) → IsTrue (disk o.main).tells → IsSettled (disk o.main) → o.moments < t → (disk n.main).left t main → AddsPart text from.holds sink → OneOf before.store.cat number s.d [] from.holds main sink
+    pub image_of : (t : ℕ) (main sink : Text) → IsTrue (disk o.main).tells → IsSettled (disk o.main) → o.moments < t → (disk n.main).left t main → AddsPart text from.holds sink → OneOf (state_of before) before.store.cat number request s.d [] from.holds main sink
     image_of t main sink told settled late main_left part =
         kept_so before.store.cat (unseen (like_self before.store.cat) marks_none s.grid) (stands_still disk o.main n.main before.store.cat o.moments t main main_same main_last late settled (stood told) main_left) part
 

@@ -107,7 +107,7 @@ module _ {D A P : Type 0} (disk : D → DiskState) (ambient : A → AmbientState
       (told_found old c slots stores_last drawn.word drawn.now may.read bad may.files_are says) (may.ran drawn.word drawn.now bad (found_so plugin o.stores.items says))
 
   abbrev IsBehind : Type 1
-  IsBehind = Behind disk ambient plugin source o n last from server after_server number request c fits (like_self c) sink_last sessions_same
+  IsBehind = Behind disk ambient plugin source o n last from server after_server number request c fits (inl (like_self c)) sink_last sessions_same
 
   abbrev behind_of : IsBehind
   behind_of = record {
@@ -132,12 +132,12 @@ module _ {D A P : Type 0} (disk : D → DiskState) (ambient : A → AmbientState
 
     -- nothing was put
     pub cut_sum : (r : Result ⊤ Ending) (x : Ending) → IsKeptSo c (named number marks.end) mid (disk mid_main) (disk n.main) r after_server → Obeys old (new from) server number request (Err x) after_server
-    cut_sum r x k = cut disk ambient plugin source o n last from server after_server number request c fits (like_self c) sink_last sessions_same behind_of (leaves r k) x
+    cut_sum r x k = cut disk ambient plugin source o n last from server after_server number request c fits (inl (like_self c)) sink_last sessions_same behind_of (leaves r k) x
 
     -- mark and end were put
     pub told_sum : (to : SinkState) → o.moments ≤ n.moments → (disk n.main).last ≤ n.moments → (disk n.main).tells ≡ (disk o.main).tells → IsKeptSo c (named number marks.end) mid (disk mid_main) (disk n.main) (Ok tt) after_server
         → IsTextPut (looked_text number drawn words l) n.moments from to → (r : Result ⊤ Ending) → PutEnds (looked_text number drawn words l) from to r → Obeys old (new to) server number request r after_server
     told_sum to drawn_more main_last tells k put r put_ends =
         let T : D → Type 0 = λ m. IsTrue (disk m).tells in
-        told_then disk ambient plugin source o n last from server after_server number request c fits (like_self c) sink_last sessions_same behind_of (leaves (Ok tt) k)
+        told_then disk ambient plugin source o n last from server after_server number request c fits (inl (like_self c)) sink_last sessions_same behind_of (leaves (Ok tt) k)
         (record { held = k.ends.held; cat = k.ends.cat; staged = k.ends.staged; settled = λ told. k.ends.settled (subst T (sym main_same) told) }) to put drawn_more main_last tells r put_ends

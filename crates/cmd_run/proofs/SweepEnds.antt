@@ -36,7 +36,7 @@ use Rattle.cmd_run.specs.declared.server.Ending.{Ending}
 use Rattle.cmd_run.specs.Around.{around}
 use Rattle.cmd_run.specs.Answers.{IsTextPut, PutEnds}
 use Rattle.cmd_run.specs.Fits.{state_by, state_of, FitsMain, AreUsers}
-use Rattle.cmd_run.specs.Obeys.{Obeys, SaysOnly, NamesItsCall, handled}
+use Rattle.cmd_run.specs.Obeys.{HasNoneWaiting, Obeys, SaysOnly, handled}
 use Rattle.cmd_run.specs.Sweeping.{ForgetEnds, ForgetsOrphans}
 use Rattle.cmd_run.proofs.GotLemmas.{caused_none}
 use Rattle.cmd_run.proofs.DeedEnds.{state_behind}
@@ -74,7 +74,7 @@ module _ {D A P : Type 0} (disk : D → DiskState) (ambient : A → AmbientState
     like = gone_like gone c after applied
 
     -- either catalogue is one in which nothing of the request is seen
-    image_of : (main sink : Text) → StandsEither c after main → AddsPart text from.holds sink → OneOf c number s.d [] from.holds main sink
+    image_of : (main sink : Text) → StandsEither c after main → AddsPart text from.holds sink → OneOf (state_of server) c number request s.d [] from.holds main sink
     image_of main sink (inl before) part = kept_so c (unseen (like_self c) marks_none s.grid) before part
     image_of main sink (inr behind) part = kept_so after (unseen like marks_none s.grid) behind part
 
@@ -82,7 +82,7 @@ module _ {D A P : Type 0} (disk : D → DiskState) (ambient : A → AmbientState
     none_put sink same = let Q : Text → Type 0 = λ x. AddsPart text from.holds x in subst Q (sym same) (none_of text from.holds)
 
     abbrev step_of : (to : SinkState) → (IsTrue from.tells → AddsPart text from.holds to.holds)
-        → (IsTrue (disk o.main).tells → IsTrue from.tells → IsSettled (disk o.main) → IsSettled from → (t : ℕ) (main sink : Text) → o.moments < t → (disk n.main).left t main → to.left t sink → OneOf c number s.d [] from.holds main sink)
+        → (IsTrue (disk o.main).tells → IsTrue from.tells → IsSettled (disk o.main) → IsSettled from → (t : ℕ) (main sink : Text) → o.moments < t → (disk n.main).left t main → to.left t sink → OneOf (state_of server) c number request s.d [] from.holds main sink)
         → RequestStep old (new to) (state_of server) c number request
     step_of to shown images = record {
       marks = [];
@@ -111,7 +111,7 @@ module _ {D A P : Type 0} (disk : D → DiskState) (ambient : A → AmbientState
         line : IsTextPut text mid from to
         line = let Q : Text → Type 0 = λ x. IsTextPut x mid from to in subst Q (sym text_is) put
 
-        images : IsTrue (disk o.main).tells → IsTrue from.tells → IsSettled (disk o.main) → IsSettled from → (t : ℕ) (main sink : Text) → o.moments < t → (disk n.main).left t main → to.left t sink → OneOf c number s.d [] from.holds main sink
+        images : IsTrue (disk o.main).tells → IsTrue from.tells → IsSettled (disk o.main) → IsSettled from → (t : ℕ) (main sink : Text) → o.moments < t → (disk n.main).left t main → to.left t sink → OneOf (state_of server) c number request s.d [] from.holds main sink
         images told sink_told settled sink_settled t main sink late main_left sink_left =
             image_of main sink (leaves told settled t main late main_left) (elim (cases_lt mid t) [
               | inl now ↦ put_left text mid t from to sink line sink_told sink_settled (omega (arith, sink_last, drawn)) now sink_left
@@ -166,11 +166,11 @@ module _ {D A P : Type 0} (disk : D → DiskState) (ambient : A → AmbientState
         swept_then (Err e) put_ends = handled step tt
 
 -- no command is pending in either
-pub swept_call : (c : Cat) (from : ℕ) (old new : DiskState) (result : Result ⊤ Ending) (server : Server) → c.pending ≡ None → ForgetsOrphans c from old new result server → NamesItsCall from old new
-swept_call c from old new result server none forgets told settled t main d late left stands =
+pub none_waits_swept : (c : Cat) (from : ℕ) (old new : DiskState) (result : Result ⊤ Ending) (server : Server) → c.pending ≡ None → ForgetsOrphans c from old new result server → HasNoneWaiting from old new
+none_waits_swept c from old new result server none forgets told settled t main d late left stands =
     let like = gone_like forgets.gone c forgets.after forgets.applied in
-    let P : Cat → Type 0 = λ x. NamesCall x.pending in
+    let P : Cat → Type 0 = λ x. x.pending ≡ None in
     elim (forgets.leaves told settled t main late left) [
-      | inl before ↦ subst P (sym (one_cat main c d before stands)) (subst NamesCall (sym none) tt)
-      | inr behind ↦ subst P (sym (one_cat main forgets.after d behind stands)) (subst NamesCall (sym (like.pending ∙ none)) tt)
+      | inl before ↦ subst P (sym (one_cat main c d before stands)) none
+      | inr behind ↦ subst P (sym (one_cat main forgets.after d behind stands)) (like.pending ∙ none)
     ]

@@ -197,7 +197,7 @@ not_le a b more = by (nat_le a b) refl
 
 -- what is put, where the line promised no more than an object may have
 pub asks_to_put : (s : Server) (session user : ℕ) → user_of (at s.sessions session) ≡ Some user → (line : PutLine) (request : Request) → PutOf session line request → nat_le line.count object_size ≡ true
-    → AsksToPut s (record { user = user; path = line.path; resource = line.resource; mode = line.mode; body = line.body }) request
+    → AsksToPut s (record { user = user; path = line.path; resource = line.resource; mode = line.mode; body = line.body; line = line.line }) request
 asks_to_put s session user has line request asks small = record {
   session = session;
   count = line.count;

@@ -20,7 +20,8 @@ use Rattle.cmd_run.specs.declared.server.Server.{Server}
 use Rattle.cmd_run.specs.declared.server.Ending.{Ending}
 use Rattle.cmd_run.specs.declared.server.Ending.TheVariants.{Disk, Sink, Memory, Worn}
 use Rattle.cmd_run.specs.Errors.{IsOfCommit, ending_of}
-use Rattle.cmd_run.specs.Keeps.{named, IsChange, IsKeptSo, KeepEnds}
+use Rattle.cmd_run.specs.Keeps.{IsChange, IsKeptSo, KeepEnds}
+use Rattle.cmd_run.specs.Noting.{ended}
 use Rattle.cmd_run.specs.Writes.{Kept, Writing, WriteEnds, IsWritten}
 
 -- no change at all
@@ -97,25 +98,25 @@ module _ {B : Type 0} (plugin : B → StoreState) (w : Writing) (old mid_devices
     abbrev new : Kept B
     new = record { main = main_new; stores = mid_devices.stores }
 
-    leaves : (result : Result ⊤ Ending) (server : Server) → IsKeptSo w.mid (named w.number w.mid) to mid_devices.main main_new result server
-        → IsTrue old.main.tells → IsSettled old.main → Leaves w.from (StandsOne w.before w.mid (named w.number w.mid)) main_new
-    leaves result server k = kept_then w.before w.mid (named w.number w.mid) w.from to old.main mid_devices.main main_new done.leaves done.ends.2.settled tells goes k.leaves
+    leaves : (result : Result ⊤ Ending) (server : Server) → IsKeptSo w.mid (ended w.number w.mid) to mid_devices.main main_new result server
+        → IsTrue old.main.tells → IsSettled old.main → Leaves w.from (StandsOne w.before w.mid (ended w.number w.mid)) main_new
+    leaves result server k = kept_then w.before w.mid (ended w.number w.mid) w.from to old.main mid_devices.main main_new done.leaves done.ends.2.settled tells goes k.leaves
 
-    pub failed_kept : (server : Server) → IsKeptSo w.mid (named w.number w.mid) to mid_devices.main main_new (Ok tt) server → IsWritten plugin w old new (Ok (Some fault.slot)) server
+    pub failed_kept : (server : Server) → IsKeptSo w.mid (ended w.number w.mid) to mid_devices.main main_new (Ok tt) server → IsWritten plugin w old new (Ok (Some fault.slot)) server
     failed_kept server k = inr (record {
       slot = fault.slot;
       among = done.ends.0;
       rose = done.ends.1;
       ends = record {
-        ends = (refl, kept_since (named w.number w.mid) old.main mid_devices.main main_new server.store tells k.ends);
+        ends = (refl, kept_since (ended w.number w.mid) old.main mid_devices.main main_new server.store tells k.ends);
         leaves = leaves (Ok tt) server k;
       };
     })
 
-    pub failed_err : (e : Ending) (server : Server) → IsKeptSo w.mid (named w.number w.mid) to mid_devices.main main_new (Err e) server → IsWritten plugin w old new (Err e) server
+    pub failed_err : (e : Ending) (server : Server) → IsKeptSo w.mid (ended w.number w.mid) to mid_devices.main main_new (Err e) server → IsWritten plugin w old new (Err e) server
     failed_err e server k = inr (record {
       slot = fault.slot;
       among = done.ends.0;
       rose = done.ends.1;
-      ends = record { ends = ends_kept w.mid (named w.number w.mid) (Some fault.slot) old.main mid_devices.main main_new tells e server k.ends; leaves = leaves (Err e) server k };
+      ends = record { ends = ends_kept w.mid (ended w.number w.mid) (Some fault.slot) old.main mid_devices.main main_new tells e server k.ends; leaves = leaves (Err e) server k };
     })

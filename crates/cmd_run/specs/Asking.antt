@@ -49,17 +49,24 @@ ends_input (Err r) = false
 abbrev pub NamesSome : ItemKind → Text → Type 0
 NamesSome kind name = (thing : Thing) × NamesThing kind name thing
 
--- A new name is a name, a thing is told by its path or its name, and what is to be said of it are words.
+-- A new name is a name, the resource of a deed is a word, a thing is told by its path or its name, and what is to be said of it are words.
 abbrev pub HasGoodWords : Verb → Type 0
 HasGoodWords (verb.MkUser name kind) = IsTrue (is_name name)
 HasGoodWords (verb.MkGroup name) = IsTrue (is_name name)
 HasGoodWords (verb.MkStorage name slot) = IsTrue (is_name name)
 HasGoodWords (verb.MkCoordinating name kind) = IsTrue (is_name name)
+HasGoodWords (verb.Put path resource mode count) = IsTrue (is_word resource)
+HasGoodWords (verb.Repl path resource) = IsTrue (is_word resource)
 HasGoodWords (verb.AddMeta kind name attribute value unit) =
     NamesSome kind name × IsTrue (is_word attribute) × IsTrue (is_word value) × IsTrue (is_word unit)
 HasGoodWords (verb.RmMeta kind name attribute value unit) = NamesSome kind name
 HasGoodWords (verb.LsMeta kind name) = NamesSome kind name
 HasGoodWords other = Unit {0}
+
+-- the line that is noted is this one, unless the words were refused
+abbrev pub IsLineOf : Result Request Refusal → Text → Text → Type 0
+IsLineOf (Ok request) noted line = noted ≡ line
+IsLineOf (Err r) noted line = Unit {0}
 
 -- what words are read as: the session is one of 64, its words are good, and a refusal is one that words may have
 abbrev pub IsForm : Result Request Refusal → Type 0

@@ -5,14 +5,14 @@ use Rattle.grid_outside.specs.Files.{StoreState}
 use Rattle.grid_model.specs.Digests.{Digest}
 use Rattle.grid_model.specs.Names.{Text, Path}
 use Rattle.grid_model.specs.Rows.{Cat}
-use Rattle.grid_model.specs.RowGrids.{grid_of}
+use Rattle.grid_model.specs.RowGrids.{grid_of, user_name}
 use Rattle.grid_model.specs.Deeds.{Deed, deed, differs, fits}
 use Rattle.grid_model.specs.Operations.Replicas.{repl_row}
 use Rattle.grid_model.specs.Orders.{works}
 use Rattle.grid_model.specs.Operations.Table.{repl}
 use Rattle.grid_model.specs.Replies.{mark_line, end_line}
 use Rattle.grid_model.specs.Runs.{Request}
-use Rattle.grid_model.specs.Working.{well}
+use Rattle.grid_model.specs.Working.{running, well}
 use Rattle.grid_model.specs.declared.marks.Mark.{Mark}
 use Rattle.grid_model.specs.declared.marks.Mark.TheVariants as mark
 use Rattle.grid_model.specs.declared.plans.OldFile.{OldFile}
@@ -27,11 +27,10 @@ use Rattle.grid_headline.specs.Files.{KeepsNamed}
 use Rattle.grid_journal.specs.Stands.{StandsEither}
 use Rattle.grid_deed.specs.declared.copying.Copied.{Copied}
 use Rattle.grid_deed.specs.declared.copying.Copied.TheVariants as copied
-use Rattle.run_laws.specs.Steps.{IsLike}
 use Rattle.cmd_run.specs.declared.server.Server.{Server}
 use Rattle.cmd_run.specs.declared.server.Ending.{Ending}
 use Rattle.cmd_run.specs.Gets.{Drawn}
-use Rattle.cmd_run.specs.Keeps.{named}
+use Rattle.cmd_run.specs.Noting.{NotesDeed, ended}
 use Rattle.cmd_run.specs.Obeys.{StaysBeside}
 use Rattle.cmd_run.specs.Writes.{Kept, Writing, WriteEnds}
 
@@ -39,18 +38,19 @@ use Rattle.cmd_run.specs.Writes.{Kept, Writing, WriteEnds}
 abbrev pub repl_request : ℕ → Path → Text → Request
 repl_request session path resource = Ok (session, works (repl path resource) 0)
 
--- The plan is that of the repl for this word at this time, which copies this file: nothing is seen of its first changes, and behind its
--- last ones the rows stand for the grid once the deed ran, as the command of this number left them.
-pub record PlansRepl (c : Cat) (user : Text) (p : Path) (resource : Text) (drawn : Drawn) (n : ℕ) (from : OldFile) (plan : Plan) : Type 0 where
+-- The plan is that of the repl for this word at this time, which copies this file: all that is seen of its first changes is that the
+-- command of this number is pending, and behind its last ones the rows stand for the grid once the deed ran, as the command left them.
+pub record PlansRepl (c : Cat) (user : ℕ) (line : Text) (p : Path) (resource : Text) (drawn : Drawn) (n : ℕ) (from : OldFile) (plan : Plan)
+    : Type 0 where
   pub of : Deed
-  pub row_is : repl_row (grid_of c) user p resource ≡ Ok (deed of)
+  pub row_is : repl_row (grid_of c) (user_name c user) p resource ≡ Ok (deed of)
   pub size : of.size ≡ from.size
   pub digest : of.digest ≡ from.digest
   pub ran_fits : fits of (mark.Ran drawn.word drawn.now []) ≡ true
   pub fault_fits : plan.files ≢ [] → (slot : ℕ) → HasSlot plan.files slot ⊎ (slot ≡ from.slot) → fits of (mark.Fault slot 0) ≡ true
   pub bad_fits : plan.files ≢ [] → (len : ℕ) (found : Digest) → differs len found of.size of.digest ≡ true → fits of (mark.Bad from.slot len found 0) ≡ true
   pub is_plan : IsCopyPlan c c c.stores plan from
-  pub before : IsLike c is_plan.mid
+  pub before : NotesDeed c n user line (running (repl p resource)) is_plan.mid
   pub grid : grid_of is_plan.end ≡ of.ran drawn.word drawn.now []
   pub last : is_plan.end.numbers.last ≡ n
   pub stays : StaysBeside c is_plan.end
@@ -82,7 +82,7 @@ is_copied other = false
 -- the catalogue that its last commit leads to
 abbrev pub kept_behind : Writing → Copied → Cat
 kept_behind w copied.Done = w.end
-kept_behind w other = named w.number w.mid
+kept_behind w other = ended w.number w.mid
 
 -- what backs the answer: the last changes were not asked for or leave each file named; or a store failed, or other bytes were found
 abbrev pub Backs : {B : Type 0} → (B → StoreState) → Writing → OldFile → Kept B → Kept B → Copied → Type 0

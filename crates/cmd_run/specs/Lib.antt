@@ -7,6 +7,7 @@ pub mod Fits
 pub mod Gets
 pub mod Keeps
 pub mod Logins
+pub mod Noting
 pub mod Obeys
 pub mod Operating
 pub mod Passes

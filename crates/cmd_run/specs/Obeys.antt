@@ -1,5 +1,5 @@
 -- What the handling of one request leaves.
-use Rattle.std.specs.Prelude.{◌≡◌, ℕ, ◌^◌, ◌<◌, List, [], Result, Ok, Err, IsTrue, ⊤}
+use Rattle.std.specs.Prelude.{◌≡◌, ℕ, ◌^◌, ◌<◌, List, [], Option, None, Result, Ok, Err, IsTrue, ⊤}
 use Rattle.grid_outside.specs.Device.{IsSettled}
 use Rattle.grid_outside.specs.Disk.{DiskState}
 use Rattle.grid_outside.specs.declared.outside.Wear.{Wear}
@@ -12,6 +12,7 @@ use Rattle.grid_model.specs.Working.{Done}
 use Rattle.grid_model.specs.Completing.{EndsByRows}
 use Rattle.grid_model.specs.Runs.{Request, does}
 use Rattle.grid_model.specs.RowGrids.{grid_of}
+use Rattle.grid_model.specs.declared.deltas.Pending.{Pending}
 use Rattle.grid_model.specs.declared.refusal.Refusal.{Refusal}
 use Rattle.grid_model.specs.declared.replies.End.{End}
 use Rattle.grid_model.specs.declared.replies.End.TheVariants as end
@@ -21,7 +22,7 @@ use Rattle.grid_headline.specs.Files.{NamesCall, KeepsNamed}
 use Rattle.grid_headline.specs.Worlds.{World}
 use Rattle.grid_headline.specs.Numbers.{KeepsNumbers, last_vault}
 use Rattle.run_laws.specs.Ends.{MakesFile}
-use Rattle.run_laws.specs.Steps.{RequestStep, IsHandledWhole, IsQuiet}
+use Rattle.run_laws.specs.Steps.{RequestStep, IsHandledWhole, IsQuiet, HasLine}
 use Rattle.cmd_run.specs.Fits.{state_of, FitsMain}
 use Rattle.cmd_run.specs.declared.server.Server.{Server}
 use Rattle.cmd_run.specs.declared.server.Ending.{Ending}
@@ -41,15 +42,29 @@ pub data Obeys {B : Type 0} (old new : World B) (before : Server) (n : ℕ) (req
       → Obeys old new before n request result after
   quiet : (ending : Ending) → result ≡ Err ending → IsQuiet old new before.store.cat → Obeys old new before n request result after
 
--- A catalogue that main stands for at a moment after so many names the call of a command that is pending.
-abbrev pub NamesItsCall : ℕ → DiskState → DiskState → Type 0
-NamesItsCall from old new = IsTrue old.tells → IsSettled old → (t : ℕ) (main : Text) (c : Cat)
-    → from < t → new.left t main → StandsFor main c → NamesCall c.pending
+-- In a catalogue that main stands for at a moment after so many no command is pending.
+abbrev pub HasNoneWaiting : ℕ → DiskState → DiskState → Type 0
+HasNoneWaiting from old new = IsTrue old.tells → IsSettled old → (t : ℕ) (main : Text) (c : Cat)
+    → from < t → new.left t main → StandsFor main c → c.pending ≡ None
 
--- A catalogue that main stands for at a moment after so many names what one row of this one named, and the call of a pending command.
+-- The same, and it names what one row of this one named.
 abbrev pub Remembers : Cat → ℕ → DiskState → DiskState → Type 0
 Remembers before from old new = IsTrue old.tells → IsSettled old → (t : ℕ) (main : Text) (c : Cat)
-    → from < t → new.left t main → StandsFor main c → NamesCall c.pending × KeepsNamed before c
+    → from < t → new.left t main → StandsFor main c → (c.pending ≡ None) × KeepsNamed before c
+
+-- a pending command names its call, and has this line
+abbrev pub IsNoted : Text → Option Pending → Type 0
+IsNoted line p = NamesCall p × HasLine line p
+
+-- A catalogue that main stands for at a moment after so many names the call and this line of a command that is pending.
+abbrev pub NamesItsCall : Text → ℕ → DiskState → DiskState → Type 0
+NamesItsCall line from old new = IsTrue old.tells → IsSettled old → (t : ℕ) (main : Text) (c : Cat)
+    → from < t → new.left t main → StandsFor main c → IsNoted line c.pending
+
+-- The same, and it names what one row of this one named.
+abbrev pub RemembersDeed : Text → Cat → ℕ → DiskState → DiskState → Type 0
+RemembersDeed line before from old new = IsTrue old.tells → IsSettled old → (t : ℕ) (main : Text) (c : Cat)
+    → from < t → new.left t main → StandsFor main c → IsNoted line c.pending × KeepsNamed before c
 
 -- the request makes files
 abbrev pub AsksForFile : Request → Type 0

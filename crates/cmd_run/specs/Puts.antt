@@ -1,9 +1,5 @@
 -- What a put asks for, and the plan of it.
-use Rattle.std.specs.Prelude.{◌≡◌, ℕ, ◌^◌, ◌≤◌, [], ◌∷◌, ◌++◌, true, nat_le, length, Some, Ok, IsTrue}
-use Rattle.std.specs.List.{list_all}
-use Rattle.grid_journal.specs.Journal.{can_be_kept}
-use Rattle.grid_model.specs.declared.deltas.Numbers.{Numbers}
-use Rattle.grid_model.specs.declared.deltas.Delta.TheVariants as delta
+use Rattle.std.specs.Prelude.{◌≡◌, ℕ, ◌^◌, ◌≤◌, [], true, nat_le, length, Some, Ok, IsTrue}
 use Rattle.grid_model.specs.Maps.{get}
 use Rattle.grid_model.specs.Limits.{object_size}
 use Rattle.grid_model.specs.Rows.{Cat}
@@ -13,15 +9,17 @@ use Rattle.grid_model.specs.Orders.{works}
 use Rattle.grid_model.specs.Deeds.{Deed, deed, fits}
 use Rattle.grid_model.specs.Operations.Table.{Operation, put, row}
 use Rattle.grid_model.specs.Runs.{Request}
+use Rattle.grid_model.specs.Working.{running}
+use Rattle.grid_model.specs.Writable.{is_word}
 use Rattle.grid_model.specs.declared.marks.Mark.TheVariants.{Ran, Fault}
 use Rattle.grid_model.specs.declared.plans.Plan.{Plan}
 use Rattle.grid_vault.specs.Vault.{HasSlot}
 use Rattle.file_laws.specs.Plans.{IsPlan}
-use Rattle.run_laws.specs.Steps.{IsLike}
 use Rattle.plan_object.specs.Writing.{Wanted}
 use Rattle.cmd_run.specs.declared.server.Server.{Server}
 use Rattle.cmd_run.specs.declared.putting.Putting.{Putting}
 use Rattle.cmd_run.specs.Fits.{state_of}
+use Rattle.cmd_run.specs.Noting.{NotesDeed}
 use Rattle.cmd_run.specs.Obeys.{StaysBeside}
 
 -- the operation
@@ -31,6 +29,10 @@ operation_of p = put p.path p.resource p.mode p.body
 -- what it asks for, but for its bytes
 abbrev pub wanted : Putting → Wanted
 wanted p = record { path = p.path; resource = p.resource; mode = p.mode; size = length p.body }
+
+-- the words that are noted of it are words
+abbrev pub HasWords : Putting → Type 0
+HasWords p = IsTrue (is_word p.resource) × IsTrue (is_word p.line)
 
 -- The request is this operation of the user with this id, in a session that is logged in, and its line promised no more bytes than there
 -- may be.
@@ -47,23 +49,16 @@ pub record AsksToDo (s : Server) (id : ℕ) (op : Operation) (request : Request)
 abbrev pub AsksToPut : Server → Putting → Request → Type 0
 AsksToPut s p request = AsksToDo s p.user (operation_of p) request
 
--- The plan is that of the put for this word at this time: nothing is seen of its first changes, and behind its last ones the rows
--- stand for the grid once the deed ran, as the command of this number left them.
+-- The plan is that of the put for this word at this time: all that is seen of its first changes is that the command of this number is
+-- pending, and behind its last ones the rows stand for the grid once the deed ran, as the command left them.
 pub record PlansPut (c : Cat) (p : Putting) (word now n : ℕ) (plan : Plan) : Type 0 where
   pub of : Deed
   pub row_is : row (grid_of c) (user_name c p.user) (operation_of p) ≡ Ok (deed of)
   pub ran_fits : fits of (Ran word now []) ≡ true
   pub fault_fits : (slot : ℕ) → HasSlot plan.files slot → fits of (Fault slot 0) ≡ true
   pub is_plan : IsPlan c c c.stores plan p.body
-  pub before : IsLike c is_plan.mid
+  pub before : NotesDeed c n p.user p.line (running (operation_of p)) is_plan.mid
   pub grid : grid_of is_plan.end ≡ of.ran word now []
   pub last : is_plan.end.numbers.last ≡ n
   pub stays : StaysBeside c is_plan.end
   pub few : length plan.files ≤ 2 ^ 32
-
--- The plan has these numbers behind its last changes.
-pub record IsNamedPlan (plan : Plan) (numbers : Numbers) (named : Plan) : Type 0 where
-  pub before : named.before ≡ plan.before
-  pub files : named.files ≡ plan.files
-  pub after : named.after ≡ plan.after ++ delta.Numbers numbers ∷ []
-  pub spelled : IsTrue (list_all can_be_kept plan.after) → IsTrue (list_all can_be_kept named.after)

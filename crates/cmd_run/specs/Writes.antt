@@ -13,7 +13,7 @@ use Rattle.grid_deed.specs.Held.{IsKept}
 use Rattle.cmd_run.specs.declared.server.Server.{Server}
 use Rattle.cmd_run.specs.declared.server.Ending.{Ending}
 use Rattle.cmd_run.specs.declared.server.Ending.TheVariants.{Disk, Sink, Memory, Worn}
-use Rattle.cmd_run.specs.Keeps.{named}
+use Rattle.cmd_run.specs.Noting.{ended}
 
 -- main and the stores
 pub record Kept (B : Type 0) : Type 1 where
@@ -49,7 +49,7 @@ module _ {B : Type 0} (plugin : B → StoreState) (w : Writing) (old new : Kept 
     pub slot : ℕ
     pub among : HasSlot w.files slot
     pub rose : RoseAt plugin slot old.stores new.stores
-    pub ends : EndsIn (named w.number w.mid) (Some slot)
+    pub ends : EndsIn (ended w.number w.mid) (Some slot)
 
   -- the files were written and the last changes kept, or how far that came; or a store failed
   abbrev pub IsWritten : Type 0

@@ -1,4 +1,4 @@
-ghost use Rattle.std.specs.Prelude.{◌≡◌, ◌≢◌, ◌+◌, ◌≤◌, ◌<◌, ◌++◌, IfOk, IsErrOf, Ok, vec_len};
+ghost use Rattle.std.specs.Prelude.{◌≡◌, ◌≢◌, ◌+◌, ◌≤◌, ◌<◌, ◌++◌, IfOk, IsTrue, IsErrOf, Ok, is_some, vec_len};
 ghost use Rattle.grid_deed.specs.Deeds.{moments_of, CopySays};
 ghost use Rattle.grid_deed.specs.Frame.{IsReady, Frame};
 ghost use Rattle.grid_deed.specs.Held.{IsHeld};
@@ -11,7 +11,7 @@ use crate::keeping::ending_of;
 use crate::putting::{failed_text, ran_text};
 use crate::{Ending, Server};
 use grid_deed::{Copied, perform_copy};
-use grid_model::{Deltas, OldFile, Plan, Text};
+use grid_model::{OldFile, Plan, Text};
 use grid_outside::{Ambient, Disk, Outside, Plugin};
 use std::alloc::{AllocError, Global};
 
@@ -27,7 +27,7 @@ impl Server {
         from: &OldFile,
     ) -> Result<Copied, Ending>
         requires held { IsHeld self.old.store.cat (D.disk outside.old.main) self.old.store }
-        requires plan { IsCopyPlan self.old.store.cat self.old.store.cat (vec_len outside.old.stores) plan from.now }
+        requires plan { (p : IsCopyPlan self.old.store.cat self.old.store.cat (vec_len outside.old.stores) plan from.now) × IsTrue (is_some p.mid.pending) }
         requires source { from.now.slot < vec_len outside.old.stores }
         requires ready { IsReady D.disk P.plugin (moments_of plan.files from.now.size + 4) outside.old }
         ensures carried { (p : IsCopyPlan self.old.store.cat self.old.store.cat (vec_len outside.old.stores) plan from.now) →
@@ -54,7 +54,7 @@ impl Server {
         if is_done(&copied) {
             return Ok(copied);
         }
-        match self.keep(alloc, outside, number, Deltas::from_vec(Vec::new(alloc))) {
+        match self.end_deed(alloc, outside, number) {
             Ok(()) => Ok(copied),
             Err(ending) => Err(ending),
         }

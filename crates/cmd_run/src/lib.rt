@@ -9,6 +9,7 @@ mod getting;
 mod keeping;
 mod listing;
 mod logins;
+mod noting;
 mod obeying;
 mod operations;
 mod putting;

@@ -1,29 +1,31 @@
-ghost use Rattle.std.specs.Prelude.{◌≡◌, ℕ, ◌+◌, ◌≤◌, ◌^◌, Err, IsErrOf, length, vec_len};
+ghost use Rattle.std.specs.Prelude.{◌≡◌, ℕ, ◌+◌, ◌≤◌, ◌^◌, Err, IsTrue, IsErrOf, length, vec_len};
 ghost use Rattle.grid_outside.specs.Source.{SourceState};
 ghost use Rattle.grid_model.specs.Limits.{object_size};
+ghost use Rattle.grid_model.specs.Names.{Text as TextOf};
 ghost use Rattle.grid_model.specs.Runs.{Request as RequestOf};
+ghost use Rattle.grid_model.specs.Writable.{is_word};
 ghost use Rattle.grid_deed.specs.Safe.{KeepWhole};
 ghost use Rattle.run_laws.specs.Steps.{RemovesNoFile};
 ghost use Rattle.cmd_run.specs.Around.{around};
-ghost use Rattle.cmd_run.specs.Asking.{AsksForRequest, IsForm};
+ghost use Rattle.cmd_run.specs.Asking.{AsksForRequest, IsForm, IsLineOf};
 ghost use Rattle.cmd_run.specs.Passes.{AreReady, CallsPass};
 
 use crate::answers::well;
 use crate::tagging::TagLine;
 use crate::working::PutLine;
 use crate::{Ending, Server};
-use grid_model::{Bytes, End, Refusal, Request, Verb};
+use grid_model::{Bytes, End, Refusal, Request, Text, Verb};
 use grid_outside::{Ambient, Disk, Outside, Plugin, Sink, Wear};
 use std::alloc::Global;
 
 impl Server {
     ghost use Rattle.cmd_run.specs.declared.server.Server.{Server};
     ghost use Rattle.cmd_run.specs.Fits.{state_of, FitsMain};
-    ghost use Rattle.cmd_run.specs.Obeys.{IsRefusedAtOnce, Obeys, IsWorn, NamesItsCall, Remembers};
+    ghost use Rattle.cmd_run.specs.Obeys.{IsRefusedAtOnce, Obeys, IsWorn, NamesItsCall, RemembersDeed};
 
     /// Handles the request of this number: it is decided over the rows, done, kept and answered. Where its words were
     /// refused, that is answered. `body` is the request's body, and empty where its verb has none or promised more bytes
-    /// than an object may have. `Disk` and `Sink` come only where that device failed, and `Worn` only where numbers of vault
+    /// than an object may have. `line` is its line, which is noted while a deed of it runs. `Disk` and `Sink` come only where that device failed, and `Worn` only where numbers of vault
     /// files or the room of the log have run out; a run ends after any error. Draws at most 2^72 moments.
     pub fn command<D: Disk, K: Sink, A: Ambient, P: Plugin>(
         &mut self,
@@ -33,9 +35,11 @@ impl Server {
         number: u64,
         asked: Result<Request, Refusal>,
         body: Bytes,
+        line: Text,
     ) -> Result<(), Ending>
         requires fits { FitsMain (D.disk outside.old.main) self.old }
         requires form { IsForm asked }
+        requires line { IsTrue (is_word line) }
         requires small { length body ≤ object_size }
         requires slots { self.old.store.cat.stores ≡ vec_len outside.old.stores }
         requires ready { AreReady D.disk P.plugin K.sink (2 ^ 72) (record { outside = outside.old; sink = sink.old }) }
@@ -45,9 +49,9 @@ impl Server {
             self.old number request result self.new }
         ensures worn { (source : SourceState) (request : RequestOf) → AsksForRequest (state_of self.old) asked body request →
             IsWorn (around D.disk A.ambient P.plugin outside.new (K.sink sink.new) source) self.old request result }
-        ensures call { NamesItsCall outside.old.moments (D.disk outside.old.main) (D.disk outside.new.main) }
+        ensures call { (l : TextOf) → IsLineOf asked line l → NamesItsCall l outside.old.moments (D.disk outside.old.main) (D.disk outside.new.main) }
         ensures remembers { (request : RequestOf) → AsksForRequest (state_of self.old) asked body request → RemovesNoFile request →
-            Remembers self.old.store.cat outside.old.moments (D.disk outside.old.main) (D.disk outside.new.main) }
+            RemembersDeed line self.old.store.cat outside.old.moments (D.disk outside.old.main) (D.disk outside.new.main) }
         ensures whole { KeepWhole P.plugin outside.old.moments self.old.store.cat
             (D.disk outside.old.main) (D.disk outside.new.main) outside.old.stores.items outside.new.stores.items }
         ensures passes { CallsPass D.disk P.plugin K.sink (IsErrOf result Ending.Disk) (IsErrOf result Ending.Sink)
@@ -76,17 +80,20 @@ impl Server {
                 mode,
                 count,
             } => {
-                let line = PutLine {
+                let putting = PutLine {
                     path,
                     resource,
                     mode,
                     count,
                     body,
+                    line,
                 };
-                self.put_line(alloc, outside, sink, number, session, line)
+                self.put_line(alloc, outside, sink, number, session, putting)
             }
             Verb::Repl { path, resource } => {
-                self.repl(alloc, outside, sink, number, session, &path, &resource)
+                self.repl(
+                    alloc, outside, sink, number, session, &path, &resource, &line,
+                )
             }
             Verb::ChkSum { path } => { self.chksum(alloc, outside, sink, number, session, &path) }
             Verb::Sweep => self.sweep(alloc, outside, sink, number, session),

@@ -1,4 +1,4 @@
-ghost use Rattle.std.specs.Prelude.{◌≡◌, ℕ, ◌+◌, ◌-◌, ◌<◌, ◌≤◌, ◌^◌, ◌++◌, [], List, Err, IsTrue, IsErrOf, IfOk, vec_len, length, nat_le};
+ghost use Rattle.std.specs.Prelude.{◌≡◌, ℕ, ◌+◌, ◌-◌, ◌<◌, ◌≤◌, ◌^◌, ◌++◌, [], List, Err, IsTrue, None, IsErrOf, IfOk, vec_len, length, nat_le};
 ghost use Rattle.grid_outside.specs.Source.{SourceState};
 ghost use Rattle.grid_model.specs.Applying.{IsMade, is_user};
 ghost use Rattle.grid_model.specs.Limits.{object_size};
@@ -10,13 +10,13 @@ ghost use Rattle.cmd_run.specs.Around.{around};
 ghost use Rattle.cmd_run.specs.Passes.{AreReady, CallsPass};
 ghost use Rattle.grid_model.specs.Replies.{mark_line, end_line};
 ghost use Rattle.grid_model.specs.Working.{well};
-ghost use Rattle.cmd_run.specs.Puts.{AsksToPut, IsNamedPlan, PlansPut, wanted};
+ghost use Rattle.cmd_run.specs.Puts.{AsksToPut, HasWords, PlansPut, wanted};
 
 use crate::answers::{mark_and_end, put_text, well};
+use crate::noting::{in_deed, noted, put_call, word_is_text};
 use crate::{Ending, Server};
 use grid_model::{
-    BadReplicas, Bytes, Delta, Deltas, Digest, End, Mark, Mode, Numbers, Path, Plan, PlanError,
-    Refusal, Text,
+    BadReplicas, Bytes, Digest, End, Mark, Mode, Path, Plan, PlanError, Refusal, Text,
 };
 use grid_outside::{Ambient, Disk, Outside, Plugin, Sink, Wear};
 use grid_tree::Leaves;
@@ -38,12 +38,14 @@ pub(crate) struct Putting {
     pub(crate) resource: Text,
     pub(crate) mode: Mode,
     pub(crate) body: Bytes,
+    /// The line that asks for it.
+    pub(crate) line: Text,
 }
 
 impl Server {
     ghost use Rattle.cmd_run.specs.declared.server.Server.{Server};
     ghost use Rattle.cmd_run.specs.Fits.{state_of, FitsMain};
-    ghost use Rattle.cmd_run.specs.Obeys.{IsRefusedAtOnce, Obeys, IsWorn, Remembers};
+    ghost use Rattle.cmd_run.specs.Obeys.{IsRefusedAtOnce, Obeys, IsWorn, RemembersDeed};
 
     /// Puts a body on the targets of a resource: its files are written, its object kept, and then the reply is written.
     pub(crate) fn put<D: Disk, K: Sink, A: Ambient, P: Plugin>(
@@ -57,6 +59,7 @@ impl Server {
         requires fits { FitsMain (D.disk outside.old.main) self.old }
         requires user { IsTrue (is_user self.old.store.cat putting.user) }
         requires small { length putting.body ≤ object_size }
+        requires words { HasWords putting }
         requires slots { self.old.store.cat.stores ≡ vec_len outside.old.stores }
         requires ready { AreReady D.disk P.plugin K.sink (2 ^ 50) (record { outside = outside.old; sink = sink.old }) }
         ensures obeys { (source : SourceState) (request : Request) → AsksToPut self.old putting request →
@@ -65,7 +68,7 @@ impl Server {
             self.old number request result self.new }
         ensures worn { (source : SourceState) (request : Request) → AsksToPut self.old putting request →
             IsWorn (around D.disk A.ambient P.plugin outside.new (K.sink sink.new) source) self.old request result }
-        ensures remembers { Remembers self.old.store.cat outside.old.moments (D.disk outside.old.main) (D.disk outside.new.main) }
+        ensures remembers { RemembersDeed putting.line self.old.store.cat outside.old.moments (D.disk outside.old.main) (D.disk outside.new.main) }
         ensures whole { KeepWhole P.plugin outside.old.moments self.old.store.cat
             (D.disk outside.old.main) (D.disk outside.new.main) outside.old.stores.items outside.new.stores.items }
         ensures passes { CallsPass D.disk P.plugin K.sink (IsErrOf result Ending.Disk) (IsErrOf result Ending.Sink)
@@ -111,7 +114,7 @@ impl Server {
         )
     }
 
-    // The plan of the put for this word at this time, with the number of the command behind its last changes.
+    // The plan of the put for this word at this time, which notes the command while its deed runs.
     fn plan(
         &self,
         alloc: Global,
@@ -124,6 +127,8 @@ impl Server {
         requires user { IsTrue (is_user self.now.store.cat putting.now.user) }
         requires vault { self.now.store.cat.numbers.next_vault ≤ 2 ^ 64 - 2 ^ 33 }
         requires goes { (leaves : List ℕ) × GoesTo self.now.store.cat (user_name self.now.store.cat putting.now.user) (wanted putting.now) 0 leaves }
+        requires none { self.now.store.cat.pending ≡ None }
+        requires words { HasWords putting.now }
         ensures { IfOk result (PlansPut self.now.store.cat putting.now word now number) }
     {
         let leaves = match self.targets(alloc, putting, word) {
@@ -149,7 +154,12 @@ impl Server {
         if plan.files.as_slice().len() > FEW {
             return Err(AllocError);
         }
-        with_number(plan, self.store.tables().numbers(), number)
+        let numbers = self.store.tables().numbers();
+        let line = Text::copy_of(alloc, putting.line.as_slice())?;
+        word_is_text(line.as_slice());
+        let call = put_call(alloc, &putting.path, &putting.resource, putting.mode, size)?;
+        let pending = in_deed(alloc, numbers.run, number, putting.user, line, call);
+        noted(plan, pending, numbers, number)
     }
 
     // Draws the word and the time, and puts the body.
@@ -164,6 +174,7 @@ impl Server {
         requires fits { FitsMain (D.disk outside.old.main) self.old }
         requires user { IsTrue (is_user self.old.store.cat putting.user) }
         requires small { length putting.body ≤ object_size }
+        requires words { HasWords putting }
         requires vault { self.old.store.cat.numbers.next_vault ≤ 2 ^ 64 - 2 ^ 33 }
         requires goes { (leaves : List ℕ) × GoesTo self.old.store.cat (user_name self.old.store.cat putting.user) (wanted putting) 0 leaves }
         requires slots { self.old.store.cat.stores ≡ vec_len outside.old.stores }
@@ -174,7 +185,7 @@ impl Server {
             self.old number request result self.new }
         ensures worn { (source : SourceState) (request : Request) → AsksToPut self.old putting request →
             IsWorn (around D.disk A.ambient P.plugin outside.new (K.sink sink.new) source) self.old request result }
-        ensures remembers { Remembers self.old.store.cat outside.old.moments (D.disk outside.old.main) (D.disk outside.new.main) }
+        ensures remembers { RemembersDeed putting.line self.old.store.cat outside.old.moments (D.disk outside.old.main) (D.disk outside.new.main) }
         ensures whole { KeepWhole P.plugin outside.old.moments self.old.store.cat
             (D.disk outside.old.main) (D.disk outside.new.main) outside.old.stores.items outside.new.stores.items }
         ensures passes { CallsPass D.disk P.plugin K.sink (IsErrOf result Ending.Disk) (IsErrOf result Ending.Sink)
@@ -201,27 +212,6 @@ impl Server {
             Err(ending) => Err(ending),
         }
     }
-}
-
-/// The plan with these numbers and that of its command behind its last changes. Fails for want of memory alone.
-pub(crate) fn with_number(plan: Plan, numbers: Numbers, number: u64) -> Result<Plan, AllocError>
-    requires { numbers.next_vault + length plan.files < 2 ^ 64 }
-    ensures { let last = record numbers { next_vault = numbers.next_vault + length plan.files; last = number } in
-        IfOk result (λ named. IsNamedPlan plan last named) }
-{
-    let last = Numbers {
-        next_vault: numbers.next_vault + plan.files.as_slice().len() as u64,
-        run: numbers.run,
-        last: number,
-    };
-    let mut after = plan.after.into_vec();
-    after.push(Delta::Numbers(last))?;
-    Ok(Plan {
-        before: plan.before,
-        files: plan.files,
-        read: plan.read,
-        after: Deltas::from_vec(after),
-    })
 }
 
 /// The reply to a deed that ran. Fails for want of memory alone.

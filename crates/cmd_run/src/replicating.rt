@@ -1,10 +1,10 @@
-ghost use Rattle.std.specs.Prelude.{◌≡◌, ℕ, ◌+◌, ◌-◌, ◌<◌, ◌≤◌, ◌^◌, Err, IsTrue, IsErrOf, IfOk, length, vec_len};
+ghost use Rattle.std.specs.Prelude.{◌≡◌, ℕ, ◌+◌, ◌-◌, ◌<◌, ◌≤◌, ◌^◌, Err, None, IsTrue, IsErrOf, IfOk, length, vec_len};
 ghost use Rattle.grid_outside.specs.Source.{SourceState};
-ghost use Rattle.grid_model.specs.Applying.{IsMade};
-ghost use Rattle.grid_model.specs.Names.{Text as TextOf};
+ghost use Rattle.grid_model.specs.Applying.{IsMade, is_user};
 ghost use Rattle.grid_model.specs.Operations.Table.{repl};
 ghost use Rattle.grid_model.specs.RowGrids.{user_name};
 ghost use Rattle.grid_model.specs.Runs.{Request};
+ghost use Rattle.grid_model.specs.Writable.{is_word};
 ghost use Rattle.grid_model.specs.declared.plans.OldFile.{OldFile as FileOf};
 ghost use Rattle.grid_deed.specs.Deeds.{moments_of};
 ghost use Rattle.grid_deed.specs.Safe.{KeepWhole};
@@ -16,7 +16,8 @@ ghost use Rattle.cmd_run.specs.Puts.{AsksToDo};
 
 use crate::answers::put_text;
 use crate::copying::copied_text;
-use crate::putting::{LAST_VAULT, with_number};
+use crate::noting::{in_deed, noted, repl_call, word_is_text};
+use crate::putting::LAST_VAULT;
 use crate::{Ending, Server};
 use grid_model::{End, OldFile, Path, Plan, PlanError, Refusal, Text};
 use grid_outside::{Ambient, Disk, Outside, Plugin, Sink, Wear};
@@ -29,7 +30,7 @@ const MANY_FILES: usize = 65_536;
 impl Server {
     ghost use Rattle.cmd_run.specs.declared.server.Server.{Server};
     ghost use Rattle.cmd_run.specs.Fits.{state_of, FitsMain};
-    ghost use Rattle.cmd_run.specs.Obeys.{IsRefusedAtOnce, Obeys, IsWorn, Remembers};
+    ghost use Rattle.cmd_run.specs.Obeys.{IsRefusedAtOnce, Obeys, IsWorn, RemembersDeed};
 
     /// Copies the object at the path to each target of a resource that has no good replica of it, for whoever is logged in to
     /// the session.
@@ -42,9 +43,11 @@ impl Server {
         session: u8,
         path: &Path,
         resource: &Text,
+        line: &Text,
     ) -> Result<(), Ending>
         requires fits { FitsMain (D.disk outside.old.main) self.old }
         requires session { session < 64 }
+        requires words { IsTrue (is_word resource.now) × IsTrue (is_word line.now) }
         requires slots { self.old.store.cat.stores ≡ vec_len outside.old.stores }
         requires ready { AreReady D.disk P.plugin K.sink (2 ^ 72) (record { outside = outside.old; sink = sink.old }) }
         ensures obeys { (source : SourceState) (request : Request) → request ≡ repl_request session path.now resource.now →
@@ -53,7 +56,7 @@ impl Server {
             self.old number request result self.new }
         ensures worn { (source : SourceState) (request : Request) → request ≡ repl_request session path.now resource.now →
             IsWorn (around D.disk A.ambient P.plugin outside.new (K.sink sink.new) source) self.old request result }
-        ensures remembers { Remembers self.old.store.cat outside.old.moments (D.disk outside.old.main) (D.disk outside.new.main) }
+        ensures remembers { RemembersDeed line.now self.old.store.cat outside.old.moments (D.disk outside.old.main) (D.disk outside.new.main) }
         ensures whole { KeepWhole P.plugin outside.old.moments self.old.store.cat
             (D.disk outside.old.main) (D.disk outside.new.main) outside.old.stores.items outside.new.stores.items }
         ensures passes { CallsPass D.disk P.plugin K.sink (IsErrOf result Ending.Disk) (IsErrOf result Ending.Sink)
@@ -76,7 +79,9 @@ impl Server {
         }
         match repl_source(alloc, self.store.tables(), user, path, resource) {
             Ok(from) => {
-                self.repl_drawn(alloc, outside, sink, number, user, path, resource, &from)
+                self.repl_drawn(
+                    alloc, outside, sink, number, user, path, resource, line, &from,
+                )
             }
             Err(PlanError::Refused(refusal)) => {
                 self.say(alloc, outside, sink, number, End::Refused(refusal))
@@ -85,26 +90,36 @@ impl Server {
         }
     }
 
-    // The plan of the repl for this word, with the number of the command behind its last changes. Fails for want of memory alone.
+    // The plan of the repl for this word, which notes the command while its deed runs. Fails for want of memory alone.
     fn repl_plan(
         &self,
         alloc: Global,
+        user: u32,
         path: &Path,
         resource: &Text,
+        line: &Text,
         word: u64,
         number: u64,
     ) -> Result<Plan, AllocError>
         requires made { IsMade self.now.store.cat }
-        requires may { (user : TextOf) × (from : FileOf) × MayRepl self.now.store.cat user path.now resource.now from }
+        requires user { IsTrue (is_user self.now.store.cat user) }
+        requires may { (from : FileOf) × MayRepl self.now.store.cat (user_name self.now.store.cat user) path.now resource.now from }
         requires vault { self.now.store.cat.numbers.next_vault ≤ 2 ^ 64 - 2 ^ 33 }
-        ensures { (user : TextOf) (from : FileOf) (now : ℕ) → MayRepl self.now.store.cat user path.now resource.now from →
-            IfOk result (PlansRepl self.now.store.cat user path.now resource.now (record { word = word; now = now }) number from) }
+        requires none { self.now.store.cat.pending ≡ None }
+        requires words { IsTrue (is_word resource.now) × IsTrue (is_word line.now) }
+        ensures { (from : FileOf) (now : ℕ) → MayRepl self.now.store.cat (user_name self.now.store.cat user) path.now resource.now from →
+            IfOk result (PlansRepl self.now.store.cat user line.now path.now resource.now (record { word = word; now = now }) number from) }
     {
         let plan = plan_repl(alloc, self.store.tables(), path, resource, word)?;
         if plan.files.as_slice().len() > MANY_FILES {
             return Err(AllocError);
         }
-        with_number(plan, self.store.tables().numbers(), number)
+        let numbers = self.store.tables().numbers();
+        let copy = Text::copy_of(alloc, line.as_slice())?;
+        word_is_text(copy.as_slice());
+        let call = repl_call(alloc, path, resource)?;
+        let pending = in_deed(alloc, numbers.run, number, user, copy, call);
+        noted(plan, pending, numbers, number)
     }
 
     // Draws the word and the time, and copies the file.
@@ -117,9 +132,12 @@ impl Server {
         user: u32,
         path: &Path,
         resource: &Text,
+        line: &Text,
         from: &OldFile,
     ) -> Result<(), Ending>
         requires fits { FitsMain (D.disk outside.old.main) self.old }
+        requires user { IsTrue (is_user self.old.store.cat user) }
+        requires words { IsTrue (is_word resource.now) × IsTrue (is_word line.now) }
         requires vault { self.old.store.cat.numbers.next_vault ≤ 2 ^ 64 - 2 ^ 33 }
         requires may { MayRepl self.old.store.cat (user_name self.old.store.cat user) path.now resource.now from.now }
         requires slots { self.old.store.cat.stores ≡ vec_len outside.old.stores }
@@ -130,7 +148,7 @@ impl Server {
             self.old number request result self.new }
         ensures worn { (source : SourceState) (request : Request)
             → IsWorn (around D.disk A.ambient P.plugin outside.new (K.sink sink.new) source) self.old request result }
-        ensures remembers { Remembers self.old.store.cat outside.old.moments (D.disk outside.old.main) (D.disk outside.new.main) }
+        ensures remembers { RemembersDeed line.now self.old.store.cat outside.old.moments (D.disk outside.old.main) (D.disk outside.new.main) }
         ensures whole { KeepWhole P.plugin outside.old.moments self.old.store.cat
             (D.disk outside.old.main) (D.disk outside.new.main) outside.old.stores.items outside.new.stores.items }
         ensures passes { CallsPass D.disk P.plugin K.sink (IsErrOf result Ending.Disk) (IsErrOf result Ending.Sink)
@@ -140,7 +158,7 @@ impl Server {
     {
         let word = outside.ambient.word();
         let now = outside.ambient.now();
-        let Ok(plan) = self.repl_plan(alloc, path, resource, word, number) else {
+        let Ok(plan) = self.repl_plan(alloc, user, path, resource, line, word, number) else {
             return Err(Ending::Memory);
         };
         few_copies(&plan, from);

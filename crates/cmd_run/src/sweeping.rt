@@ -27,7 +27,7 @@ const MANY: usize = 4_294_967_296;
 impl Server {
     ghost use Rattle.cmd_run.specs.declared.server.Server.{Server};
     ghost use Rattle.cmd_run.specs.Fits.{state_of, FitsMain};
-    ghost use Rattle.cmd_run.specs.Obeys.{IsRefusedAtOnce, Obeys, IsWorn, NamesItsCall, SaysOnly};
+    ghost use Rattle.cmd_run.specs.Obeys.{HasNoneWaiting, IsRefusedAtOnce, Obeys, IsWorn, SaysOnly};
 
     /// Has the files of all orphans removed, for an administrator, forgets those that are gone, and answers ok, whichever
     /// stores fail.
@@ -49,7 +49,7 @@ impl Server {
             self.old number request result self.new }
         ensures worn { (source : SourceState) (request : Request)
             → IsWorn (around D.disk A.ambient P.plugin outside.new (K.sink sink.new) source) self.old request result }
-        ensures call { NamesItsCall outside.old.moments (D.disk outside.old.main) (D.disk outside.new.main) }
+        ensures none_waits { HasNoneWaiting outside.old.moments (D.disk outside.old.main) (D.disk outside.new.main) }
         ensures whole { KeepWhole P.plugin outside.old.moments self.old.store.cat
             (D.disk outside.old.main) (D.disk outside.new.main) outside.old.stores.items outside.new.stores.items }
         ensures passes { CallsPass D.disk P.plugin K.sink (IsErrOf result Ending.Disk) (IsErrOf result Ending.Sink)
@@ -91,7 +91,7 @@ impl Server {
             self.old number request result self.new }
         ensures worn { (source : SourceState) (request : Request)
             → IsWorn (around D.disk A.ambient P.plugin outside.new (K.sink sink.new) source) self.old request result }
-        ensures call { NamesItsCall outside.old.moments (D.disk outside.old.main) (D.disk outside.new.main) }
+        ensures none_waits { HasNoneWaiting outside.old.moments (D.disk outside.old.main) (D.disk outside.new.main) }
         ensures whole { KeepWhole P.plugin outside.old.moments self.old.store.cat
             (D.disk outside.old.main) (D.disk outside.new.main) outside.old.stores.items outside.new.stores.items }
         ensures passes { CallsPass D.disk P.plugin K.sink (IsErrOf result Ending.Disk) (IsErrOf result Ending.Sink)

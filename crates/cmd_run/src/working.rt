@@ -1,7 +1,8 @@
-ghost use Rattle.std.specs.Prelude.{◌≡◌, ℕ, ◌+◌, ◌≤◌, ◌<◌, ◌^◌, Err, IsErrOf, length, vec_len};
+ghost use Rattle.std.specs.Prelude.{◌≡◌, ℕ, ◌+◌, ◌≤◌, ◌<◌, ◌^◌, Err, IsTrue, IsErrOf, length, vec_len};
 ghost use Rattle.grid_outside.specs.Source.{SourceState};
 ghost use Rattle.grid_model.specs.Limits.{object_size};
 ghost use Rattle.grid_model.specs.Runs.{Request as RequestOf};
+ghost use Rattle.grid_model.specs.Writable.{is_word};
 ghost use Rattle.grid_deed.specs.Safe.{KeepWhole};
 ghost use Rattle.cmd_run.specs.Around.{around};
 ghost use Rattle.cmd_run.specs.Passes.{AreReady, CallsPass};
@@ -25,13 +26,15 @@ pub(crate) struct PutLine {
     pub(crate) count: u64,
     /// The body where these are no more than an object may have.
     pub(crate) body: Bytes,
+    /// The line itself.
+    pub(crate) line: Text,
 }
 
 impl Server {
     ghost use Rattle.cmd_run.specs.declared.server.Server.{Server};
     ghost use Rattle.cmd_run.specs.Asking.{PutOf};
     ghost use Rattle.cmd_run.specs.Fits.{state_of, FitsMain};
-    ghost use Rattle.cmd_run.specs.Obeys.{IsRefusedAtOnce, Obeys, IsWorn, Remembers};
+    ghost use Rattle.cmd_run.specs.Obeys.{IsRefusedAtOnce, Obeys, IsWorn, RemembersDeed};
 
     /// Puts a body as a new object, or over the one that is there.
     pub(crate) fn put_line<D: Disk, K: Sink, A: Ambient, P: Plugin>(
@@ -46,6 +49,7 @@ impl Server {
         requires fits { FitsMain (D.disk outside.old.main) self.old }
         requires session { session < 64 }
         requires small { length line.body ≤ object_size }
+        requires words { IsTrue (is_word line.resource) × IsTrue (is_word line.line) }
         requires slots { self.old.store.cat.stores ≡ vec_len outside.old.stores }
         requires ready { AreReady D.disk P.plugin K.sink (2 ^ 50) (record { outside = outside.old; sink = sink.old }) }
         ensures obeys { (source : SourceState) (request : RequestOf) → PutOf session line request →
@@ -54,7 +58,7 @@ impl Server {
             self.old number request result self.new }
         ensures worn { (source : SourceState) (request : RequestOf) → PutOf session line request →
             IsWorn (around D.disk A.ambient P.plugin outside.new (K.sink sink.new) source) self.old request result }
-        ensures remembers { Remembers self.old.store.cat outside.old.moments (D.disk outside.old.main) (D.disk outside.new.main) }
+        ensures remembers { RemembersDeed line.line self.old.store.cat outside.old.moments (D.disk outside.old.main) (D.disk outside.new.main) }
         ensures whole { KeepWhole P.plugin outside.old.moments self.old.store.cat
             (D.disk outside.old.main) (D.disk outside.new.main) outside.old.stores.items outside.new.stores.items }
         ensures passes { CallsPass D.disk P.plugin K.sink (IsErrOf result Ending.Disk) (IsErrOf result Ending.Sink)
@@ -84,6 +88,7 @@ impl Server {
             resource: line.resource,
             mode: line.mode,
             body: line.body,
+            line: line.line,
         };
         self.put(alloc, outside, sink, number, putting)
     }

@@ -1,4 +1,4 @@
-ghost use Rattle.std.specs.Prelude.{◌≡◌, ◌+◌, ◌≤◌, IsErrOf, Ok, vec_len};
+ghost use Rattle.std.specs.Prelude.{◌≡◌, ◌+◌, ◌≤◌, IsTrue, IsErrOf, Ok, is_some, vec_len};
 ghost use Rattle.grid_deed.specs.Deeds.{moments_for};
 ghost use Rattle.grid_deed.specs.Frame.{IsReady, Frame};
 ghost use Rattle.grid_deed.specs.Held.{IsHeld};
@@ -9,7 +9,7 @@ ghost use Rattle.cmd_run.specs.Writes.{IsWritten};
 use crate::keeping::ending_of;
 use crate::{Ending, Server};
 use grid_deed::perform;
-use grid_model::{Deltas, Plan};
+use grid_model::Plan;
 use grid_outside::{Ambient, Disk, Outside, Plugin};
 use std::alloc::Global;
 
@@ -25,7 +25,7 @@ impl Server {
         body: &[u8],
     ) -> Result<Option<u8>, Ending>
         requires held { IsHeld self.old.store.cat (D.disk outside.old.main) self.old.store }
-        requires plan { IsPlan self.old.store.cat self.old.store.cat (vec_len outside.old.stores) plan body.now }
+        requires plan { (p : IsPlan self.old.store.cat self.old.store.cat (vec_len outside.old.stores) plan body.now) × IsTrue (is_some p.mid.pending) }
         requires ready { IsReady D.disk P.plugin (moments_for plan.files body.now + 4) outside.old }
         ensures written { (p : IsPlan self.old.store.cat self.old.store.cat (vec_len outside.old.stores) plan body.now) →
             IsWritten P.plugin (record {
@@ -47,7 +47,7 @@ impl Server {
         match perform(alloc, &mut self.store, outside, plan, body) {
             Ok(None) => Ok(None),
             Ok(Some(fault)) => {
-                match self.keep(alloc, outside, number, Deltas::from_vec(Vec::new(alloc))) {
+                match self.end_deed(alloc, outside, number) {
                     Ok(()) => Ok(Some(fault.slot)),
                     Err(ending) => Err(ending),
                 }

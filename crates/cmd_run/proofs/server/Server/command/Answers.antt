@@ -13,10 +13,10 @@ use Rattle.grid_model.specs.declared.requests.Verb.{Verb}
 use Rattle.grid_model.specs.declared.requests.Verb.TheVariants as verb
 use Rattle.run_laws.specs.Steps.{RemovesNoFile}
 use Rattle.cmd_run.specs.declared.tagging.TagLine.{TagLine}
-use Rattle.cmd_run.specs.Asking.{AsksForRequest, FitsTag, HasGoodWords, IsForm, NamesSome, QueryOf, ShowOf, TagOf}
+use Rattle.cmd_run.specs.Asking.{AsksForRequest, FitsTag, HasGoodWords, IsForm, IsLineOf, NamesSome, QueryOf, ShowOf, TagOf}
 use Rattle.cmd_run.specs.Fits.{state_of}
-use Rattle.cmd_run.specs.Obeys.{SaysOnly}
-use Rattle.cmd_run.proofs.Remembering.{no_source}
+use Rattle.cmd_run.specs.Obeys.{NamesItsCall, SaysOnly}
+use Rattle.cmd_run.proofs.Remembering.{call_none, call_of, names_none, no_source, remembers_none}
 use Rattle.cmd_run.proofs.LoginLemmas.{says_refused, says_quit}
 use Rattle.cmd_run.proofs.WorkingLemmas.{verb_asks, asks_other}
 use borrow.Enum.Total.{values_d}
@@ -134,46 +134,54 @@ pub returns-in-Ls-clause-untouched : goal.returns-in-Ls-clause-untouched
 returns-in-Ls-clause-untouched g c place is = absurd ((c.list.ensures.worn no_source (Ok (0, logs_out)) Vaults place is).3)
 
 pub returns-in-Err-clause-call : goal.returns-in-Err-clause-call
-returns-in-Err-clause-call g c = λ told settled t main d late left stands. (c.say.ensures.remembers told settled t main d late left stands).0
+returns-in-Err-clause-call g c = λ l its. call_none l c.args.self.now.store.cat c.args.outside.now.moments (g.D.Disk.disk c.args.outside.now.main) (g.D.Disk.disk c.say.new.outside.main) c.say.ensures.remembers
 
 pub returns-in-Err-clause-remembers : goal.returns-in-Err-clause-remembers
-returns-in-Err-clause-remembers g c = λ request asks no_sweep. c.say.ensures.remembers
+returns-in-Err-clause-remembers g c = λ request asks no_sweep.
+    remembers_none c.args.line c.args.self.now.store.cat c.args.outside.now.moments (g.D.Disk.disk c.args.outside.now.main) (g.D.Disk.disk c.say.new.outside.main) c.say.ensures.remembers
 
 pub returns-in-Login-clause-call : goal.returns-in-Login-clause-call
-returns-in-Login-clause-call g c = λ told settled t main d late left stands. (c.login.ensures.remembers told settled t main d late left stands).0
+returns-in-Login-clause-call g c = λ l its. call_none l c.args.self.now.store.cat c.args.outside.now.moments (g.D.Disk.disk c.args.outside.now.main) (g.D.Disk.disk c.login.new.outside.main) c.login.ensures.remembers
 
 pub returns-in-Login-clause-remembers : goal.returns-in-Login-clause-remembers
-returns-in-Login-clause-remembers g c = λ request asks no_sweep. c.login.ensures.remembers
+returns-in-Login-clause-remembers g c = λ request asks no_sweep.
+    remembers_none c.args.line c.args.self.now.store.cat c.args.outside.now.moments (g.D.Disk.disk c.args.outside.now.main) (g.D.Disk.disk c.login.new.outside.main) c.login.ensures.remembers
 
 pub returns-in-Logout-clause-call : goal.returns-in-Logout-clause-call
-returns-in-Logout-clause-call g c = λ told settled t main d late left stands. (c.logout.ensures.remembers told settled t main d late left stands).0
+returns-in-Logout-clause-call g c = λ l its. call_none l c.args.self.now.store.cat c.args.outside.now.moments (g.D.Disk.disk c.args.outside.now.main) (g.D.Disk.disk c.logout.new.outside.main) c.logout.ensures.remembers
 
 pub returns-in-Logout-clause-remembers : goal.returns-in-Logout-clause-remembers
-returns-in-Logout-clause-remembers g c = λ request asks no_sweep. c.logout.ensures.remembers
+returns-in-Logout-clause-remembers g c = λ request asks no_sweep.
+    remembers_none c.args.line c.args.self.now.store.cat c.args.outside.now.moments (g.D.Disk.disk c.args.outside.now.main) (g.D.Disk.disk c.logout.new.outside.main) c.logout.ensures.remembers
 
 pub returns-in-Quit-clause-call : goal.returns-in-Quit-clause-call
-returns-in-Quit-clause-call g c = λ told settled t main d late left stands. (c.say-in-Quit.ensures.remembers told settled t main d late left stands).0
+returns-in-Quit-clause-call g c = λ l its. call_none l c.args.self.now.store.cat c.args.outside.now.moments (g.D.Disk.disk c.args.outside.now.main) (g.D.Disk.disk c.say-in-Quit.new.outside.main) c.say-in-Quit.ensures.remembers
 
 pub returns-in-Quit-clause-remembers : goal.returns-in-Quit-clause-remembers
-returns-in-Quit-clause-remembers g c = λ request asks no_sweep. c.say-in-Quit.ensures.remembers
+returns-in-Quit-clause-remembers g c = λ request asks no_sweep.
+    remembers_none c.args.line c.args.self.now.store.cat c.args.outside.now.moments (g.D.Disk.disk c.args.outside.now.main) (g.D.Disk.disk c.say-in-Quit.new.outside.main) c.say-in-Quit.ensures.remembers
 
 pub returns-in-Put-clause-call : goal.returns-in-Put-clause-call
-returns-in-Put-clause-call g c = λ told settled t main d late left stands. (c.put_line.ensures.remembers told settled t main d late left stands).0
+returns-in-Put-clause-call g c = λ l its.
+    subst (λ (x : Text). NamesItsCall x c.args.outside.now.moments (g.D.Disk.disk c.args.outside.now.main) (g.D.Disk.disk c.put_line.new.outside.main)) (subst (λ a. IsLineOf a c.args.line l) c.in-Ok.is its)
+    (call_of c.args.line c.args.self.now.store.cat c.args.outside.now.moments (g.D.Disk.disk c.args.outside.now.main) (g.D.Disk.disk c.put_line.new.outside.main) c.put_line.ensures.remembers)
 
 pub returns-in-Put-clause-remembers : goal.returns-in-Put-clause-remembers
 returns-in-Put-clause-remembers g c = λ request asks no_sweep. c.put_line.ensures.remembers
 
 pub returns-in-Ls-clause-call : goal.returns-in-Ls-clause-call
-returns-in-Ls-clause-call g c = λ told settled t main d late left stands. (c.list.ensures.remembers told settled t main d late left stands).0
+returns-in-Ls-clause-call g c = λ l its. call_none l c.args.self.now.store.cat c.args.outside.now.moments (g.D.Disk.disk c.args.outside.now.main) (g.D.Disk.disk c.list.new.outside.main) c.list.ensures.remembers
 
 pub returns-in-Ls-clause-remembers : goal.returns-in-Ls-clause-remembers
-returns-in-Ls-clause-remembers g c = λ request asks no_sweep. c.list.ensures.remembers
+returns-in-Ls-clause-remembers g c = λ request asks no_sweep.
+    remembers_none c.args.line c.args.self.now.store.cat c.args.outside.now.moments (g.D.Disk.disk c.args.outside.now.main) (g.D.Disk.disk c.list.new.outside.main) c.list.ensures.remembers
 
 pub returns-in-Get-clause-call : goal.returns-in-Get-clause-call
-returns-in-Get-clause-call g c = λ told settled t main d late left stands. (c.get_for.ensures.remembers told settled t main d late left stands).0
+returns-in-Get-clause-call g c = λ l its. call_none l c.args.self.now.store.cat c.args.outside.now.moments (g.D.Disk.disk c.args.outside.now.main) (g.D.Disk.disk c.get_for.new.outside.main) c.get_for.ensures.remembers
 
 pub returns-in-Get-clause-remembers : goal.returns-in-Get-clause-remembers
-returns-in-Get-clause-remembers g c = λ request asks no_sweep. c.get_for.ensures.remembers
+returns-in-Get-clause-remembers g c = λ request asks no_sweep.
+    remembers_none c.args.line c.args.self.now.store.cat c.args.outside.now.moments (g.D.Disk.disk c.args.outside.now.main) (g.D.Disk.disk c.get_for.new.outside.main) c.get_for.ensures.remembers
 
 pub returns-in-Sweep-clause-obeys : goal.returns-in-Sweep-clause-obeys
 returns-in-Sweep-clause-obeys g c = λ source request asks.
@@ -221,7 +229,9 @@ returns-in-Repl-clause-idle g c = λ request asks.
     )
 
 pub returns-in-Repl-clause-call : goal.returns-in-Repl-clause-call
-returns-in-Repl-clause-call g c = λ told settled t main d late left stands. (c.repl.ensures.remembers told settled t main d late left stands).0
+returns-in-Repl-clause-call g c = λ l its.
+    subst (λ (x : Text). NamesItsCall x c.args.outside.now.moments (g.D.Disk.disk c.args.outside.now.main) (g.D.Disk.disk c.repl.new.outside.main)) (subst (λ a. IsLineOf a c.args.line l) c.in-Ok.is its)
+    (call_of c.args.line c.args.self.now.store.cat c.args.outside.now.moments (g.D.Disk.disk c.args.outside.now.main) (g.D.Disk.disk c.repl.new.outside.main) c.repl.ensures.remembers)
 
 pub returns-in-Repl-clause-remembers : goal.returns-in-Repl-clause-remembers
 returns-in-Repl-clause-remembers g c = λ request asks no_sweep. c.repl.ensures.remembers
@@ -243,10 +253,11 @@ returns-in-ChkSum-clause-idle g c = λ request asks.
     )
 
 pub returns-in-ChkSum-clause-call : goal.returns-in-ChkSum-clause-call
-returns-in-ChkSum-clause-call g c = λ told settled t main d late left stands. (c.chksum.ensures.remembers told settled t main d late left stands).0
+returns-in-ChkSum-clause-call g c = λ l its. call_none l c.args.self.now.store.cat c.args.outside.now.moments (g.D.Disk.disk c.args.outside.now.main) (g.D.Disk.disk c.chksum.new.outside.main) c.chksum.ensures.remembers
 
 pub returns-in-ChkSum-clause-remembers : goal.returns-in-ChkSum-clause-remembers
-returns-in-ChkSum-clause-remembers g c = λ request asks no_sweep. c.chksum.ensures.remembers
+returns-in-ChkSum-clause-remembers g c = λ request asks no_sweep.
+    remembers_none c.args.line c.args.self.now.store.cat c.args.outside.now.moments (g.D.Disk.disk c.args.outside.now.main) (g.D.Disk.disk c.chksum.new.outside.main) c.chksum.ensures.remembers
 
 pub returns-in-ChkSum-clause-untouched : goal.returns-in-ChkSum-clause-untouched
 returns-in-ChkSum-clause-untouched g c place is = absurd ((c.chksum.ensures.worn no_source (Ok (0, logs_out)) Vaults place is).3)
@@ -274,10 +285,11 @@ returns-in-AddMeta-clause-idle g c = λ request asks.
     (subst (λ k. W k c.in-Ok.request.verb) (sym p.item-is) (subst (W p.item) (sym p.is) (its.2.1.0, its.2.1.1, its.1 ∙ ap (λ (o : Order). Ok (c.in-Ok.request.session, o)) its.2.1.2)))
 
 pub returns-in-AddMeta-clause-call : goal.returns-in-AddMeta-clause-call
-returns-in-AddMeta-clause-call g c = λ told settled t main d late left stands. (c.tag.ensures.remembers told settled t main d late left stands).0
+returns-in-AddMeta-clause-call g c = λ l its. call_none l c.args.self.now.store.cat c.args.outside.now.moments (g.D.Disk.disk c.args.outside.now.main) (g.D.Disk.disk c.tag.new.outside.main) c.tag.ensures.remembers
 
 pub returns-in-AddMeta-clause-remembers : goal.returns-in-AddMeta-clause-remembers
-returns-in-AddMeta-clause-remembers g c = λ request asks no_sweep. c.tag.ensures.remembers
+returns-in-AddMeta-clause-remembers g c = λ request asks no_sweep.
+    remembers_none c.args.line c.args.self.now.store.cat c.args.outside.now.moments (g.D.Disk.disk c.args.outside.now.main) (g.D.Disk.disk c.tag.new.outside.main) c.tag.ensures.remembers
 
 pub returns-in-AddMeta-clause-untouched : goal.returns-in-AddMeta-clause-untouched
 returns-in-AddMeta-clause-untouched g c place is = absurd ((c.tag.ensures.worn no_source (Ok (0, logs_out)) Vaults place is).3)
@@ -305,10 +317,11 @@ returns-in-RmMeta-clause-idle g c = λ request asks.
     (subst (λ k. W k c.in-Ok.request.verb) (sym p.item-is) (subst (W p.item) (sym p.is) (its.2.1.0, its.2.1.1, its.1 ∙ ap (λ (o : Order). Ok (c.in-Ok.request.session, o)) its.2.1.2)))
 
 pub returns-in-RmMeta-clause-call : goal.returns-in-RmMeta-clause-call
-returns-in-RmMeta-clause-call g c = λ told settled t main d late left stands. (c.tag-in-RmMeta.ensures.remembers told settled t main d late left stands).0
+returns-in-RmMeta-clause-call g c = λ l its. call_none l c.args.self.now.store.cat c.args.outside.now.moments (g.D.Disk.disk c.args.outside.now.main) (g.D.Disk.disk c.tag-in-RmMeta.new.outside.main) c.tag-in-RmMeta.ensures.remembers
 
 pub returns-in-RmMeta-clause-remembers : goal.returns-in-RmMeta-clause-remembers
-returns-in-RmMeta-clause-remembers g c = λ request asks no_sweep. c.tag-in-RmMeta.ensures.remembers
+returns-in-RmMeta-clause-remembers g c = λ request asks no_sweep.
+    remembers_none c.args.line c.args.self.now.store.cat c.args.outside.now.moments (g.D.Disk.disk c.args.outside.now.main) (g.D.Disk.disk c.tag-in-RmMeta.new.outside.main) c.tag-in-RmMeta.ensures.remembers
 
 pub returns-in-RmMeta-clause-untouched : goal.returns-in-RmMeta-clause-untouched
 returns-in-RmMeta-clause-untouched g c place is = absurd ((c.tag-in-RmMeta.ensures.worn no_source (Ok (0, logs_out)) Vaults place is).3)
@@ -331,10 +344,11 @@ pub returns-in-LsMeta-clause-idle : goal.returns-in-LsMeta-clause-idle
 returns-in-LsMeta-clause-idle g c = λ request asks refused. (c.show_tags.ensures.rows, c.show_tags.ensures.stores)
 
 pub returns-in-LsMeta-clause-call : goal.returns-in-LsMeta-clause-call
-returns-in-LsMeta-clause-call g c = λ told settled t main d late left stands. (c.show_tags.ensures.remembers told settled t main d late left stands).0
+returns-in-LsMeta-clause-call g c = λ l its. call_none l c.args.self.now.store.cat c.args.outside.now.moments (g.D.Disk.disk c.args.outside.now.main) (g.D.Disk.disk c.show_tags.new.outside.main) c.show_tags.ensures.remembers
 
 pub returns-in-LsMeta-clause-remembers : goal.returns-in-LsMeta-clause-remembers
-returns-in-LsMeta-clause-remembers g c = λ request asks no_sweep. c.show_tags.ensures.remembers
+returns-in-LsMeta-clause-remembers g c = λ request asks no_sweep.
+    remembers_none c.args.line c.args.self.now.store.cat c.args.outside.now.moments (g.D.Disk.disk c.args.outside.now.main) (g.D.Disk.disk c.show_tags.new.outside.main) c.show_tags.ensures.remembers
 
 pub returns-in-LsMeta-clause-untouched : goal.returns-in-LsMeta-clause-untouched
 returns-in-LsMeta-clause-untouched g c place is = absurd ((c.show_tags.ensures.worn no_source (Ok (0, logs_out)) Vaults place is).3)
@@ -350,10 +364,11 @@ pub returns-in-Query-clause-idle : goal.returns-in-Query-clause-idle
 returns-in-Query-clause-idle g c = λ request asks refused. (c.query.ensures.rows, c.query.ensures.stores)
 
 pub returns-in-Query-clause-call : goal.returns-in-Query-clause-call
-returns-in-Query-clause-call g c = λ told settled t main d late left stands. (c.query.ensures.remembers told settled t main d late left stands).0
+returns-in-Query-clause-call g c = λ l its. call_none l c.args.self.now.store.cat c.args.outside.now.moments (g.D.Disk.disk c.args.outside.now.main) (g.D.Disk.disk c.query.new.outside.main) c.query.ensures.remembers
 
 pub returns-in-Query-clause-remembers : goal.returns-in-Query-clause-remembers
-returns-in-Query-clause-remembers g c = λ request asks no_sweep. c.query.ensures.remembers
+returns-in-Query-clause-remembers g c = λ request asks no_sweep.
+    remembers_none c.args.line c.args.self.now.store.cat c.args.outside.now.moments (g.D.Disk.disk c.args.outside.now.main) (g.D.Disk.disk c.query.new.outside.main) c.query.ensures.remembers
 
 pub returns-in-Query-clause-untouched : goal.returns-in-Query-clause-untouched
 returns-in-Query-clause-untouched g c place is = absurd ((c.query.ensures.worn no_source (Ok (0, logs_out)) Vaults place is).3)
@@ -367,8 +382,8 @@ returns-in_default g c =
       obeys = λ source request asks. w.obeys source request
           (other request c.in-Ok.request c.in-Ok.is n.not-Login n.not-Logout n.not-Quit n.not-Sweep n.not-Ls n.not-Put n.not-Get n.not-AddMeta n.not-RmMeta n.not-LsMeta n.not-Repl n.not-ChkSum n.not-Query asks);
       worn = λ source request asks. w.worn source request;
-      call = λ told settled t main d late left stands. (w.remembers told settled t main d late left stands).0;
-      remembers = λ request asks no_sweep. w.remembers;
+      call = λ l its. call_none l c.args.self.now.store.cat c.args.outside.now.moments (g.D.Disk.disk c.args.outside.now.main) (g.D.Disk.disk c.works.new.outside.main) w.remembers;
+      remembers = λ request asks no_sweep. remembers_none c.args.line c.args.self.now.store.cat c.args.outside.now.moments (g.D.Disk.disk c.args.outside.now.main) (g.D.Disk.disk c.works.new.outside.main) w.remembers;
       whole = w.whole;
       passes = w.passes;
       idle = λ request asks. w.idle request
@@ -376,3 +391,6 @@ returns-in_default g c =
       untouched = λ place is. absurd ((w.worn no_source (Ok (0, logs_out)) Vaults place is).3);
       drawn = omega (arith, w.drawn);
     }
+
+pub returns-in-Sweep-clause-call : goal.returns-in-Sweep-clause-call
+returns-in-Sweep-clause-call g c = λ l its. names_none l c.args.outside.now.moments (g.D.Disk.disk c.args.outside.now.main) (g.D.Disk.disk c.sweep.new.outside.main) c.sweep.ensures.none_waits

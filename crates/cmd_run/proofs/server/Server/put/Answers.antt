@@ -13,7 +13,7 @@ use Rattle.cmd_run.proofs.KeepLemmas.{keep_still}
 use Rattle.cmd_run.proofs.DeedEnds.{worn_vaults}
 use Rattle.cmd_run.proofs.PutEnds.{says_refused_put}
 use Rattle.cmd_run.proofs.SayLemmas.{unsaid, unsaid_by}
-use Rattle.cmd_run.proofs.Remembering.{still_remembers, no_source}
+use Rattle.cmd_run.proofs.Remembering.{no_source, remembers_none, still_remembers}
 use Rattle.cmd_run.proofs.NotRefused.{put_not_refused}
 use Rattle.cmd_run.proofs.server.Server.put.Goals as goal
 
@@ -45,12 +45,14 @@ returns-clause-whole g c = keep_still g.P.Plugin.plugin c.args.self.now.store.ca
 pub returns-then-next-gt-LAST_VAULT-clause-remembers : goal.returns-then-next-gt-LAST_VAULT-clause-remembers
 returns-then-next-gt-LAST_VAULT-clause-remembers g c =
     let main = c.args.outside.now.main in
-    still_remembers g.D.Disk.disk main main c.args.self.now.store c.args.outside.now.moments refl c.requires.ready.outside.main_last c.requires.fits.held c.requires.fits.pending
+    remembers_none c.args.putting.line c.args.self.now.store.cat c.args.outside.now.moments (g.D.Disk.disk main) (g.D.Disk.disk main)
+    (still_remembers g.D.Disk.disk main main c.args.self.now.store c.args.outside.now.moments refl c.requires.ready.outside.main_last c.requires.fits.held c.requires.fits.pending)
 
 pub returns-clause-remembers : goal.returns-clause-remembers
 returns-clause-remembers g c =
     let main = c.args.outside.now.main in
-    still_remembers g.D.Disk.disk main main c.args.self.now.store c.args.outside.now.moments refl c.requires.ready.outside.main_last c.requires.fits.held c.requires.fits.pending
+    remembers_none c.args.putting.line c.args.self.now.store.cat c.args.outside.now.moments (g.D.Disk.disk main) (g.D.Disk.disk main)
+    (still_remembers g.D.Disk.disk main main c.args.self.now.store c.args.outside.now.moments refl c.requires.ready.outside.main_last c.requires.fits.held c.requires.fits.pending)
 
 pub returns-in-Err-Refused-clause-untouched : goal.returns-in-Err-Refused-clause-untouched
 returns-in-Err-Refused-clause-untouched g c place is = absurd ((c.say.ensures.worn no_source (Ok (0, logs_out)) c.args.self.now Vaults place is).3)
@@ -67,3 +69,6 @@ returns-in-Ok-clause-idle g c = λ request asks refused.
 
 pub returns-in-Err-Refused-clause-idle : goal.returns-in-Err-Refused-clause-idle
 returns-in-Err-Refused-clause-idle g c = λ request asks refused. (c.say.ensures.rows, c.say.ensures.stores)
+
+pub returns-in-Err-Refused-clause-remembers : goal.returns-in-Err-Refused-clause-remembers
+returns-in-Err-Refused-clause-remembers g c = remembers_none c.args.putting.line c.args.self.now.store.cat c.args.outside.now.moments (g.D.Disk.disk c.args.outside.now.main) (g.D.Disk.disk c.say.new.outside.main) c.say.ensures.remembers

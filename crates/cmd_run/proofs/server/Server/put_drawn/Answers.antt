@@ -1,18 +1,22 @@
 use Rattle.std.proofs.Common.{◌≡◌, [], refl, sym, ◌∙◌, subst, arith, IsTrue}
-use Rattle.grid_model.specs.Working.{well}
+use Rattle.std.specs.Prelude.{is_some}
+use Rattle.grid_model.specs.Rows.{Cat}
+use Rattle.grid_model.specs.Working.{running, well}
 use Rattle.grid_model.specs.declared.marks.Mark.TheVariants as mark
 use Rattle.grid_model.specs.declared.replies.End.TheVariants as end
 use Rattle.grid_model.specs.declared.refusal.Refusal.TheVariants as refusal
 use Rattle.cmd_run.specs.declared.server.Ending.TheVariants as ending
 use Rattle.grid_deed.proofs.Frames.{frame_as}
 use Rattle.cmd_run.specs.Gets.{Drawn, Drew}
+use Rattle.cmd_run.specs.Puts.{operation_of}
 use Rattle.cmd_run.specs.Writes.{Writing}
 use Rattle.cmd_run.proofs.FetchLemmas.{drew_both}
 use Rattle.cmd_run.proofs.KeepLemmas.{keep_still}
 use Rattle.cmd_run.proofs.DeedEnds.{unsaid_drawn, passes_framed}
+use Rattle.cmd_run.proofs.Noted.{is_noted}
 use Rattle.cmd_run.proofs.PutEnds.{plan_as, ran_then, failed_then, cut_of, cut_after, written_unsunk, worn_of}
 use Rattle.cmd_run.proofs.PutSteps.{marked_text}
-use Rattle.cmd_run.proofs.Remembering.{still_remembers, written_remembers, written_logs}
+use Rattle.cmd_run.proofs.Remembering.{remembers_none, still_remembers, written_remembers, written_logs}
 use Rattle.cmd_run.proofs.server.Server.put_drawn.Goals as goal
 
 pub returns-in_default-clause-obeys : goal.returns-in_default-clause-obeys
@@ -126,12 +130,14 @@ returns-clause-passes g c =
 pub returns-in_default-clause-remembers : goal.returns-in_default-clause-remembers
 returns-in_default-clause-remembers g c =
     let main = c.args.outside.now.main in
-    still_remembers g.D.Disk.disk main main c.args.self.now.store c.args.outside.now.moments refl c.requires.ready.outside.main_last c.requires.fits.held c.requires.fits.pending
+    remembers_none c.args.putting.line c.args.self.now.store.cat c.args.outside.now.moments (g.D.Disk.disk main) (g.D.Disk.disk main)
+    (still_remembers g.D.Disk.disk main main c.args.self.now.store c.args.outside.now.moments refl c.requires.ready.outside.main_last c.requires.fits.held c.requires.fits.pending)
 
 pub returns-in_default-ran_text-clause-remembers : goal.returns-in_default-ran_text-clause-remembers
 returns-in_default-ran_text-clause-remembers g c =
     let main = c.args.outside.now.main in
-    still_remembers g.D.Disk.disk main main c.args.self.now.store c.args.outside.now.moments refl c.requires.ready.outside.main_last c.requires.fits.held c.requires.fits.pending
+    remembers_none c.args.putting.line c.args.self.now.store.cat c.args.outside.now.moments (g.D.Disk.disk main) (g.D.Disk.disk main)
+    (still_remembers g.D.Disk.disk main main c.args.self.now.store c.args.outside.now.moments refl c.requires.ready.outside.main_last c.requires.fits.held c.requires.fits.pending)
 
 pub returns-in-Ok-None-clause-remembers : goal.returns-in-Ok-None-clause-remembers
 returns-in-Ok-None-clause-remembers g c =
@@ -141,8 +147,8 @@ returns-in-Ok-None-clause-remembers g c =
     let none = c.requires.fits.pending in
     let plans = c.in-Ok.ensures in
     let w : Writing = record { before = c.args.self.now.store.cat; mid = same.mid; end = same.end; number = c.args.number; files = c.in-Ok.plan.files; from = o.moments } in
-    written_remembers g.P.Plugin.plugin w (record { main = g.D.Disk.disk o.main; stores = o.stores.items }) (record { main = g.D.Disk.disk n.main; stores = n.stores.items }) _ c.write.new.self
-    none (plans.before.pending ∙ none) same.begins.named (plans.stays.pending ∙ none) same.ends.named (c.in-Ok-None.ensures.written same)
+    written_remembers c.args.putting.line g.P.Plugin.plugin w (record { main = g.D.Disk.disk o.main; stores = o.stores.items }) (record { main = g.D.Disk.disk n.main; stores = n.stores.items }) _ c.write.new.self
+    none (is_noted c.args.self.now.store.cat same.mid c.args.number c.args.putting.user c.args.putting.line (running (operation_of c.args.putting)) plans.before) same.begins.named (plans.stays.pending ∙ none) same.ends.named (c.in-Ok-None.ensures.written same)
 
 pub returns-in_default-failed_text-clause-remembers : goal.returns-in_default-failed_text-clause-remembers
 returns-in_default-failed_text-clause-remembers g c =
@@ -152,8 +158,8 @@ returns-in_default-failed_text-clause-remembers g c =
     let none = c.requires.fits.pending in
     let plans = c.in-Ok.ensures in
     let w : Writing = record { before = c.args.self.now.store.cat; mid = same.mid; end = same.end; number = c.args.number; files = c.in-Ok.plan.files; from = o.moments } in
-    written_remembers g.P.Plugin.plugin w (record { main = g.D.Disk.disk o.main; stores = o.stores.items }) (record { main = g.D.Disk.disk n.main; stores = n.stores.items }) _ c.write.new.self
-    none (plans.before.pending ∙ none) same.begins.named (plans.stays.pending ∙ none) same.ends.named (c.in-Ok-Some.ensures.written same)
+    written_remembers c.args.putting.line g.P.Plugin.plugin w (record { main = g.D.Disk.disk o.main; stores = o.stores.items }) (record { main = g.D.Disk.disk n.main; stores = n.stores.items }) _ c.write.new.self
+    none (is_noted c.args.self.now.store.cat same.mid c.args.number c.args.putting.user c.args.putting.line (running (operation_of c.args.putting)) plans.before) same.begins.named (plans.stays.pending ∙ none) same.ends.named (c.in-Ok-Some.ensures.written same)
 
 pub returns-in-Ok-Some-clause-remembers : goal.returns-in-Ok-Some-clause-remembers
 returns-in-Ok-Some-clause-remembers g c =
@@ -163,8 +169,8 @@ returns-in-Ok-Some-clause-remembers g c =
     let none = c.requires.fits.pending in
     let plans = c.in-Ok.ensures in
     let w : Writing = record { before = c.args.self.now.store.cat; mid = same.mid; end = same.end; number = c.args.number; files = c.in-Ok.plan.files; from = o.moments } in
-    written_remembers g.P.Plugin.plugin w (record { main = g.D.Disk.disk o.main; stores = o.stores.items }) (record { main = g.D.Disk.disk n.main; stores = n.stores.items }) _ c.write.new.self
-    none (plans.before.pending ∙ none) same.begins.named (plans.stays.pending ∙ none) same.ends.named (c.in-Ok-Some.ensures.written same)
+    written_remembers c.args.putting.line g.P.Plugin.plugin w (record { main = g.D.Disk.disk o.main; stores = o.stores.items }) (record { main = g.D.Disk.disk n.main; stores = n.stores.items }) _ c.write.new.self
+    none (is_noted c.args.self.now.store.cat same.mid c.args.number c.args.putting.user c.args.putting.line (running (operation_of c.args.putting)) plans.before) same.begins.named (plans.stays.pending ∙ none) same.ends.named (c.in-Ok-Some.ensures.written same)
 
 pub returns-clause-remembers : goal.returns-clause-remembers
 returns-clause-remembers g c =
@@ -174,8 +180,8 @@ returns-clause-remembers g c =
     let none = c.requires.fits.pending in
     let plans = c.in-Ok.ensures in
     let w : Writing = record { before = c.args.self.now.store.cat; mid = same.mid; end = same.end; number = c.args.number; files = c.in-Ok.plan.files; from = o.moments } in
-    written_remembers g.P.Plugin.plugin w (record { main = g.D.Disk.disk o.main; stores = o.stores.items }) (record { main = g.D.Disk.disk n.main; stores = n.stores.items }) _ c.write.new.self
-    none (plans.before.pending ∙ none) same.begins.named (plans.stays.pending ∙ none) same.ends.named (c.in-Err.ensures.written same)
+    written_remembers c.args.putting.line g.P.Plugin.plugin w (record { main = g.D.Disk.disk o.main; stores = o.stores.items }) (record { main = g.D.Disk.disk n.main; stores = n.stores.items }) _ c.write.new.self
+    none (is_noted c.args.self.now.store.cat same.mid c.args.number c.args.putting.user c.args.putting.line (running (operation_of c.args.putting)) plans.before) same.begins.named (plans.stays.pending ∙ none) same.ends.named (c.in-Err.ensures.written same)
 
 pub returns-clause-log_only : goal.returns-clause-log_only
 returns-clause-log_only g c place is =
@@ -185,3 +191,9 @@ returns-clause-log_only g c place is =
     let w : Writing = record { before = c.args.self.now.store.cat; mid = same.mid; end = same.end; number = c.args.number; files = c.in-Ok.plan.files; from = o.moments } in
     written_logs g.P.Plugin.plugin w (record { main = g.D.Disk.disk o.main; stores = o.stores.items }) (record { main = g.D.Disk.disk n.main; stores = n.stores.items }) c.in-Err.ending c.write.new.self
     (c.in-Err.ensures.written same) place is
+
+pub write-requires-clause-plan : goal.write-requires-clause-plan
+write-requires-clause-plan g c = (
+  plan_as c.args.self.now.store.cat c.in-Ok.plan _ _ _ _ c.requires.slots (sym c.as_slice.ensures) c.in-Ok.ensures.is_plan,
+  subst (λ (x : Cat). IsTrue (is_some x.pending)) (sym c.in-Ok.ensures.before.is) refl,
+)

@@ -11,7 +11,7 @@ use Rattle.cmd_run.specs.Fits.{state_of}
 use Rattle.cmd_run.specs.Obeys.{SaysOnly}
 use Rattle.cmd_run.proofs.LoginLemmas.{says_no_login}
 use Rattle.cmd_run.proofs.WorkingLemmas.{says_too_large, asks_to_put, not_le}
-use Rattle.cmd_run.proofs.Remembering.{no_source}
+use Rattle.cmd_run.proofs.Remembering.{no_source, remembers_none}
 use Rattle.cmd_run.proofs.server.Server.put_line.Goals as goal
 
 pub returns-in_default-clause-obeys : goal.returns-in_default-clause-obeys
@@ -56,3 +56,9 @@ pub returns-clause-idle : goal.returns-clause-idle
 returns-clause-idle g c = λ request asks.
     let s = c.args.self.now in
     c.put.ensures.idle request (asks_to_put s c.args.session c.in-Some.user (sym c.in-Some.ensures) c.args.line request asks (le-leb c.args.line.count object_size (omega (arith, c.if-line-gt-OBJECT_SIZE.false))))
+
+pub returns-in_default-clause-remembers : goal.returns-in_default-clause-remembers
+returns-in_default-clause-remembers g c = remembers_none c.args.line.line c.args.self.now.store.cat c.args.outside.now.moments (g.D.Disk.disk c.args.outside.now.main) (g.D.Disk.disk c.say.new.outside.main) c.say.ensures.remembers
+
+pub returns-then-line-gt-OBJECT_SIZE-clause-remembers : goal.returns-then-line-gt-OBJECT_SIZE-clause-remembers
+returns-then-line-gt-OBJECT_SIZE-clause-remembers g c = remembers_none c.args.line.line c.args.self.now.store.cat c.args.outside.now.moments (g.D.Disk.disk c.args.outside.now.main) (g.D.Disk.disk c.say-then-line-gt-OBJECT_SIZE.new.outside.main) c.say-then-line-gt-OBJECT_SIZE.ensures.remembers

@@ -21,7 +21,7 @@ use Rattle.cmd_run.proofs.LoginLemmas.{says_no_login}
 use Rattle.cmd_run.proofs.NotRefused.{deed_not_refused}
 use Rattle.cmd_run.proofs.OfDeeds.{repl_of}
 use Rattle.cmd_run.proofs.OfGrid.{OfGrid}
-use Rattle.cmd_run.proofs.Remembering.{still_remembers, no_source}
+use Rattle.cmd_run.proofs.Remembering.{no_source, remembers_none, still_remembers}
 use Rattle.cmd_run.proofs.SayLemmas.{unsaid, unsaid_by}
 use Rattle.cmd_run.proofs.WorkingLemmas.{asks_so}
 use Rattle.cmd_run.proofs.server.Server.repl.Goals as goal
@@ -52,7 +52,8 @@ returns-then-next-gt-LAST_VAULT-clause-whole g c = keep_still g.P.Plugin.plugin 
 pub returns-then-next-gt-LAST_VAULT-clause-remembers : goal.returns-then-next-gt-LAST_VAULT-clause-remembers
 returns-then-next-gt-LAST_VAULT-clause-remembers g c =
     let main = c.args.outside.now.main in
-    still_remembers g.D.Disk.disk main main c.args.self.now.store c.args.outside.now.moments refl c.requires.ready.outside.main_last c.requires.fits.held c.requires.fits.pending
+    remembers_none c.args.line.now c.args.self.now.store.cat c.args.outside.now.moments (g.D.Disk.disk main) (g.D.Disk.disk main)
+    (still_remembers g.D.Disk.disk main main c.args.self.now.store c.args.outside.now.moments refl c.requires.ready.outside.main_last c.requires.fits.held c.requires.fits.pending)
 
 pub returns-in-Ok-clause-obeys : goal.returns-in-Ok-clause-obeys
 returns-in-Ok-clause-obeys g c = λ source request asks.
@@ -108,7 +109,14 @@ returns-in-Err-Memory-clause-whole g c = keep_still g.P.Plugin.plugin c.args.sel
 pub returns-in-Err-Memory-clause-remembers : goal.returns-in-Err-Memory-clause-remembers
 returns-in-Err-Memory-clause-remembers g c =
     let main = c.args.outside.now.main in
-    still_remembers g.D.Disk.disk main main c.args.self.now.store c.args.outside.now.moments refl c.requires.ready.outside.main_last c.requires.fits.held c.requires.fits.pending
+    remembers_none c.args.line.now c.args.self.now.store.cat c.args.outside.now.moments (g.D.Disk.disk main) (g.D.Disk.disk main)
+    (still_remembers g.D.Disk.disk main main c.args.self.now.store c.args.outside.now.moments refl c.requires.ready.outside.main_last c.requires.fits.held c.requires.fits.pending)
 
 pub returns-in-Ok-clause-worn : goal.returns-in-Ok-clause-worn
 returns-in-Ok-clause-worn g c = λ source request asks. c.repl_drawn.ensures.worn source request
+
+pub returns-in_default-clause-remembers : goal.returns-in_default-clause-remembers
+returns-in_default-clause-remembers g c = remembers_none c.args.line.now c.args.self.now.store.cat c.args.outside.now.moments (g.D.Disk.disk c.args.outside.now.main) (g.D.Disk.disk c.say.new.outside.main) c.say.ensures.remembers
+
+pub returns-in-Err-Refused-clause-remembers : goal.returns-in-Err-Refused-clause-remembers
+returns-in-Err-Refused-clause-remembers g c = remembers_none c.args.line.now c.args.self.now.store.cat c.args.outside.now.moments (g.D.Disk.disk c.args.outside.now.main) (g.D.Disk.disk c.say-in-Err-Refused.new.outside.main) c.say-in-Err-Refused.ensures.remembers

@@ -22,8 +22,8 @@ returns-in_default-clause-obeys g c = λ source request is.
     let Q : Request → Type 0 = λ r. SaysOnly (state_of s) r (end.Refused refusal.NoLogin) (state_of s) in
     c.say.ensures.obeys source request s refl (subst Q (sym is) (says_no_login s c.args.session sweeps (sym c.in_default.ensures) refl))
 
-pub returns-in_default-clause-call : goal.returns-in_default-clause-call
-returns-in_default-clause-call g c = λ told settled t main d late left stands. (c.say.ensures.remembers told settled t main d late left stands).0
+pub returns-in_default-clause-none_waits : goal.returns-in_default-clause-none_waits
+returns-in_default-clause-none_waits g c = λ told settled t main d late left stands. (c.say.ensures.remembers told settled t main d late left stands).0
 
 pub returns-in_default-clause-idle : goal.returns-in_default-clause-idle
 returns-in_default-clause-idle g c = λ request is refused. (c.say.ensures.rows, c.say.ensures.stores)
@@ -42,8 +42,8 @@ returns-then-not-is_admin-clause-obeys g c = λ source request is.
     let Q : Request → Type 0 = λ r. SaysOnly (state_of s) r (end.Refused refusal.NotAdmin) (state_of s) in
     c.say-then-not-is_admin.ensures.obeys source request s refl (subst Q (sym is) (says_not_admin s c.args.session user (sym c.in-Some.ensures) other))
 
-pub returns-then-not-is_admin-clause-call : goal.returns-then-not-is_admin-clause-call
-returns-then-not-is_admin-clause-call g c = λ told settled t main d late left stands. (c.say-then-not-is_admin.ensures.remembers told settled t main d late left stands).0
+pub returns-then-not-is_admin-clause-none_waits : goal.returns-then-not-is_admin-clause-none_waits
+returns-then-not-is_admin-clause-none_waits g c = λ told settled t main d late left stands. (c.say-then-not-is_admin.ensures.remembers told settled t main d late left stands).0
 
 pub returns-then-not-is_admin-clause-idle : goal.returns-then-not-is_admin-clause-idle
 returns-then-not-is_admin-clause-idle g c = λ request is refused. (c.say-then-not-is_admin.ensures.rows, c.say-then-not-is_admin.ensures.stores)

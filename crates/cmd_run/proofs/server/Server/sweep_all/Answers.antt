@@ -10,7 +10,7 @@ use Rattle.cmd_run.proofs.KeepLemmas.{keep_still}
 use Rattle.cmd_run.proofs.KeptEnds.{worn_kept}
 use Rattle.cmd_run.proofs.Remembering.{still_remembers}
 use Rattle.cmd_run.proofs.SayLemmas.{unsaid}
-use Rattle.cmd_run.proofs.SweepEnds.{cut_sweep, swept_then, swept_call}
+use Rattle.cmd_run.proofs.SweepEnds.{cut_sweep, swept_then, none_waits_swept}
 use Rattle.cmd_run.proofs.SweepLemmas.{are_orphans, have_own_names, in_slots}
 use Rattle.cmd_run.proofs.server.Server.sweep_all.Goals as goal
 
@@ -21,8 +21,8 @@ returns-in_default-clause-obeys g c = λ source request says sweep.
 pub returns-in_default-clause-whole : goal.returns-in_default-clause-whole
 returns-in_default-clause-whole g c = keep_still g.P.Plugin.plugin c.args.self.now.store.cat c.args.outside.now.moments (g.D.Disk.disk c.args.outside.now.main) c.args.self.now.store c.args.outside.now.stores.items c.requires.fits.held c.requires.ready.outside.main_last
 
-pub returns-in_default-clause-call : goal.returns-in_default-clause-call
-returns-in_default-clause-call g c = λ told settled t main d late left stands.
+pub returns-in_default-clause-none_waits : goal.returns-in_default-clause-none_waits
+returns-in_default-clause-none_waits g c = λ told settled t main d late left stands.
     let disk = c.args.outside.now.main in
     (still_remembers g.D.Disk.disk disk disk c.args.self.now.store c.args.outside.now.moments refl c.requires.ready.outside.main_last c.requires.fits.held c.requires.fits.pending told settled t main d late left stands).0
 
@@ -33,8 +33,8 @@ returns-then-as_slice-gt-MANY-clause-obeys g c = λ source request says sweep.
 pub returns-then-as_slice-gt-MANY-clause-whole : goal.returns-then-as_slice-gt-MANY-clause-whole
 returns-then-as_slice-gt-MANY-clause-whole g c = keep_still g.P.Plugin.plugin c.args.self.now.store.cat c.args.outside.now.moments (g.D.Disk.disk c.args.outside.now.main) c.args.self.now.store c.args.outside.now.stores.items c.requires.fits.held c.requires.ready.outside.main_last
 
-pub returns-then-as_slice-gt-MANY-clause-call : goal.returns-then-as_slice-gt-MANY-clause-call
-returns-then-as_slice-gt-MANY-clause-call g c = λ told settled t main d late left stands.
+pub returns-then-as_slice-gt-MANY-clause-none_waits : goal.returns-then-as_slice-gt-MANY-clause-none_waits
+returns-then-as_slice-gt-MANY-clause-none_waits g c = λ told settled t main d late left stands.
     let disk = c.args.outside.now.main in
     (still_remembers g.D.Disk.disk disk disk c.args.self.now.store c.args.outside.now.moments refl c.requires.ready.outside.main_last c.requires.fits.held c.requires.fits.pending told settled t main d late left stands).0
 
@@ -45,8 +45,8 @@ returns-in_default-end_text-clause-obeys g c = λ source request says sweep.
 pub returns-in_default-end_text-clause-whole : goal.returns-in_default-end_text-clause-whole
 returns-in_default-end_text-clause-whole g c = keep_still g.P.Plugin.plugin c.args.self.now.store.cat c.args.outside.now.moments (g.D.Disk.disk c.args.outside.now.main) c.args.self.now.store c.args.outside.now.stores.items c.requires.fits.held c.requires.ready.outside.main_last
 
-pub returns-in_default-end_text-clause-call : goal.returns-in_default-end_text-clause-call
-returns-in_default-end_text-clause-call g c = λ told settled t main d late left stands.
+pub returns-in_default-end_text-clause-none_waits : goal.returns-in_default-end_text-clause-none_waits
+returns-in_default-end_text-clause-none_waits g c = λ told settled t main d late left stands.
     let disk = c.args.outside.now.main in
     (still_remembers g.D.Disk.disk disk disk c.args.self.now.store c.args.outside.now.moments refl c.requires.ready.outside.main_last c.requires.fits.held c.requires.fits.pending told settled t main d late left stands).0
 
@@ -78,9 +78,9 @@ returns-in-Ok-forget-clause-obeys g c = λ source request says sweep.
     c.forget.new.outside.moments (g.K.Sink.sink c.put_text.new.sink) (rw (sym line) c.put_text.ensures.put) frame.drawn forgets.ends frame.main.tells sweep
     c.put_text.result (rw (sym line) c.put_text.ensures.ends)
 
-pub returns-in-Ok-forget-clause-call : goal.returns-in-Ok-forget-clause-call
-returns-in-Ok-forget-clause-call g c =
-    swept_call c.args.self.now.store.cat c.args.outside.now.moments (g.D.Disk.disk c.args.outside.now.main) (g.D.Disk.disk c.forget.new.outside.main) _ c.forget.new.self c.requires.fits.pending c.in-Ok-forget.ensures.forgets
+pub returns-in-Ok-forget-clause-none_waits : goal.returns-in-Ok-forget-clause-none_waits
+returns-in-Ok-forget-clause-none_waits g c =
+    none_waits_swept c.args.self.now.store.cat c.args.outside.now.moments (g.D.Disk.disk c.args.outside.now.main) (g.D.Disk.disk c.forget.new.outside.main) _ c.forget.new.self c.requires.fits.pending c.in-Ok-forget.ensures.forgets
 
 pub returns-clause-obeys : goal.returns-clause-obeys
 returns-clause-obeys g c = λ source request says sweep.
@@ -89,9 +89,9 @@ returns-clause-obeys g c = λ source request says sweep.
     cut_sweep g.D.Disk.disk g.A.Ambient.ambient g.P.Plugin.plugin source c.args.outside.now c.forget.new.outside (g.K.Sink.sink c.args.sink.now) c.args.self.now c.forget.new.self c.args.number request
     frame.ambient frame.stores c.requires.fits c.requires.ready.sink_last c.in-Err.ensures.sessions says forgets.gone forgets.after forgets.applied forgets.leaves c.in-Err.ending
 
-pub returns-clause-call : goal.returns-clause-call
-returns-clause-call g c =
-    swept_call c.args.self.now.store.cat c.args.outside.now.moments (g.D.Disk.disk c.args.outside.now.main) (g.D.Disk.disk c.forget.new.outside.main) _ c.forget.new.self c.requires.fits.pending c.in-Err.ensures.forgets
+pub returns-clause-none_waits : goal.returns-clause-none_waits
+returns-clause-none_waits g c =
+    none_waits_swept c.args.self.now.store.cat c.args.outside.now.moments (g.D.Disk.disk c.args.outside.now.main) (g.D.Disk.disk c.forget.new.outside.main) _ c.forget.new.self c.requires.fits.pending c.in-Err.ensures.forgets
 
 pub returns-clause-worn : goal.returns-clause-worn
 returns-clause-worn g c = λ source request.
