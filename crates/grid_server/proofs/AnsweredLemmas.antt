@@ -16,8 +16,9 @@ use Rattle.grid_headline.specs.Reads.{MeansRequest, EndsInput}
 use Rattle.grid_headline.specs.Worlds.{World}
 use Rattle.run_laws.specs.Sofar.{BeginsPlainly, CallsGoOn, KeepsWhole, Sofar}
 use Rattle.grid_model.specs.Working.{Done}
-use Rattle.run_laws.specs.Steps.{ComesAfter, kept, unseen}
+use Rattle.run_laws.specs.Steps.{ComesAfter, NotesLine, kept, unseen}
 use Rattle.run_laws.proofs.RunLaws.{one_more}
+use Rattle.cmd_run.specs.Asking.{IsLineOf}
 use Rattle.cmd_run.specs.Fits.{FitsMain, state_of}
 use Rattle.cmd_run.specs.Obeys.{Obeys, handled, quiet}
 use Rattle.cmd_run.specs.declared.server.Server.{Server}
@@ -32,8 +33,8 @@ any_spare (made_of records c head log replays zone) spare = made_of records c he
 
 -- the files stay whole while a request is handled
 pub keeps_whole : {D S K A P : Type 0} (v : Views D S K A P) (a b : Around D S K A P) (c : Command) (r : Result ⊤ Ending) (after : Server) → IsTrue (v.disk a.outside.main).tells
-    → Commanded (world_of v a) (world_of v b) c r after → KeepsWhole (world_of v a) (world_of v b) c.before.store.cat
-keeps_whole v a b c r after told cmd settled whole t main spare d late left its =
+    → Commanded (world_of v a) (world_of v b) c r after → (line : Text) → IsLineOf c.heard.asked c.heard.line line → KeepsWhole (world_of v a) (world_of v b) c.before.store.cat
+keeps_whole v a b c r after told cmd line its_line settled whole t main spare d late left its =
     let stood = any_spare its in
     let was = cmd.whole told settled.of_main (λ s late. (
     let w = whole s late in
@@ -41,9 +42,14 @@ keeps_whole v a b c r after told cmd settled whole t main spare d late left its 
     )) t main d late left.of_main stood in
     record {
       rows = was.rows;
-      call = cmd.call told settled.of_main t main d late left.of_main stood;
+      call = (cmd.call line its_line told settled.of_main t main d late left.of_main stood).0;
       files = λ slot image there. was.files slot there.store image there.is there.tells there.of_store;
     }
+
+-- and no other line is noted than that of the request
+pub notes_line : {D S K A P : Type 0} (v : Views D S K A P) (a b : Around D S K A P) (c : Command) (r : Result ⊤ Ending) (after : Server) → Commanded (world_of v a) (world_of v b) c r after
+    → (line : Text) → IsLineOf c.heard.asked c.heard.line line → NotesLine line (world_of v a) (world_of v b)
+notes_line v a b c r after cmd line its_line told settled t main d late left stands = (cmd.call line its_line told settled t main d late left stands).1
 
 all_then : (asked : List Asked) (a : Asked) → AllByRecursion (λ x. ¬ EndsInput x) asked → ¬ EndsInput a → AllByRecursion (λ x. ¬ EndsInput x) (asked ++ a ∷ [])
 all_then [] a none not = (not, tt)
@@ -63,10 +69,10 @@ pub obeys_at : {B : Type 0} (old new : World B) (before : Server) (m n : ℕ) (r
 obeys_at old new before m n request r after e o = let O : ℕ → Type 0 = λ k. Obeys old new before (k + 1) request r after in subst O e o
 
 module _ {B : Type 0} {old mid new : World B} {found : Cat} {before : Server} {asked : List Asked} {a : Asked} {request : Request} (after : Server) (plain : BeginsPlainly old found)
-    (so : Sofar old mid found before.store.cat (state_of before) asked) (goes : CallsGoOn old.source.left mid new before.store.cat) (means : MeansRequest (state_of before) a request) where
+    (so : Sofar old mid found before.store.cat (state_of before) asked) (goes : CallsGoOn old.source.left mid new before.store.cat) (notes : NotesLine a.line mid new) (means : MeansRequest (state_of before) a request) where
   -- it was handled whole, and does not end the input
   pub answered_more : (done : ⊤) → Obeys mid new before (length asked + 1) request (Ok done) after → ¬ EndsInput a → Sofar old new found after.store.cat (state_of after) (asked ++ a ∷ [])
-  answered_more done (handled step ends) not = one_more plain so goes means not step ends.0
+  answered_more done (handled step ends) not = one_more plain so goes notes means not step ends.0
   answered_more done (quiet ending e q) not = absurd (cc e)
 
 -- it fits, and the catalogue is of as many stores

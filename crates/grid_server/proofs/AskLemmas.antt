@@ -5,6 +5,7 @@ use Rattle.std.specs.Prelude.{nat_le, nat_lt, Option, Some, None, Result, Ok, Er
 use Rattle.std.proofs.lemmas.Bool.{ltb-true, le-leb}
 use Rattle.grid_model.specs.Names.{Text}
 use Rattle.grid_model.specs.Limits.{object_size}
+use Rattle.grid_model.specs.Writable.{is_word}
 use Rattle.grid_model.specs.Inputs.{Asked}
 use Rattle.grid_model.specs.Orders.{Order, quits}
 use Rattle.grid_model.specs.Sessions.{State}
@@ -20,10 +21,11 @@ use Rattle.cmd_read.specs.Orders.{refusal_of, asks_for as reads_so, MeansOrder a
 use Rattle.cmd_read.specs.declared.error.ReadError.{ReadError}
 use Rattle.cmd_read.specs.declared.error.ReadError.TheVariants as error
 use Rattle.grid_headline.specs.Reads.{texts, is_built, MeansRequest, EndsInput}
-use Rattle.req_lines.specs.Hearing.{IsReadAs, a_request, cut_short, wrong_words, no_words, too_long, held_of, kept}
+use Rattle.req_lines.specs.Hearing.{IsReadAs, a_request, cut_short, wrong_words, no_words, too_long, held_of, kept, KeepsLine}
 use Rattle.req_lines.proofs.AskingLemmas.{asks_for, asks_refused, asks_unbuilt}
+use Rattle.req_lines.proofs.LineBytes.{line_is_word}
 use Rattle.req_lines.proofs.ReadingOnce.{IsReadAs-unique}
-use Rattle.cmd_run.specs.Asking.{AsksForRequest, IsForm, MeansHeld, ends_input}
+use Rattle.cmd_run.specs.Asking.{AsksForRequest, IsForm, IsLineOf, MeansHeld, ends_input}
 use Rattle.cmd_run.proofs.GoodWords.{good_words_of}
 use Rattle.cmd_run.proofs.Meant.{meant, end_built, end_means, quits_end}
 
@@ -65,6 +67,16 @@ form_of line body asked (cut_short request short spells reads few) = tt
 form_of line body asked (wrong_words {r = r} why short spells reads is) = refused_form why r is
 form_of line body asked (no_words short refused) = tt
 form_of line body asked (too_long long) = tt
+
+-- ---- its line
+
+pub kept_line : (asked : Result Request Refusal) (text line : Text) → KeepsLine asked text line → IsLineOf asked text line
+kept_line (Ok request) text line keeps = keeps
+kept_line (Err r) text line keeps = tt
+
+pub kept_word : (line body : Text) (asked : Result Request Refusal) (text : Text) → IsReadAs line body asked → KeepsLine asked text line → IsTrue (is_word text)
+kept_word line body (Ok request) text read keeps = subst (λ (t : Text). IsTrue (is_word t)) (sym keeps) (line_is_word line body request read)
+kept_word line body (Err r) text read keeps = subst (λ (t : Text). IsTrue (is_word t)) (sym keeps) refl
 
 -- ---- what it asks for
 

@@ -21,6 +21,7 @@ use Rattle.grid_headline.specs.Reads.{MeansRequest, EndsInput}
 use Rattle.grid_headline.specs.Served.{BeginsWithRequests}
 use Rattle.grid_headline.specs.Worlds.{World}
 use Rattle.run_laws.specs.Ends.{NextMakesFile, StopsSo, IsGoodIfNoneFailed}
+use Rattle.run_laws.specs.Steps.{NotesLine}
 use Rattle.run_laws.specs.Sofar.{BeginsPlainly, CallsGoOn, Sofar}
 use Rattle.run_laws.proofs.RunLaws.{ends_well, ends_idle, ends_quiet, ends_within, ends_with}
 use Rattle.req_lines.specs.Reading.{Input}
@@ -100,18 +101,18 @@ makes_file input at asked a (Ok (session, order)) first means makes =
 makes_file input at asked a (Err r) first means makes = absurd makes
 
 module _ {B : Type 0} {old mid new : World B} {found : Cat} {before : Server} {asked : List Asked} {a : Asked} {request : Request} (after : Server) (plain : BeginsPlainly old found)
-    (so : Sofar old mid found before.store.cat (state_of before) asked) (goes : CallsGoOn old.source.left mid new before.store.cat) (means : MeansRequest (state_of before) a request)
+    (so : Sofar old mid found before.store.cat (state_of before) asked) (goes : CallsGoOn old.source.left mid new before.store.cat) (notes : NotesLine a.line mid new) (means : MeansRequest (state_of before) a request)
     (first : BeginsWithRequests old.source.left (asked ++ a ∷ [])) where
   -- a request that ended the input was handled whole
   pub last_answered : (done : ⊤) → Obeys mid new before (length asked + 1) request (Ok done) after → EndsAtEnd (asked ++ a ∷ []) old.source new.source ⊎ EndsInRequest (asked ++ a ∷ []) old.source new.source
       → Serves old new found read_all
-  last_answered done (handled step ends) reads = ends_with plain so goes means step first ends.0 reads (λ none fits. tt)
+  last_answered done (handled step ends) reads = ends_with plain so goes notes means step first ends.0 reads (λ none fits. tt)
   last_answered done (quiet ending e q) reads = absurd (cc e)
 
   -- something ran out or failed, of which nothing is said
   stopped : (r : Result ⊤ Ending) (e : Ending) → r ≡ Err e → Obeys mid new before (length asked + 1) request r after → BeginsWithRequests old.source.left asked
       → ((at : State) (all : List Asked) → StopsSo old new found at all (end_of e)) → IsGoodIfNoneFailed old new (end_of e) → Serves old new found (end_of e)
-  stopped r e is (handled step ends) short stops good = ends_within plain so goes means step first (stops step.d.state (asked ++ a ∷ [])) good
+  stopped r e is (handled step ends) short stops good = ends_within plain so goes notes means step first (stops step.d.state (asked ++ a ∷ [])) good
   stopped r e is (quiet ending same q) short stops good = ends_quiet plain so goes q short (stops (state_of before) asked) good
 
   -- the room of the log, memory, or a device

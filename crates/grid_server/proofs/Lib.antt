@@ -4,6 +4,7 @@ pub mod EndLemmas
 pub mod OpenedLemmas
 pub mod OpensLemmas
 pub mod OpeningLemmas
+pub mod ReopeningLemmas
 pub mod RestLemmas
 pub mod RunLemmas
 pub mod ServingLemmas

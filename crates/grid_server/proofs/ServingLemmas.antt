@@ -14,6 +14,7 @@ use Rattle.grid_headline.specs.Worlds.{World}
 use Rattle.run_laws.specs.declared.around.Around.{Around}
 use Rattle.run_laws.specs.Sofar.{run_begun, CallsGoOn, Sofar}
 use Rattle.run_laws.proofs.BuiltOrders.{removes_nothing}
+use Rattle.run_laws.specs.Steps.{NotesLine}
 use Rattle.run_laws.specs.Went.{AreInOrder}
 use Rattle.run_laws.proofs.RunLaws.{read_on, ends_well, ends_idle}
 use Rattle.req_lines.specs.Hearing.{Hears, HearsNone, GoesOn as GoesPast, BreaksOff, ahead}
@@ -27,14 +28,14 @@ use Rattle.cmd_run.specs.declared.server.Ending.{Ending}
 use Rattle.cmd_run.specs.declared.server.Ending.TheVariants as ending
 use Rattle.grid_server.specs.RunEnds.{run_end_of}
 use Rattle.grid_server.specs.Serving.{Earlier, EndsBegun, IsAfter, IsBegun, HasAnswered, TookFew, before}
-use Rattle.cmd_run.specs.Asking.{ends_input}
+use Rattle.cmd_run.specs.Asking.{IsLineOf, ends_input}
 use Rattle.grid_server.specs.Turning.{Commanded, TakesTurn, handled, none_left, too_long as goes_past, broken_off, no_memory as memory_gone, after, command_of, input_of, is_last, status_of}
 use Rattle.grid_server.specs.Views.{Views, WasRead, PassesOn, world_of}
 use Rattle.grid_server.specs.declared.service.Service.{Service}
 use Rattle.grid_server.specs.declared.status.Status.{Status}
 use Rattle.grid_server.specs.declared.status.Status.TheVariants as status
-use Rattle.grid_server.proofs.AnsweredLemmas.{answered_more, fits_more, keeps_whole, none_end_more, obeys_at}
-use Rattle.grid_server.proofs.AskLemmas.{Asks, asks_so, ends_input_so, not_ending}
+use Rattle.grid_server.proofs.AnsweredLemmas.{answered_more, fits_more, keeps_whole, none_end_more, notes_line, obeys_at}
+use Rattle.grid_server.proofs.AskLemmas.{Asks, asks_so, ends_input_so, kept_line, not_ending}
 use Rattle.grid_server.proofs.EndLemmas.{end_is, end_of, end_of_status, last_answered, stops_before, stops_in, reads_end, reads_part, reads_most, reads_to_end}
 use Rattle.grid_server.proofs.TurnLemmas.{goes_on}
 use Rattle.grid_server.proofs.ViewLemmas.{order_of, passes_as, passes_then, went_of}
@@ -85,7 +86,7 @@ module _ {D S K A P : Type 0} (v : Views D S K A P) (from : Server) (start mid n
     first_with asked told so false e = inl (ahead (input_of now (v.source new.source)), heard_first (v.source start.source) (input_of now (v.source new.source)) (asked ++ hears.asked ∷ []) (more_heard asked told so e))
     first_with asked told so true e = inr (all_heard asked told so e).are
 
-    module _ (told : IsTrue (v.source start.source).tells) (asked : List Asked) (ans : HasAnswered v from start mid was asked) (order : AreInOrder (world_of v start)) (e : Earlier D) (found : Cat)
+    module _ (told : IsTrue (v.source start.source).tells) (asked : List Asked) (ans : HasAnswered v from start mid was asked) (order : AreInOrder (world_of v start)) (e : Earlier D K) (found : Cat)
         (began : IsBegun v (before v e start) start found) (cat : from.store.cat ≡ run_begun found) where
       so_read : Sofar (world_of v (before v e start)) (world_of v by) found was.server.store.cat (state_of was.server) asked
       so_read = read_on (v.source new.source) (ans.so e found began cat)
@@ -96,15 +97,21 @@ module _ {D S K A P : Type 0} (v : Views D S K A P) (from : Server) (start mid n
       order_by : AreInOrder (world_of v by)
       order_by = let o = order_of v ⊥ ⊥ start mid so_far.passes order in record { main_last = o.main_last; spare_last = o.spare_last; sink_last = o.sink_last; stores_last = o.stores_last }
 
+      its_line : IsLineOf heard.asked heard.line hears.asked.line
+      its_line = kept_line heard.asked heard.line hears.asked.line hears.keeps
+
       goes_by : CallsGoOn (v.source start.source).left (world_of v by) (world_of v new) was.server.store.cat
       goes_by = record {
         order = order_by;
         went = went_of v (result ≡ Some status.DiskFault) (result ≡ Some status.SinkFault) by new passes;
-        whole = keeps_whole v by new (command_of was heard) r now.server main_told cmd;
+        whole = keeps_whole v by new (command_of was heard) r now.server main_told cmd hears.asked.line its_line;
         names = λ none main_tells settled t main d late left stands.
             let named = removes_nothing asks.means (none asked hears.asked (first_with asked told ans.heard heard.ends refl)) in
             (cmd.remembers asks.request asks.asks named main_tells settled t main d late left stands).1;
       }
+
+      notes_by : NotesLine hears.asked.line (world_of v by) (world_of v new)
+      notes_by = notes_line v by new (command_of was heard) r now.server cmd hears.asked.line its_line
 
       obeyed_at : Obeys (world_of v by) (world_of v new) was.server (length asked + 1) asks.request r now.server
       obeyed_at = obeys_at (world_of v by) (world_of v new) was.server was.number (length asked) asks.request r now.server ans.many obeyed
@@ -120,14 +127,14 @@ module _ {D S K A P : Type 0} (v : Views D S K A P) (from : Server) (start mid n
           → Sofar (world_of v (before v e start)) (world_of v new) found now.server.store.cat (state_of now.server) (asked ++ hears.asked ∷ [])
       sofar_more done is others =
           let O : Result ⊤ Ending → Type 0 = λ x. Obeys (world_of v by) (world_of v new) was.server (length asked + 1) asks.request x now.server in
-          answered_more now.server began.plain so_read goes_by asks.means done (subst O is obeyed_at) (not_ending hears.asked.line hears.asked.body heard.asked hears.read others)
+          answered_more now.server began.plain so_read goes_by notes_by asks.means done (subst O is obeyed_at) (not_ending hears.asked.line hears.asked.body heard.asked hears.read others)
 
       -- the run ends with it
       pub ends_last : (done : ⊤) → r ≡ Ok done → EndsAtEnd (asked ++ hears.asked ∷ []) (v.source start.source) (v.source new.source) ⊎ EndsInRequest (asked ++ hears.asked ∷ []) (v.source start.source) (v.source new.source)
           → Serves (world_of v (before v e start)) (world_of v new) found read_all
       ends_last done is reads =
           let O : Result ⊤ Ending → Type 0 = λ x. Obeys (world_of v by) (world_of v new) was.server (length asked + 1) asks.request x now.server in
-          last_answered now.server began.plain so_read goes_by asks.means begins_with done (subst O is obeyed_at) reads
+          last_answered now.server began.plain so_read goes_by notes_by asks.means begins_with done (subst O is obeyed_at) reads
 
       -- something ran out or failed in it
       pub ends_stopped : (x : Ending) → r ≡ Err x → result ≡ Some (status_of x)
@@ -145,7 +152,7 @@ module _ {D S K A P : Type 0} (v : Views D S K A P) (from : Server) (start mid n
           new_told = subst IsTrue (sym goes_by.went.main.tells) main_told
 
           others : (y : Ending) → r ≡ Err y → result ≡ Some (status_of y) → ((place : ℕ) → y ≡ ending.Worn wear.Vaults place → ⊥) → Serves (world_of v (before v e start)) (world_of v new) found (end_of y)
-          others y is status_is not_vaults = stops_in now.server began.plain so_read goes_by asks.means begins_with y (at_err y is) begins_short (worn_err y is) new_told not_vaults
+          others y is status_is not_vaults = stops_in now.server began.plain so_read goes_by notes_by asks.means begins_with y (at_err y is) begins_short (worn_err y is) new_told not_vaults
               (λ d. passes.frame.cause (status_is ∙ ap (λ z. Some (status_of z)) d)) (λ d. passes.sink_cause (status_is ∙ ap (λ z. Some (status_of z)) d))
 
           by_ending : (y : Ending) → r ≡ Err y → result ≡ Some (status_of y) → Serves (world_of v (before v e start)) (world_of v new) found (end_of y)

@@ -66,7 +66,7 @@ state_none found places none = λ i. record {
 
 module _ {D S K A P : Type 0} (v : Views D S K A P) (server : Server) (start : Around D S K A P) (fits : FitsMain (v.disk start.outside.main) server) (nobody : (n : ℕ) → at server.sessions n ≡ None)
     (slots : server.store.cat.stores ≡ vec_len start.outside.stores) where
-  sofar_none : (e : Earlier D) (found : Cat) → IsBegun v (before v e start) start found → server.store.cat ≡ run_begun found
+  sofar_none : (e : Earlier D K) (found : Cat) → IsBegun v (before v e start) start found → server.store.cat ≡ run_begun found
       → Sofar (world_of v (before v e start)) (world_of v start) found server.store.cat (state_of server) []
   sofar_none e found began cat =
       let C : Cat → State → Type 0 = λ c s. Sofar (world_of v (before v e start)) (world_of v start) found c s [] in
@@ -99,7 +99,7 @@ module _ {D S K A P : Type 0} (v : Views D S K A P) (server : Server) (start : A
   starts = starts_with
 
   -- there was no memory for the first request
-  pub ends_first : (e : Earlier D) (found : Cat) (end : RunEnd) → IsBegun v (before v e start) start found → server.store.cat ≡ run_begun found → run_end_of status.Memory ≡ Some end
+  pub ends_first : (e : Earlier D K) (found : Cat) (end : RunEnd) → IsBegun v (before v e start) start found → server.store.cat ≡ run_begun found → run_end_of status.Memory ≡ Some end
       → Serves (world_of v (before v e start)) (world_of v start) found end
   ends_first e found end began cat its =
       let is : no_memory ≡ end = cc in
@@ -203,7 +203,7 @@ module _ {D S K A P : Type 0} (v : Views D S K A P) (from : Server) (start mid n
 
   module _ (order : AreInOrder (world_of v start)) (untouched : (place : ℕ) → result ≡ Some (status.Worn wear.Vaults place) → (new.outside ≡ mid.outside) × (new.sink ≡ mid.sink))
       (cause : result ≡ Some status.SourceFault → Rose (v.source mid.source).faults (v.source new.source).faults)
-      (e : Earlier D) (found : Cat) (end : RunEnd) (began : IsBegun v (before v e start) start found) (cat : from.store.cat ≡ run_begun found) (its : run_end_of s ≡ Some end) where
+      (e : Earlier D K) (found : Cat) (end : RunEnd) (began : IsBegun v (before v e start) start found) (cat : from.store.cat ≡ run_begun found) (its : run_end_of s ≡ Some end) where
     abbrev old : World P
     old = world_of v (before v e start)
 

@@ -59,12 +59,13 @@ EndsServing status.Usage = ⊥
 EndsServing (status.NotEmpty side len) = ⊥
 EndsServing other = Unit {0}
 
--- a run that could not begin, for want of a number, of room or of memory, or because a disk failed
+-- a run that could not begin, for want of a number, of room or of memory, or because a disk or the sink failed
 abbrev pub IsNotBegun : Status → Type 0
 IsNotBegun (status.Worn what place) = Unit {0}
 IsNotBegun status.NotPlain = Unit {0}
 IsNotBegun status.Memory = Unit {0}
 IsNotBegun status.DiskFault = Unit {0}
+IsNotBegun status.SinkFault = Unit {0}
 IsNotBegun other = ⊥
 
 -- a run over a catalogue from which it may not go on, unless something fails before

@@ -45,16 +45,17 @@ pub record SinkWent (from to : ℕ) (old new : SinkState) : Type 0 where
   pub last : old.last ≤ from → new.last ≤ to
   pub goes : DeviceGoes from old new
 
--- what the disks were and how many moments were drawn before a run was begun
-pub record Earlier (D : Type 0) : Type 0 where
+-- what the disks and the sink were, and how many moments were drawn, before a run was begun
+pub record Earlier (D K : Type 0) : Type 0 where
   pub main : D
   pub spare : D
+  pub sink : K
   pub moments : ℕ
 
 module _ {D S K A P : Type 0} (v : Views D S K A P) where
   -- all that is around the run, then
-  abbrev pub before : Earlier D → Around D S K A P → Around D S K A P
-  before e a = record a { outside = record a.outside { main = e.main; spare = e.spare; moments = e.moments } }
+  abbrev pub before : Earlier D K → Around D S K A P → Around D S K A P
+  before e a = record a { outside = record a.outside { main = e.main; spare = e.spare; moments = e.moments }; sink = e.sink }
 
   -- the run was begun in between, over this catalogue
   pub record IsBegun (old now : Around D S K A P) (found : Cat) : Type 0 where
@@ -67,7 +68,7 @@ module _ {D S K A P : Type 0} (v : Views D S K A P) where
     pub heard : HasHeard (v.source start.source) (input_of s (v.source now.source)) asked
     pub many : s.number ≡ length asked
     pub none_end : AllByRecursion (λ a. ¬ EndsInput a) asked
-    pub so : (e : Earlier D) (found : Cat) → IsBegun (before e start) start found → from.store.cat ≡ run_begun found
+    pub so : (e : Earlier D K) (found : Cat) → IsBegun (before e start) start found → from.store.cat ≡ run_begun found
         → Sofar (world_of v (before e start)) (world_of v now) found s.server.store.cat (state_of s.server) asked
 
   -- Where a service is that began so.

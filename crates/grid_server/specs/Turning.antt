@@ -1,6 +1,7 @@
 -- One turn of a service: a request is read and handled, or the run ends.
 use Rattle.std.specs.Prelude.{◌≡◌, ℕ, ◌+◌, ◌^◌, Bool, true, false, ◌||◌, Option, Some, None, Result, Ok, Err, ⊤}
 use Rattle.grid_outside.specs.Source.{SourceState}
+use Rattle.grid_model.specs.Names.{Text}
 use Rattle.grid_model.specs.Runs as runs
 use Rattle.grid_deed.specs.Safe.{KeepWhole}
 use Rattle.grid_headline.specs.Worlds.{World}
@@ -9,9 +10,9 @@ use Rattle.run_laws.specs.declared.around.Around.{Around}
 use Rattle.req_lines.specs.Reading.{Input, input}
 use Rattle.req_lines.specs.Hearing.{Hears, HearsNone, GoesOn, Stops, BreaksOff}
 use Rattle.req_lines.specs.declared.requests.Heard.{Heard}
-use Rattle.cmd_run.specs.Asking.{AsksForRequest, ends_input}
+use Rattle.cmd_run.specs.Asking.{AsksForRequest, IsLineOf, ends_input}
 use Rattle.cmd_run.specs.Fits.{state_of}
-use Rattle.cmd_run.specs.Obeys.{Obeys, IsWorn, NamesItsCall, Remembers}
+use Rattle.cmd_run.specs.Obeys.{Obeys, IsWorn, NamesItsCall, RemembersDeed}
 use Rattle.cmd_run.specs.declared.server.Server.{Server}
 use Rattle.cmd_run.specs.declared.server.Ending.{Ending}
 use Rattle.cmd_run.specs.declared.server.Ending.TheVariants as ending
@@ -52,9 +53,9 @@ pub record Commanded {B : Type 0} (old new : World B) (c : Command) (result : Re
       → Obeys old new c.before c.number request result after
   pub worn : (request : runs.Request) → AsksForRequest (state_of c.before) c.heard.asked c.heard.body request → IsWorn new c.before request result
   pub whole : KeepWhole old.plugin old.moments c.before.store.cat old.main new.main old.stores new.stores
-  pub call : NamesItsCall old.moments old.main new.main
+  pub call : (line : Text) → IsLineOf c.heard.asked c.heard.line line → NamesItsCall line old.moments old.main new.main
   pub remembers : (request : runs.Request) → AsksForRequest (state_of c.before) c.heard.asked c.heard.body request → RemovesNoFile request
-      → Remembers c.before.store.cat old.moments old.main new.main
+      → RemembersDeed c.heard.line c.before.store.cat old.moments old.main new.main
 
 -- ---- one turn
 

@@ -2,6 +2,8 @@
 #![tactic(auto)]
 
 mod opening;
+mod reopening;
+mod reporting;
 mod running;
 mod service;
 mod serving;

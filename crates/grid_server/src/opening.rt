@@ -1,9 +1,10 @@
-ghost use Rattle.std.specs.Prelude.{◌≡◌, ◌+◌, ◌^◌, ◌<◌, ◌≤◌, ◌∷◌, [], None, IsTrue, IfOk, IsErrOf};
+ghost use Rattle.std.specs.Prelude.{◌≡◌, ◌+◌, ◌^◌, ◌<◌, ◌≤◌, [], IsTrue, IfOk, IsErrOf, is_some};
+ghost use Rattle.std.specs.List.{list_all};
 ghost use Rattle.grid_outside.specs.Fault.{Rose};
 ghost use Rattle.grid_model.specs.Applying.{IsMade};
 ghost use Rattle.cmd_run.specs.Errors.{IsOfCommit};
-ghost use Rattle.grid_journal.specs.Journal.{Keeps};
-ghost use Rattle.grid_server.specs.Opening.{Begun};
+ghost use Rattle.grid_journal.specs.Journal.{Keeps, can_be_kept};
+ghost use Rattle.grid_server.specs.Opening.{Begun, begin_deltas};
 ghost use Rattle.grid_server.specs.Stopping.{begin_error_of};
 ghost use Rattle.grid_deed.specs.Frame.{AddsInRoom};
 
@@ -11,6 +12,7 @@ use cmd_run::Server;
 use grid_journal::{JournalError, Store};
 use grid_model::{Delta, Deltas, Numbers};
 use grid_outside::{Disk, Moments};
+use grid_tables::Tables;
 use sess::Sessions;
 use std::alloc::{AllocError, Global};
 
@@ -22,11 +24,14 @@ pub(crate) enum BeginError {
     /// The closing gate of the catalogue's log stands here, too far for one more record.
     Log { at: u64 },
     Disk,
+    /// A report was cut short.
+    Sink,
     Memory,
 }
 
-/// Begins a run over a catalogue: its number is one more than that of the last one, no command of it has changed anything,
-/// and nobody is logged in. `Disk` comes only where the disk failed, and `Runs` exactly where the last run has the greatest number.
+/// Begins a run over a catalogue: its number is one more than that of the last one, no command of it has changed anything, none
+/// is pending, and nobody is logged in. `Disk` comes only where the disk failed, `Runs` exactly where the last run has the
+/// greatest number, and `Sink` never.
 pub(crate) fn begin_run<D: Disk>(
     alloc: Global,
     store: Store,
@@ -38,7 +43,6 @@ pub(crate) fn begin_run<D: Disk>(
     requires staged { store.staged ≡ [] }
     requires keeps { IsTrue (D.disk main.old).tells → Keeps store.cat store (D.disk main.old).holds }
     requires made { IsMade store.cat }
-    requires pending { store.cat.pending ≡ None }
     requires rules { store.cat.rules ≡ [] }
     requires main_last { (D.disk main.old).last ≤ moments.old }
     requires room { moments.old + 4 < 2 ^ 128 }
@@ -51,7 +55,9 @@ pub(crate) fn begin_run<D: Disk>(
     ensures spare { spare.new ≡ spare.old }
 {
     let mut store = store;
-    let last = store.tables().numbers();
+    let tables = store.tables();
+    let last = tables.numbers();
+    let is_pending = has_pending(tables);
     if last.run == u64::MAX {
         return Err(BeginError::Runs { at: last.run });
     }
@@ -63,7 +69,7 @@ pub(crate) fn begin_run<D: Disk>(
     let Ok(sessions) = Sessions::new(alloc) else {
         return Err(BeginError::Memory);
     };
-    let Ok(deltas) = one(alloc, Delta::Numbers(numbers)) else {
+    let Ok(deltas) = begin_deltas(alloc, is_pending, numbers) else {
         return Err(BeginError::Memory);
     };
     match store.commit(alloc, main, spare, moments, deltas) {
@@ -72,11 +78,23 @@ pub(crate) fn begin_run<D: Disk>(
     }
 }
 
-// This change alone. Fails for want of memory alone.
-fn one(alloc: Global, delta: Delta) -> Result<Deltas, AllocError>
-    ensures { IfOk result (λ deltas. deltas ≡ delta ∷ []) }
+// Whether a command is pending.
+fn has_pending(tables: &Tables) -> bool
+    ensures { result ≡ is_some tables.now.pending }
 {
-    let deltas = vec![in alloc; delta]?;
+    tables.pending().is_some()
+}
+
+// The changes with which a run is begun that has these numbers. Fails for want of memory alone.
+fn begin_deltas(alloc: Global, is_pending: bool, numbers: Numbers) -> Result<Deltas, AllocError>
+    ensures is { IfOk result (λ deltas. deltas ≡ begin_deltas is_pending numbers) }
+    ensures spelled { IfOk result (λ deltas. IsTrue (list_all can_be_kept deltas)) }
+{
+    let mut deltas = Vec::new(alloc);
+    if is_pending {
+        deltas.push(Delta::NoPending)?;
+    }
+    deltas.push(Delta::Numbers(numbers))?;
     Ok(Deltas::from_vec(deltas))
 }
 

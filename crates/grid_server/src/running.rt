@@ -31,7 +31,8 @@ ghost use Rattle.grid_server.specs.Tasks as task;
 ghost use Rattle.grid_server.specs.Tasks.{AsksForTask, AsksNothing};
 
 use crate::Status;
-use crate::opening::{BeginError, begin_run};
+use crate::opening::BeginError;
+use crate::reopening::open_run;
 use crate::serving::serve_all;
 use crate::words::{Asked, read_words};
 use grid_journal::{JournalError, Store};
@@ -85,7 +86,7 @@ pub fn run<D: Disk, S: Source, K: Sink, A: Ambient, P: Plugin>(
         let old = seen D.disk A.ambient S.source K.sink P.plugin outside.old source.old sink.old in BeginsPlainly old found → run_end_of result ≡ Some end →
         Serves old (seen D.disk A.ambient S.source K.sink P.plugin outside.new source.new sink.new) found end }
 
-    // The catalogue has rules, or a command that is not done.
+    // The catalogue has rules, or a pending command with recoveries.
     ensures not_plain { (found : Cat) → AsksForTask words.now task.serve → IsTrue (D.disk outside.old.main).tells →
         Stands (D.disk outside.old.main).holds (D.disk outside.old.spare).holds (Ok found) → found.stores ≡ vec_len outside.old.stores → ¬ IsPlain found →
         IsHeldBack result × Rests (D.disk outside.old.main) (D.disk outside.new.main) × (source.new ≡ source.old) × (sink.new ≡ sink.old)
@@ -102,8 +103,8 @@ pub fn run<D: Disk, S: Source, K: Sink, A: Ambient, P: Plugin>(
     ensures worn { (found : Cat) → AsksForTask words.now task.serve → IsTrue (D.disk outside.old.main).tells
         → Stands (D.disk outside.old.main).holds (D.disk outside.old.spare).holds (Ok found) →
         found.stores ≡ vec_len outside.old.stores → ¬ HasRoom found (D.disk outside.old.main) →
-        IsNotBegun result × Rests (D.disk outside.old.main) (D.disk outside.new.main) × (source.new ≡ source.old) × (sink.new ≡ sink.old)
-        × (outside.new.stores ≡ outside.old.stores) }
+        IsNotBegun result × Rests (D.disk outside.old.main) (D.disk outside.new.main) × (source.new ≡ source.old)
+        × (found.pending ≡ None → sink.new ≡ sink.old) × (outside.new.stores ≡ outside.old.stores) }
 
     ensures worn_only { (found : Cat) (what : Wear) (place : ℕ) → result ≡ Status.Worn what place → IsTrue (D.disk outside.old.main).tells →
         Stands (D.disk outside.old.main).holds (D.disk outside.old.spare).holds (Ok found) →
@@ -209,8 +210,8 @@ fn serve<D: Disk, S: Source, K: Sink, A: Ambient, P: Plugin>(
         Stands (D.disk outside.old.main).holds (D.disk outside.old.spare).holds (Ok found) → ¬ IsPlain found }
     ensures worn { (found : Cat) → IsTrue (D.disk outside.old.main).tells → Stands (D.disk outside.old.main).holds (D.disk outside.old.spare).holds (Ok found) →
         found.stores ≡ vec_len outside.old.stores → ¬ HasRoom found (D.disk outside.old.main) →
-        IsNotBegun result × Rests (D.disk outside.old.main) (D.disk outside.new.main) × (source.new ≡ source.old) × (sink.new ≡ sink.old)
-        × (outside.new.stores ≡ outside.old.stores) }
+        IsNotBegun result × Rests (D.disk outside.old.main) (D.disk outside.new.main) × (source.new ≡ source.old)
+        × (found.pending ≡ None → sink.new ≡ sink.old) × (outside.new.stores ≡ outside.old.stores) }
     ensures worn_only { (found : Cat) (what : Wear) (place : ℕ) → result ≡ Status.Worn what place → IsTrue (D.disk outside.old.main).tells →
         Stands (D.disk outside.old.main).holds (D.disk outside.old.spare).holds (Ok found) →
         HasRunOut found (D.disk outside.new.main).holds (D.disk outside.new.spare).holds place what }
@@ -266,7 +267,7 @@ fn serve_over<D: Disk, S: Source, K: Sink, A: Ambient, P: Plugin>(
     requires stores { (0 < vec_len outside.old.stores) × (vec_len outside.old.stores ≤ 16) }
     ensures serve { let v : Views D S K A P = record { disk = D.disk; source = S.source; sink = K.sink; ambient = A.ambient; plugin = P.plugin } in
         let start : Around D S K A P = record { outside = outside.old; source = source.old; sink = sink.old } in
-        (main spare : D) (end : RunEnd) → let old = world_of v (before v (record { main = main; spare = spare; moments = outside.old.moments }) start) in
+        (main spare : D) (end : RunEnd) → let old = world_of v (before v (record { main = main; spare = spare; sink = sink.old; moments = outside.old.moments }) start) in
         BeginsPlainly old store.cat → AreInOrder old → Rests (D.disk main) (D.disk outside.old.main) → Rests (D.disk spare) (D.disk outside.old.spare) →
         run_end_of result ≡ Some end → Serves old (world_of v (record { outside = outside.new; source = source.new; sink = sink.new })) store.cat end }
     ensures not_plain { store.cat.stores ≡ vec_len outside.old.stores → ¬ IsPlain store.cat →
@@ -274,8 +275,8 @@ fn serve_over<D: Disk, S: Source, K: Sink, A: Ambient, P: Plugin>(
         × (outside.new.stores ≡ outside.old.stores) }
     ensures not_plain_only { result ≡ Status.NotPlain → ¬ IsPlain store.cat }
     ensures worn { store.cat.stores ≡ vec_len outside.old.stores → ¬ HasRoom store.cat (D.disk outside.old.main) →
-        IsNotBegun result × Rests (D.disk outside.old.main) (D.disk outside.new.main) × (source.new ≡ source.old) × (sink.new ≡ sink.old)
-        × (outside.new.stores ≡ outside.old.stores) }
+        IsNotBegun result × Rests (D.disk outside.old.main) (D.disk outside.new.main) × (source.new ≡ source.old)
+        × (store.cat.pending ≡ None → sink.new ≡ sink.old) × (outside.new.stores ≡ outside.old.stores) }
     ensures worn_only { (what : Wear) (place : ℕ) → result ≡ Status.Worn what place → IsTrue (D.disk outside.old.main).tells →
         HasRunOut store.cat (D.disk outside.new.main).holds (D.disk outside.new.spare).holds place what }
     ensures stores { store.cat.stores ≢ vec_len outside.old.stores →
@@ -297,15 +298,16 @@ fn serve_over<D: Disk, S: Source, K: Sink, A: Ambient, P: Plugin>(
     if kept != given {
         return refuse_stores(alloc, &mut outside.moments, sink, kept, given);
     }
-    if !is_plain(store.tables()) {
+    if !can_be_served(store.tables()) {
         return Status::NotPlain;
     }
-    match begin_run(
+    match open_run(
         alloc,
         store,
         &mut outside.main,
         &mut outside.spare,
         &mut outside.moments,
+        sink,
     ) {
         Ok(server) => serve_all(alloc, server, outside, source, sink),
         Err(BeginError::Runs { at }) => Status::Worn {
@@ -317,17 +319,23 @@ fn serve_over<D: Disk, S: Source, K: Sink, A: Ambient, P: Plugin>(
             at,
         },
         Err(BeginError::Disk) => Status::DiskFault,
+        Err(BeginError::Sink) => Status::SinkFault,
         Err(BeginError::Memory) => Status::Memory,
     }
 }
 
-// Whether the catalogue has neither rules nor a command that is not done.
-fn is_plain(tables: &Tables) -> bool
+// Whether the catalogue has neither rules nor a pending command with recoveries.
+fn can_be_served(tables: &Tables) -> bool
     ensures { IsTrue result ↔ IsPlain tables.now }
 {
     match tables.pending() {
-        Some(_) => false,
         None => tables.rules().as_slice().is_empty(),
+        Some(pending) => {
+            if !pending.undo.as_slice().is_empty() {
+                return false;
+            }
+            tables.rules().as_slice().is_empty()
+        }
     }
 }
 

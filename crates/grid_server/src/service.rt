@@ -2,6 +2,7 @@ ghost use Rattle.std.specs.Prelude.{◌≡◌, ◌+◌, ◌^◌, ◌≤◌, [], 
 ghost use Rattle.grid_outside.specs.Fault.{Rose};
 ghost use Rattle.grid_outside.specs.Source.{SourceState};
 ghost use Rattle.grid_model.specs.Limits.{object_size};
+ghost use Rattle.grid_model.specs.Writable.{is_word};
 ghost use Rattle.cmd_run.specs.Around.{around};
 ghost use Rattle.cmd_run.specs.Asking.{IsForm};
 ghost use Rattle.cmd_run.specs.Fits.{FitsMain};
@@ -86,6 +87,7 @@ impl Service {
     ) -> Option<Status>
         requires fits { FitsMain (D.disk outside.old.main) self.old.server }
         requires form { IsForm heard.asked }
+        requires line { IsTrue (is_word heard.line) }
         requires small { length heard.body ≤ object_size }
         requires slots { self.old.server.store.cat.stores ≡ vec_len outside.old.stores }
         requires few { self.old.number ≤ 2 ^ 48 }
@@ -105,12 +107,13 @@ impl Service {
         let Heard {
             asked,
             body,
+            line,
             ends: _,
         } = heard;
         self.number += 1;
         let answered = self
             .server
-            .command(alloc, outside, sink, self.number, asked, body);
+            .command(alloc, outside, sink, self.number, asked, body, line);
         after(last, answered)
     }
 }

@@ -36,7 +36,7 @@ pub(crate) fn serve_all<D: Disk, S: Source, K: Sink, A: Ambient, P: Plugin>(
     requires ready { AreReady D.disk P.plugin K.sink (2 ^ 121) (record { outside = outside.old; sink = sink.old }) }
     ensures serves { let v : Views D S K A P = record { disk = D.disk; source = S.source; sink = K.sink; ambient = A.ambient; plugin = P.plugin } in
         let start : Around D S K A P = record { outside = outside.old; source = source.old; sink = sink.old } in
-        (e : Earlier D) (found : Cat) (end : RunEnd) → IsBegun v (before v e start) start found → server.store.cat ≡ run_begun found →
+        (e : Earlier D K) (found : Cat) (end : RunEnd) → IsBegun v (before v e start) start found → server.store.cat ≡ run_begun found →
         run_end_of result ≡ Some end → Serves (world_of v (before v e start))
         (world_of v (record { outside = outside.new; source = source.new; sink = sink.new })) found end }
     ensures ends { EndsBegun result }

@@ -59,7 +59,7 @@ pub fn complaint(
             format!(in alloc; "{main}: made for {kept} stores, and there are {given}")?
         }
         Status::NotPlain => format!(in alloc;
-            "{main}: it has rules, or a command that is not done"
+            "{main}: it has rules, or a command that is not done and has recoveries"
         )?,
         Status::DiskFault => disk_failure(alloc, failures)?,
         Status::SourceFault => failure(alloc, "standard input", failures.source)?,
