@@ -14,6 +14,7 @@ mod metadata;
 mod playing;
 mod queries;
 mod records;
+mod reopenings;
 mod resources;
 mod runs;
 mod sinks;

@@ -160,34 +160,3 @@ fn what_is_not_read_may_be_anything(rt: HostRuntime) -> Result<(), Fail> {
     compare(&rt, alloc, played, served)?;
     Ok(())
 }
-
-// The second command of the first run, a mkdir of the first user, which is not done, and no such command.
-const PENDING: &[u8] =
-    b"\x14\0\0\0\0\0\0\0\x01\0\0\0\0\0\0\0\x02\0\0\0\x01\0\0\0\0\0\0\0\x0A0 mkdir /x\
-\0\0\0\0\0\0\0\0\0\0\0\0\0\0\0\0\0\0\0\0\0\0\0\0\0";
-
-const NO_PENDING: &[u8] = b"\x15";
-
-#[test]
-fn a_command_that_is_not_done_is_not_gone_on_with(rt: HostRuntime) -> Result<(), Fail> {
-    let alloc = rt.alloc();
-    let main = with_record(alloc, &begun(alloc)?, PENDING)?;
-    // Nothing is read of an input, which would fail. Another number of stores is told before.
-    let setting = Setting {
-        source_fails: 1,
-        ..PLAIN
-    };
-    refuses(&rt, alloc, SERVE, &main, setting, Status::NotPlain, b"")?;
-    let two = Setting {
-        has_two_stores: true,
-        ..setting
-    };
-    let status = Status::Stores { kept: 1, given: 2 };
-    refuses(&rt, alloc, SERVE, &main, two, status, b"err Stores 1 2\n")?;
-    // Once it is done the catalogue is served.
-    let main = with_record(alloc, &main, NO_PENDING)?;
-    let input = b"0 login rods\n0 mkdir /x\n";
-    let served = done(1, b"1 ok\n2 ok\n", 2, b"/x\n");
-    serves(&rt, alloc, &main, input, served)?;
-    Ok(())
-}

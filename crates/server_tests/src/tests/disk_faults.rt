@@ -30,6 +30,8 @@ const GOT: &[u8] = b"1 ok\n2 mark ran 0 1000\n2 ok\n3 data 1\nx\n3 mark ran 0 10
 
 const F: &[u8] = b"/f\n";
 
+const STOPPED: &[u8] = b"stopped 2 2\n2 mark stop\n2 err Stopped\n";
+
 // A run that a disk ends, with what was answered, and what is kept.
 fn fails<'a>(replies: &'a [u8], run: u64, last: u64, paths: &'a [u8]) -> Outcome<'a> {
     Outcome {
@@ -42,7 +44,7 @@ fn fails<'a>(replies: &'a [u8], run: u64, last: u64, paths: &'a [u8]) -> Outcome
 }
 
 // Serves over a main disk whose call of this number fails, compares how the run ends and what is kept, and serves once
-// more over what is left: what was acknowledged is there, and what was not may be.
+// more over what is left: what was acknowledged is there, and what was not may be, or is reported so.
 fn serves_again(
     rt: &impl Abort,
     alloc: Global,
@@ -50,6 +52,7 @@ fn serves_again(
     input: &[u8],
     call: u64,
     wanted: Outcome<'_>,
+    report: &[u8],
 ) -> Result<(), Fail> {
     let setting = Setting {
         main_fails: call,
@@ -57,7 +60,7 @@ fn serves_again(
     };
     let played = play(rt, alloc, SERVE, new, input, setting)?;
     let main = compare(rt, alloc, played, wanted)?;
-    goes_on(rt, alloc, &main, wanted.run, wanted.paths)
+    goes_on(rt, alloc, &main, wanted.run, wanted.paths, report)
 }
 
 #[test]
@@ -91,29 +94,31 @@ fn a_disk_may_fail_at_each_call(rt: HostRuntime) -> Result<(), Fail> {
             INPUT,
             call,
             fails(replies, run, last, paths),
+            b"",
         )?;
     }
-    serves_again(&rt, alloc, &new, INPUT, 16, done(1, ALL, 4, A_AND_B))
+    serves_again(&rt, alloc, &new, INPUT, 16, done(1, ALL, 4, A_AND_B), b"")
 }
 
 #[test]
 fn a_disk_may_fail_at_each_call_of_a_put_and_a_get(rt: HostRuntime) -> Result<(), Fail> {
     let alloc = rt.alloc();
     let new = begun_with_leaf(&rt, alloc)?;
-    // A put adds a record before its file is made and one behind that, and a get one behind its data.
-    for (call, replies, last, paths) in [
-        (8, FIRST, 0, b"".as_slice()),
-        (9, FIRST, 0, b""),
-        (10, FIRST, 0, b""),
-        (11, FIRST, 0, b""),
-        (12, FIRST, 0, b""),
-        (13, FIRST, 0, b""),
-        (14, FIRST, 0, b""),
-        (15, FIRST, 2, F),
-        (16, SENT, 2, F),
-        (17, SENT, 2, F),
-        (18, SENT, 2, F),
-        (19, SENT, 3, F),
+    // A put adds a record before its file is made and one behind that, and a get one behind its data. Between the two
+    // records the put is pending.
+    for (call, replies, last, paths, report) in [
+        (8, FIRST, 0, b"".as_slice(), b"".as_slice()),
+        (9, FIRST, 0, b"", b""),
+        (10, FIRST, 0, b"", b""),
+        (11, FIRST, 0, b"", STOPPED),
+        (12, FIRST, 0, b"", STOPPED),
+        (13, FIRST, 0, b"", STOPPED),
+        (14, FIRST, 0, b"", STOPPED),
+        (15, FIRST, 2, F, b""),
+        (16, SENT, 2, F, b""),
+        (17, SENT, 2, F, b""),
+        (18, SENT, 2, F, b""),
+        (19, SENT, 3, F, b""),
     ] {
         serves_again(
             &rt,
@@ -122,9 +127,10 @@ fn a_disk_may_fail_at_each_call_of_a_put_and_a_get(rt: HostRuntime) -> Result<()
             PUT_AND_GET,
             call,
             fails(replies, 2, last, paths),
+            report,
         )?;
     }
-    serves_again(&rt, alloc, &new, PUT_AND_GET, 20, done(2, GOT, 3, F))
+    serves_again(&rt, alloc, &new, PUT_AND_GET, 20, done(2, GOT, 3, F), b"")
 }
 
 #[test]

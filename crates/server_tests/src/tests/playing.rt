@@ -231,27 +231,32 @@ pub(crate) fn refuses(
     Ok(())
 }
 
-// Serves once more over this main: the next run has the next number, and one more collection stands behind these.
+// Serves once more over this main: what is pending is reported, the next run has the next number, and one more collection stands
+// behind these.
 pub(crate) fn goes_on(
     rt: &impl Abort,
     alloc: Global,
     main: &[u8],
     run: u64,
     paths: &[u8],
+    report: &[u8],
 ) -> Result<(), Fail> {
     let mut longer = paths.to_vec(alloc)?;
     longer.extend_from_slice(b"/q\n")?;
-    let served = done(run.saturating_add(1), b"1 ok\n2 ok\n", 2, &longer);
+    let mut replies = report.to_vec(alloc)?;
+    replies.extend_from_slice(b"1 ok\n2 ok\n")?;
+    let served = done(run.saturating_add(1), &replies, 2, &longer);
     serves(rt, alloc, main, b"0 login rods\n0 mkdir /q\n", served)?;
     Ok(())
 }
 
-// What a catalogue tells: the number of the run, that of its last command, the paths of its objects and of the
-// collections beyond the first four, and what its rows tell.
+// What a catalogue tells: the number of the run, that of its last command, whether one is pending, the paths of its objects
+// and of the collections beyond the first four, and what its rows tell.
 #[derive(Drop)]
 pub(crate) struct Kept {
     pub(crate) run: u64,
     pub(crate) last: u64,
+    pub(crate) is_pending: bool,
     pub(crate) paths: Vec<u8>,
     pub(crate) rows: Vec<u8>,
 }
@@ -271,6 +276,7 @@ fn told_by(alloc: Global, tables: &Tables) -> Result<Kept, AllocError> {
     Ok(Kept {
         run: numbers.run,
         last: numbers.last,
+        is_pending: tables.pending().is_some(),
         paths,
         rows,
     })

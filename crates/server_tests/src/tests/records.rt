@@ -29,15 +29,20 @@ const MADE_D: &[u8] = b"\x05\0\0\0\0\0\0\0\x08\0\0\0\0\0\0\0\x07\0\0\0\0\0\0\0\x
 \x0D\x02\0\0\0\0\0\0\0\x08\0\0\0\x07\x03\
 \x13\0\0\0\0\0\0\0\x01\0\0\0\0\0\0\0\x02\0\0\0\0\0\0\0\x03";
 
-// A body that is put and sent: the file is an orphan before it is made, and then an object's. The get keeps its number.
+// A body that is put and sent: before its file is made that is an orphan, and the put is pending, with its line and its call; then it
+// is pending no longer, and the file is an object's. The get keeps its number.
 const PUTS: &[u8] =
     b"0 login rods\n0 put /tempZone/home/rods/o d0 new 3\nabc0 get /tempZone/home/rods/o d0\n";
 
 const ORPHAN: &[u8] = b"\x13\0\0\0\0\0\0\0\x02\0\0\0\0\0\0\0\x02\0\0\0\0\0\0\0\0\
-\x11\0\0\0\0\0\0\0\x01\0";
+\x11\0\0\0\0\0\0\0\x01\0\
+\x14\0\0\0\0\0\0\0\x02\0\0\0\0\0\0\0\x02\0\0\0\x01\0\0\0\0\0\0\0\x240 put /tempZone/home/rods/o d0 new 3\
+\0\0\0\0\0\0\0\0\0\0\0\0\0\0\0\0\x01\0\0\0\0\0\0\0\x03put\0\0\0\0\0\0\0\x04\
+\0\0\0\0\0\0\0\x15/tempZone/home/rods/o\0\0\0\0\0\0\0\x02d0\0\0\0\0\0\0\0\x03new\0\0\0\0\0\0\0\x013\
+\0\0\0\0\0\0\0\0";
 
 const OBJECT: &[u8] =
-    b"\x07\0\0\0\0\0\0\0\x01\0\0\0\0\0\0\0\x03\0\0\0\0\0\0\0\x01o\0\0\0\0\0\0\0\x03\
+    b"\x15\x07\0\0\0\0\0\0\0\x01\0\0\0\0\0\0\0\x03\0\0\0\0\0\0\0\x01o\0\0\0\0\0\0\0\x03\
 \xBA\x78\x16\xBF\x8F\x01\xCF\xEA\x41\x41\x40\xDE\x5D\xAE\x22\x23\xB0\x03\x61\xA3\x96\x17\x7A\x9C\xB4\x10\xFF\x61\xF2\x00\x15\xAD\
 \0\0\0\0\0\0\x03\xE8\
 \x0D\x01\0\0\0\0\0\0\0\x01\0\0\0\x01\x03\
@@ -49,14 +54,21 @@ const OBJECT: &[u8] =
 
 const KEPT_GET: &[u8] = b"\x13\0\0\0\0\0\0\0\x02\0\0\0\0\0\0\0\x02\0\0\0\0\0\0\0\x03";
 
-// The put alone keeps its number where its store failed, and the file stays an orphan.
-const KEPT_FAULT: &[u8] = b"\x13\0\0\0\0\0\0\0\x02\0\0\0\0\0\0\0\x02\0\0\0\0\0\0\0\x02";
+// The put alone keeps its number where its store failed and is pending no longer, and the file stays an orphan.
+const KEPT_FAULT: &[u8] = b"\x15\x13\0\0\0\0\0\0\0\x02\0\0\0\0\0\0\0\x02\0\0\0\0\0\0\0\x02";
 
 // A body that is put where access is handed on.
 const PUTS_IN_L: &[u8] = b"0 login alice\n0 put /l/f d0 new 3\nabc";
 
+const ORPHAN_IN_L: &[u8] = b"\x13\0\0\0\0\0\0\0\x02\0\0\0\0\0\0\0\x02\0\0\0\0\0\0\0\0\
+\x11\0\0\0\0\0\0\0\x01\0\
+\x14\0\0\0\0\0\0\0\x02\0\0\0\0\0\0\0\x02\0\0\0\x07\0\0\0\0\0\0\0\x130 put /l/f d0 new 3\
+\0\0\0\0\0\0\0\0\0\0\0\0\0\0\0\0\x01\0\0\0\0\0\0\0\x03put\0\0\0\0\0\0\0\x04\
+\0\0\0\0\0\0\0\x04/l/f\0\0\0\0\0\0\0\x02d0\0\0\0\0\0\0\0\x03new\0\0\0\0\0\0\0\x013\
+\0\0\0\0\0\0\0\0";
+
 const OBJECT_IN_L: &[u8] =
-    b"\x07\0\0\0\0\0\0\0\x01\0\0\0\0\0\0\0\x06\0\0\0\0\0\0\0\x01f\0\0\0\0\0\0\0\x03\
+    b"\x15\x07\0\0\0\0\0\0\0\x01\0\0\0\0\0\0\0\x06\0\0\0\0\0\0\0\x01f\0\0\0\0\0\0\0\x03\
 \xBA\x78\x16\xBF\x8F\x01\xCF\xEA\x41\x41\x40\xDE\x5D\xAE\x22\x23\xB0\x03\x61\xA3\x96\x17\x7A\x9C\xB4\x10\xFF\x61\xF2\x00\x15\xAD\
 \0\0\0\0\0\0\x03\xE8\
 \x0D\x01\0\0\0\0\0\0\0\x01\0\0\0\x02\x01\
@@ -95,7 +107,7 @@ fn a_run_adds_a_record_for_each_change(rt: HostRuntime) -> Result<(), Fail> {
     let made: &[&[u8]] = &[MADE_C, MADE_D];
     let put: &[&[u8]] = &[ORPHAN, OBJECT, KEPT_GET];
     let failed: &[&[u8]] = &[ORPHAN, KEPT_FAULT];
-    let in_l: &[&[u8]] = &[ORPHAN, OBJECT_IN_L];
+    let in_l: &[&[u8]] = &[ORPHAN_IN_L, OBJECT_IN_L];
     for (input, call, records) in [
         (REFUSED, 0, none),
         (MAKES, 0, made),

@@ -20,12 +20,13 @@ const F_AND_A: &[u8] = b"/tempZone/home/rods/a/f\n/tempZone/home/rods/a\n";
 
 const ALL: &[u8] = b"/tempZone/home/rods/a/f\n/tempZone/home/rods/a\n/tempZone/home/rods/a/b\n";
 
-// A run, its last command, and the paths of its objects and collections.
+// A run, its last command, the paths of its objects and collections, and what the next run reports of a pending command.
 #[derive(Clone, Copy)]
 struct Stand {
     run: u64,
     last: u64,
     paths: &'static [u8],
+    report: &'static [u8],
 }
 
 // A call of main within the session: its moment, and what may stand there when a stop comes in it.
@@ -40,25 +41,36 @@ const NEW: Stand = Stand {
     run: 1,
     last: 2,
     paths: b"",
+    report: b"",
 };
 
 const BEGUN: Stand = Stand {
     run: 2,
     last: 0,
     paths: b"",
+    report: b"",
 };
 
 const WITH_A: Stand = Stand {
     run: 2,
     last: 2,
     paths: A,
+    report: b"",
 };
 
-// The orphan of a put changes none of these.
+// While the file of the put is made, the put is pending.
+const PUTTING: Stand = Stand {
+    run: 2,
+    last: 2,
+    paths: A,
+    report: b"stopped 2 4\n4 mark stop\n4 err Stopped\n",
+};
+
 const WITH_F: Stand = Stand {
     run: 2,
     last: 4,
     paths: F_AND_A,
+    report: b"",
 };
 
 // The get keeps its number alone.
@@ -66,12 +78,14 @@ const WITH_GET: Stand = Stand {
     run: 2,
     last: 5,
     paths: F_AND_A,
+    report: b"",
 };
 
 const WITH_B: Stand = Stand {
     run: 2,
     last: 6,
     paths: ALL,
+    report: b"",
 };
 
 // Each record is written and synced, and then its gate. The moments between are those of replies and of the store.
@@ -129,26 +143,26 @@ const STEPS: [Step; 24] = [
     Step {
         moment: 14,
         before: WITH_A,
-        after: WITH_A,
+        after: PUTTING,
     },
     Step {
         moment: 15,
-        before: WITH_A,
-        after: WITH_A,
+        before: PUTTING,
+        after: PUTTING,
     },
     Step {
         moment: 19,
-        before: WITH_A,
-        after: WITH_A,
+        before: PUTTING,
+        after: PUTTING,
     },
     Step {
         moment: 20,
-        before: WITH_A,
-        after: WITH_A,
+        before: PUTTING,
+        after: PUTTING,
     },
     Step {
         moment: 21,
-        before: WITH_A,
+        before: PUTTING,
         after: WITH_F,
     },
     Step {
@@ -216,11 +230,10 @@ fn with_bytes(alloc: Global, held: &[u8], at: usize, bytes: &[u8]) -> Result<Vec
 // The image stands for one of the two catalogues, and is served.
 fn is_one_of(rt: &impl Abort, alloc: Global, image: &[u8], step: Step) -> Result<(), Fail> {
     let kept = kept_on(alloc, image)?;
-    let stand = if kept.run == step.after.run && kept.last == step.after.last {
-        step.after
-    } else {
-        step.before
-    };
+    let is_after = kept.run == step.after.run
+        && kept.last == step.after.last
+        && kept.is_pending != step.after.report.is_empty();
+    let stand = if is_after { step.after } else { step.before };
     assert_eq!(rt; kept.run, stand.run, "moment {}", step.moment);
     assert_eq!(rt; kept.last, stand.last, "moment {}", step.moment);
     assert_eq!(rt;
@@ -229,7 +242,7 @@ fn is_one_of(rt: &impl Abort, alloc: Global, image: &[u8], step: Step) -> Result
         "moment {}",
         step.moment
     );
-    goes_on(rt, alloc, image, stand.run, stand.paths)
+    goes_on(rt, alloc, image, stand.run, stand.paths, stand.report)
 }
 
 // What a stop within a write may leave, where so many bytes were done: the first ones, or the last ones behind zeros.
