@@ -14,7 +14,7 @@ use Rattle.grid_headline.specs.Worlds.{World, IsInOrder, DevicesImage, LeavesIma
 use Rattle.grid_headline.specs.Reads.{HasRules}
 use Rattle.grid_headline.specs.Served.{NoneSweeps, Run}
 use Rattle.grid_headline.specs.Stops.{OneImage}
-use Rattle.grid_headline.specs.Files.{IsKnown, AreSettled, DisksAreSettled, KeepsNamed, WereWhole, AllStayWhole, AllAreWhole, StayNamed}
+use Rattle.grid_headline.specs.Files.{IsKnown, AreSettled, DisksAreSettled, KeepsReplicas, WereWhole, AllStayWhole, AllAreWhole, ReplicasStayNamed}
 use Rattle.grid_headline.specs.Silence.{IsBetween, IsOfDisks, NoneIsSilent, AddsBeforeRun}
 use Rattle.grid_headline.specs.Draws.{DrawsMarks, AreSomeOf, no_words, none_left}
 use Rattle.grid_headline.specs.Draws as draws
@@ -92,11 +92,11 @@ module _ {B : Type 0} (old : World B) (c : Cat) (rules : List Rule) where
     stay_whole settled whole t main spare d later left s =
         subst (AllAreWhole old t) (sym (the_catalogue main spare found d (stays t main spare settled later left) s)) (whole t later)
 
-    stay_named : NoneSweeps old.source.left → IsSettled old.main → StayNamed old old.moments found
+    stay_named : NoneSweeps old.source.left → IsSettled old.main → ReplicasStayNamed old old.moments found
     stay_named none settled t main d later left s =
         let e : main ≡ old.main.holds = settled t main (omega (arith, order.main_last, later)) left in
         let stood = subst (λ m. Stands m old.spare.holds (Ok found)) (sym e) begin.stands in
-        subst (KeepsNamed found) (sym (the_catalogue main old.spare.holds found d stood (s old.spare.holds))) (λ slot name is. is)
+        subst (KeepsReplicas found) (sym (the_catalogue main old.spare.holds found d stood (s old.spare.holds))) (λ slot name row names is. is)
 
     shows : Shows old old (nothing has)
     shows = record {
@@ -128,6 +128,7 @@ module _ {B : Type 0} (old : World B) (c : Cat) (rules : List Rule) where
       images = λ tells settled t i later left. one_image settled t i later left;
       whole = stay_whole;
       named = stay_named;
+      orphans = λ e. absurd (cc e);
       caused = record { counted = λ slot less. omega arith; there = λ slot less. absurd (omega (arith, less)) };
       completes = λ tells failed all settled whole fits. record { good_end = tt; clean = tt; by_rows = tt };
     }
@@ -137,5 +138,4 @@ module _ {B : Type 0} (old : World B) (c : Cat) (rules : List Rule) where
     idle_tidily = record {
       silent = λ tells settled. none_silent settled;
       numbers = λ tells settled n i j d e m x session order b k is did means makes was. absurd (never settled n i d b);
-      orphans = λ e. absurd (cc e);
     }

@@ -20,13 +20,9 @@ use Rattle.grid_outside.specs.Files.{Files}
 use Rattle.grid_journal.specs.Stands.{Stands}
 use Rattle.grid_headline.specs.Reads.{MeansRequest, HasRules}
 use Rattle.grid_headline.specs.Served.{Run, state_at, acknowledged, reached}
+use Rattle.grid_headline.specs.Openings.{IsAsBefore, IsCommand, IsGridOf, IsPrefix, OpensAgain}
 use Rattle.grid_headline.specs.Stops.{OneImage, IsBeforeRun, IsInRun, IsSame, IsAtState}
 use Rattle.grid_headline.proofs.Interrupted.{same_as_reopened}
-
--- what opening again gives is as it was, with some marks behind those that were kept
-pub record IsAsBefore (found c : Cat) : Type 0 where
-  pub d : List Mark
-  pub same : (w : List Mark) → reopened c w ≡ reopened found (d ++ w)
 
 -- so it is after any number of stops in reopening
 pub as_before_again : (a b c : Cat) → IsAsBefore a b → IsAsBefore b c → IsAsBefore a c
@@ -36,28 +32,6 @@ as_before_again a b c x y = record {
 }
 
 module _ {known : ℕ → Type 0} {found : Cat} {input : Text} (run : Run known found input) where
-  -- the request behind the first n ones, with the kept marks, a `Stop` and any more marks
-  pub record IsCommand (c : Cat) (n : ℕ) : Type 0 where
-    pub next : Marked
-    pub is_next : slice_get run.begun n ≡ Some next
-    pub session : ℕ
-    pub order : Order
-    pub asks : MeansRequest (state_at run n) next.asked (Ok (session, order))
-    pub kept : List Mark
-    pub rest : List Mark
-    pub are_kept : next.marks ≡ kept ++ rest
-    pub same : (w : List Mark) → reopened c w ≡ mapped as_unwound (command (state_at run n) session order (kept ++ Stop ∷ w))
-
-  -- nothing was interrupted behind the first n requests
-  abbrev pub IsGridOf : Cat → ℕ → Type 0
-  IsGridOf c n = (w : List Mark) → reopened c w ≡ gives (record { grid = (state_at run n).grid; passed = []; left = w })
-
-  -- all that is acknowledged by so many bytes, and at most one command more
-  pub record IsPrefix (c : Cat) (count : ℕ) : Type 0 where
-    pub n : ℕ
-    pub holds : acknowledged run count ≤ n
-    pub leaves : IsGridOf c n ⊎ IsCommand c n
-
   as_found : (c : Cat) (was now : Option Pending) → found.pending ≡ was → c.pending ≡ now → IsSame run c was now → IsAsBefore found c
   as_found c None None e k grid = record {
     d = [];
@@ -69,15 +43,19 @@ module _ {known : ℕ → Type 0} {found : Cat} {input : Text} (run : Run known 
   as_found c None (Some now) e k never = absurd never
   as_found c (Some was) None e k never = absurd never
 
-  in_run : (c : Cat) (count : ℕ) (now : Option Pending) → c.pending ≡ now → IsAtState run c (reached run c count) now → IsPrefix c count
-  in_run c count None k grid = record {
+  in_run : (c : Cat) (count : ℕ) (now : Option Pending) → c.pending ≡ now → IsInRun run c count → IsAtState run c (reached run c count) now → IsPrefix run c count
+  in_run c count None k r grid = record {
     n = reached run c count;
+    within = r.within;
     holds = omega arith;
+    near = omega (arith, r.near);
     leaves = inl (λ w. ap (λ (q : Option Pending). reopened_by c q w) k ∙ ap (λ g. gives (record { grid = g; passed = []; left = w })) grid);
   }
-  in_run c count (Some p) k i = record {
+  in_run c count (Some p) k r i = record {
     n = reached run c count;
+    within = r.within;
     holds = omega arith;
+    near = omega (arith, r.near);
     leaves = inr (record {
       next = i.next;
       is_next = i.is_next;
@@ -91,13 +69,16 @@ module _ {known : ℕ → Type 0} {found : Cat} {input : Text} (run : Run known 
     });
   }
 
-  pub headline : (old_sink : Text) (i : DevicesImage) (one : OneImage run old_sink i) → IsAsBefore found one.cat ⊎ IsPrefix one.cat (length one.part)
+  pub headline : (old_sink : Text) (i : DevicesImage) (one : OneImage run old_sink i) → IsAsBefore found one.cat ⊎ IsPrefix run one.cat (length one.part)
   headline old_sink i one = by one.on_the_way
     where
       by : IsBeforeRun run one.cat (length one.part) ⊎ IsInRun run one.cat (length one.part)
-          → IsAsBefore found one.cat ⊎ IsPrefix one.cat (length one.part)
+          → IsAsBefore found one.cat ⊎ IsPrefix run one.cat (length one.part)
       by (inl b) = inl (as_found one.cat found.pending one.cat.pending refl refl b.same)
-      by (inr r) = inr (in_run one.cat (length one.part) one.cat.pending refl r.at)
+      by (inr r) = inr (in_run one.cat (length one.part) one.cat.pending refl r r.at)
+
+  pub opens_again : (old_sink : Text) (i : DevicesImage) → OneImage run old_sink i → OpensAgain run old_sink i
+  opens_again old_sink i one = record { cat = one.cat; stands = one.stands; part = one.part; sink = one.sink; opens = headline old_sink i one }
 
   -- and the next run has rules to begin with
   pub rules_of : (old_sink : Text) (i : DevicesImage) (one : OneImage run old_sink i) → (rules : List Rule) × HasRules one.cat rules

@@ -1,5 +1,5 @@
 -- What the clauses refuse of files, rows, marks and words.
-use Rattle.std.proofs.Common.{arith, ◌≡◌, ℕ, ◌+◌, ◌≤◌, true, List, [], ◌∷◌, Option, Some, None, length, refl, sym, ◌∙◌, ap, subst}
+use Rattle.std.proofs.Common.{arith, ◌≡◌, ℕ, zero, ◌+◌, ◌≤◌, true, List, [], ◌∷◌, Option, Some, None, length, refl, sym, ◌∙◌, ap, subst}
 use Rattle.std.specs.Prelude.{◌<◌, ◌-◌, ◌^◌, Ok, codes}
 use Rattle.std.specs.Fmt.{digits}
 use Rattle.std.specs.List.{Contains}
@@ -9,7 +9,7 @@ use Rattle.grid_model.specs.Names.{Text, Path}
 use Rattle.grid_model.specs.Inputs.{Asked}
 use Rattle.grid_model.specs.Maps.{put as put_at}
 use Rattle.grid_model.specs.Rows.{Cat}
-use Rattle.grid_model.specs.Whole.{Naming, by_replica, by_orphan, Names, IsWhole, IsFinishedAs}
+use Rattle.grid_model.specs.Whole.{Naming, by_replica, by_orphan, Names, IsNamed, IsWhole, IsFinishedAs}
 use Rattle.grid_model.specs.Sessions.{State}
 use Rattle.grid_model.specs.Orders.{Order, opens, closes, works}
 use Rattle.grid_model.specs.Operations.Table.{put}
@@ -28,9 +28,11 @@ use Rattle.grid_headline.specs.Worlds.{World, DevicesImage, faults_of}
 use Rattle.grid_headline.specs.Reads.{texts, MeansRequest}
 use Rattle.grid_headline.specs.Silence.{IsSilent, IsLoud, IsBetween, NoneIsSilent}
 use Rattle.grid_headline.specs.Causes.{AreCaused}
+use Rattle.grid_headline.specs.Ends.{HasFewOrphans}
+use Rattle.grid_headline.specs.Files.{KeepsReplicas}
 use Rattle.grid_headline.specs.Draws.{no_words, add_words}
 use Rattle.grid_headline.proofs.Scene.{rods, f, abc, put_line, asks_put, put_words, logged}
-use Rattle.grid_headline.proofs.PutStops.{run, before, behind}
+use Rattle.grid_headline.proofs.PutStops.{run, before, behind, new_replica, the_only}
 
 -- ---- files
 
@@ -94,6 +96,28 @@ rows_in_silence known old new i j none b k =
     let e : before known ≡ silent known = none.one_catalogue 1 i j (before known) (silent known) (omega arith) (puts_loud known old new) b k in
     let n : 0 ≡ 1 = ap (λ (c : Cat). length c.orphans) e in
     absurd (omega (arith, n))
+
+-- an orphan is left, and no count rose
+orphan_left : (known : ℕ → Type 0) {B : Type 0} (w : World B) → faults_of w 0 < 2 ^ 64 - 1 → ¬ HasFewOrphans w w (silent known)
+orphan_left known w small few = let n : faults_of w 0 + 1 ≤ faults_of w 0 = few 0 small in absurd (omega (arith, n))
+
+-- the row of a replica is gone, and its file is no orphan
+abbrev lost : (known : ℕ → Type 0) → Cat
+lost known = record (behind known) { replicas = [] }
+
+put_is_named : (known : ℕ → Type 0) → IsNamed (behind known) 0 1
+put_is_named known = record { row = by_replica (new_replica known); names = ((zero, omega arith, refl), refl, refl); only = only }
+  where
+    only : (other : Naming) → Names (behind known) 0 1 other → other ≡ by_replica (new_replica known)
+    only (by_replica r) h = ap by_replica (sym (the_only (new_replica known) r h.0))
+    only (by_orphan o) h = absurd (nothing_in_none o h.0)
+
+replica_lost : (known : ℕ → Type 0) → ¬ KeepsReplicas (behind known) (lost known)
+replica_lost known keeps = let one = keeps 0 1 (new_replica known) ((zero, omega arith, refl), refl, refl) (put_is_named known) in by one.row one.names
+  where
+    by : (row : Naming) → ¬ Names (lost known) 0 1 row
+    by (by_replica r) h = nothing_in_none r h.0
+    by (by_orphan o) h = nothing_in_none o h.0
 
 -- ---- marks and words
 

@@ -9,7 +9,7 @@ use Rattle.grid_journal.specs.Stands.{Stands}
 use Rattle.grid_headline.specs.Worlds.{World, DevicesImage, LeavesImage}
 use Rattle.grid_headline.specs.Served.{Run, NoneSweeps, report_of, run_text, acknowledged, marks_of}
 use Rattle.grid_headline.specs.Stops.{OneImage}
-use Rattle.grid_headline.specs.Files.{IsKnown, IsOfUnknown, DisksAreSettled, AreSettled, WereWhole, AllStayWhole, StayNamed}
+use Rattle.grid_headline.specs.Files.{IsKnown, IsOfUnknown, DisksAreSettled, AreSettled, WereWhole, AllStayWhole, ReplicasStayNamed}
 use Rattle.grid_headline.specs.Silence.{NoneIsSilent}
 use Rattle.grid_headline.specs.Causes.{AreCaused, NoneFailed, AllTell}
 use Rattle.grid_headline.specs.Draws.{DrawsMarks, shown_marks}
@@ -58,8 +58,11 @@ pub record Serves {B : Type 0} (old new : World B) (found : Cat) (end : RunEnd) 
   pub images : IsTrue old.sink.tells → AreSettled old → (t : ℕ) (i : DevicesImage) → old.moments < t → LeavesImage new t i → OneImage run old.sink.holds i
   -- the files of stores that tell stay whole
   pub whole : DisksAreSettled old → WereWhole old old.moments found → AllStayWhole new old.moments
-  -- no file is lost track of, on stores that tell nothing too, where none is asked to be removed: only a sweep does so
-  pub named : NoneSweeps old.source.left → IsSettled old.main → StayNamed new old.moments found
+  -- no file of a replica is lost track of, on stores that tell nothing too, where no sweep is asked for; what has no replica is removed when
+  -- the run is begun
+  pub named : NoneSweeps old.source.left → IsSettled old.main → ReplicasStayNamed new old.moments found
+  -- few files without a replica are left
+  pub orphans : end ≡ read_all → LeavesFewOrphans run old new
   -- no mark tells that a known file is not what is recorded
   pub unharmed : AllByRecursion (IsOfUnknown (IsKnown old found) (length old.stores)) (marks_of run.begun)
   -- each fault that is told was counted
@@ -67,8 +70,7 @@ pub record Serves {B : Type 0} (old new : World B) (found : Cat) (end : RunEnd) 
   pub completes : (tells : IsTrue old.sink.tells) → NoneFailed old new → AllTell old → DisksAreSettled old → WereWhole old old.moments found
       → length old.source.left ≤ 2 ^ 48 → Completes old new run (shown tells) end
 
--- What more is to be said of it: no row is committed in silence, no number is given past the last one, and few orphans are left.
+-- What more is to be said of it: no row is committed in silence, and no number is given past the last one.
 pub record ServesTidily {B : Type 0} (old new : World B) (found : Cat) (end : RunEnd) (serves : Serves old new found end) : Type 0 where
   pub silent : IsTrue old.sink.tells → AreSettled old → NoneIsSilent serves.run old new
   pub numbers : IsTrue old.sink.tells → AreSettled old → HadNumbers serves.run old new
-  pub orphans : end ≡ read_all → LeavesFewOrphans serves.run old new
