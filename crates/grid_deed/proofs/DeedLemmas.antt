@@ -1,5 +1,5 @@
 -- What the carrying out of a plan leaves of main.
-use Rattle.std.proofs.Common.{◌≡◌, inl, inr, ℕ, ◌==◌, true, List, [], ◌∷◌, length, Option, Some, None, Result, Ok, Err, IsTrue, refl, sym, ap, ◌∙◌, subst, arith}
+use Rattle.std.proofs.Common.{◌≡◌, ◌≢◌, inl, inr, ℕ, ◌==◌, true, false, List, [], ◌∷◌, length, Option, Some, None, Result, Ok, Err, IsTrue, refl, sym, ap, ◌∙◌, subst, arith}
 use Rattle.std.specs.Prelude.{⊤}
 use Rattle.std.proofs.lemmas.Bool.{cases_lt}
 use Rattle.grid_outside.specs.Device.{IsSettled, Leaves}
@@ -24,6 +24,9 @@ use Rattle.grid_deed.specs.Deeds.{StandsOne, IsDone}
 pub none_there : {X : Type 0} (rows : List X) → (length rows == 0) ≡ true → rows ≡ []
 none_there [] is = refl
 none_there (x ∷ rows) is = absurd (grind arith)
+
+pub some_there : {X : Type 0} (rows : List X) → (length rows == 0) ≡ false → rows ≢ []
+some_there rows is none = let empty : (length rows == 0) ≡ true = ap (λ x. length x == 0) none in absurd cc
 
 -- where the last changes are none, the catalogue stays
 pub none_more : (mid end : Cat) (after : List Delta) → after ≡ [] → apply_all mid after ≡ Ok end → end ≡ mid

@@ -164,8 +164,8 @@ module _ {D B : Type 0} (disk : D → DiskState) (plugin : B → StoreState) (c 
     answer_of (Err e) = Err e
 
     module _ (main_new : D) (new : Journal) (goes : Goes to (disk main_old) (disk main_new)) (stores_end : List B) (same : stores_end ≡ stores_mid) where
-      pub swept_then : (result : Result ⊤ JournalError) → IsCommitted c taken.0 to s (disk main_old) (disk main_new) result new → AreDiscarded disk plugin c files from main_old main_new stores_old stores_end s (answer_of result) new
-      swept_then result again = by result again
+      pub swept_then : gone ≢ [] → (result : Result ⊤ JournalError) → IsCommitted c taken.0 to s (disk main_old) (disk main_new) result new → AreDiscarded disk plugin c files from main_old main_new stores_old stores_end s (answer_of result) new
+      swept_then some result again = by result again
         where
           leaves : (r : Result ⊤ JournalError) → IsCommitted c taken.0 to s (disk main_old) (disk main_new) r new → IsTrue (disk main_old).tells → IsSettled (disk main_old) → Leaves from (StandsEither c taken.0) (disk main_new)
           leaves r a told settled t image late left_then = elim (cases_lt to t) [
@@ -180,7 +180,7 @@ module _ {D B : Type 0} (disk : D → DiskState) (plugin : B → StoreState) (c 
             after = taken.0;
             split = split;
             applied = taken.1;
-            ends = (refl, (let P : List B → Type 0 = λ x. FewerThanFaults plugin left stores_old x in subst P (sym same) fewer), inr a.ends);
+            ends = (refl, (let P : List B → Type 0 = λ x. FewerThanFaults plugin left stores_old x in subst P (sym same) fewer), inr (some, a.ends));
             leaves = leaves (Ok done) a;
           }
           by (Err e) a = record { gone = gone; left = left; after = taken.0; split = split; applied = taken.1; ends = a.ends; leaves = leaves (Err e) a }

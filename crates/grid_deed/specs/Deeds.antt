@@ -122,7 +122,8 @@ abbrev pub DiscardAllEnds : {D B : Type 0} → (D → DiskState) → (B → Stor
     → D → D → Journal → Result (List NewFile) JournalError → Journal → Type 0
 DiscardAllEnds disk plugin stores_old stores_new kept after gone left main_old main_new old (Ok answered) new =
     (answered ≡ left) × FewerThanFaults plugin left stores_old stores_new
-    × (((gone ≡ []) × (new ≡ old) × IsHeld kept (disk main_new) new × (main_new ≡ main_old)) ⊎ IsKept after (disk main_old) (disk main_new) new)
+    × (((gone ≡ []) × (new ≡ old) × IsHeld kept (disk main_new) new × (main_new ≡ main_old))
+    ⊎ ((gone ≢ []) × IsKept after (disk main_old) (disk main_new) new))
 DiscardAllEnds disk plugin stores_old stores_new kept after gone left main_old main_new old (Err e) new =
     CommitEnds kept after old (disk main_old) (disk main_new) (Err e) new
 

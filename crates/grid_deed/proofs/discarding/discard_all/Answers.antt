@@ -7,7 +7,7 @@ use Rattle.grid_vault.specs.Removal.{RemovesAmong}
 use Rattle.file_laws.specs.Removals.{no_orphans}
 use Rattle.grid_deed.proofs.Frames.{frame_then, frame_spanned, frame_as}
 use Rattle.grid_deed.proofs.Keeping.{err_as}
-use Rattle.grid_deed.proofs.DeedLemmas.{none_there}
+use Rattle.grid_deed.proofs.DeedLemmas.{none_there, some_there}
 use Rattle.grid_deed.proofs.ManyDiscards.{keep_removes, swept_memory, swept_none, taken, swept_then, keep_taken_all}
 use Rattle.grid_deed.proofs.discarding.discard_all.Goals as goal
 
@@ -52,7 +52,8 @@ commit-requires-clause-apply g c =
 pub returns-in-Ok-commit-clause-done : goal.returns-in-Ok-commit-clause-done
 returns-in-Ok-commit-clause-done g c =
     let now = (taken g.D.Disk.disk g.P.Plugin.plugin c.args.store.now.cat c.args.files.now c.args.outside.now.moments c.remove_all.new.moments c.args.outside.now.main c.args.store.now c.requires.held c.requires.ready.main_last c.args.outside.now.stores.items c.remove_all.new.stores.items c.requires.orphans c.requires.names c.in-Ok.ensures.drawn_from c.in-Ok.ensures.any_moment c.in-Ok.removed.gone c.in-Ok.removed.left c.in-Ok.ensures.split c.in-Ok.ensures.left) in
-    swept_then g.D.Disk.disk g.P.Plugin.plugin c.args.store.now.cat c.args.files.now c.args.outside.now.moments c.remove_all.new.moments c.args.outside.now.main c.args.store.now c.requires.held c.requires.ready.main_last c.args.outside.now.stores.items c.remove_all.new.stores.items c.requires.orphans c.requires.names c.in-Ok.ensures.drawn_from c.in-Ok.ensures.any_moment c.in-Ok.removed.gone c.in-Ok.removed.left c.in-Ok.ensures.split c.in-Ok.ensures.left c.commit.new.outside.main c.commit.new.store c.in-Ok-commit.ensures.frame.main c.commit.new.outside.stores.items (ap (λ v. v.items) c.in-Ok-commit.ensures.stores) (Ok tt)
+    swept_then g.D.Disk.disk g.P.Plugin.plugin c.args.store.now.cat c.args.files.now c.args.outside.now.moments c.remove_all.new.moments c.args.outside.now.main c.args.store.now c.requires.held c.requires.ready.main_last c.args.outside.now.stores.items c.remove_all.new.stores.items c.requires.orphans c.requires.names c.in-Ok.ensures.drawn_from c.in-Ok.ensures.any_moment c.in-Ok.removed.gone c.in-Ok.removed.left c.in-Ok.ensures.split c.in-Ok.ensures.left c.commit.new.outside.main c.commit.new.store c.in-Ok-commit.ensures.frame.main c.commit.new.outside.stores.items (ap (λ v. v.items) c.in-Ok-commit.ensures.stores)
+    (some_there c.in-Ok.removed.gone (ap (λ rows. length rows == 0) (sym c.as_slice.ensures) ∙ sym c.is_empty.ensures ∙ c.if-is_empty.false)) (Ok tt)
     (c.in-Ok-commit.ensures.committed c.args.store.now.cat now.0 c.requires.held (ap (apply_all c.args.store.now.cat) (c.in-Ok-rows_taken.ensures.changes ∙ ap no_orphans c.as_slice-2.ensures) ∙ now.1))
 
 pub returns-in-Ok-commit-clause-whole : goal.returns-in-Ok-commit-clause-whole
@@ -72,7 +73,8 @@ returns-in-Ok-commit-clause-frame g c =
 pub returns-clause-done : goal.returns-clause-done
 returns-clause-done g c =
     let now = (taken g.D.Disk.disk g.P.Plugin.plugin c.args.store.now.cat c.args.files.now c.args.outside.now.moments c.remove_all.new.moments c.args.outside.now.main c.args.store.now c.requires.held c.requires.ready.main_last c.args.outside.now.stores.items c.remove_all.new.stores.items c.requires.orphans c.requires.names c.in-Ok.ensures.drawn_from c.in-Ok.ensures.any_moment c.in-Ok.removed.gone c.in-Ok.removed.left c.in-Ok.ensures.split c.in-Ok.ensures.left) in
-    swept_then g.D.Disk.disk g.P.Plugin.plugin c.args.store.now.cat c.args.files.now c.args.outside.now.moments c.remove_all.new.moments c.args.outside.now.main c.args.store.now c.requires.held c.requires.ready.main_last c.args.outside.now.stores.items c.remove_all.new.stores.items c.requires.orphans c.requires.names c.in-Ok.ensures.drawn_from c.in-Ok.ensures.any_moment c.in-Ok.removed.gone c.in-Ok.removed.left c.in-Ok.ensures.split c.in-Ok.ensures.left c.commit.new.outside.main c.commit.new.store c.in-Err-commit.ensures.frame.main c.commit.new.outside.stores.items (ap (λ v. v.items) c.in-Err-commit.ensures.stores) (Err c.in-Err-commit.error)
+    swept_then g.D.Disk.disk g.P.Plugin.plugin c.args.store.now.cat c.args.files.now c.args.outside.now.moments c.remove_all.new.moments c.args.outside.now.main c.args.store.now c.requires.held c.requires.ready.main_last c.args.outside.now.stores.items c.remove_all.new.stores.items c.requires.orphans c.requires.names c.in-Ok.ensures.drawn_from c.in-Ok.ensures.any_moment c.in-Ok.removed.gone c.in-Ok.removed.left c.in-Ok.ensures.split c.in-Ok.ensures.left c.commit.new.outside.main c.commit.new.store c.in-Err-commit.ensures.frame.main c.commit.new.outside.stores.items (ap (λ v. v.items) c.in-Err-commit.ensures.stores)
+    (some_there c.in-Ok.removed.gone (ap (λ rows. length rows == 0) (sym c.as_slice.ensures) ∙ sym c.is_empty.ensures ∙ c.if-is_empty.false)) (Err c.in-Err-commit.error)
     (c.in-Err-commit.ensures.committed c.args.store.now.cat now.0 c.requires.held (ap (apply_all c.args.store.now.cat) (c.in-Ok-rows_taken.ensures.changes ∙ ap no_orphans c.as_slice-2.ensures) ∙ now.1))
 
 pub returns-clause-whole : goal.returns-clause-whole
