@@ -6,8 +6,10 @@ pub mod Causes
 pub mod BuiltOrders
 pub mod Draws
 pub mod Images
+pub mod Orphans
 pub mod More
 pub mod Opening
+pub mod Silent
 pub mod Quiet
 pub mod Runs
 pub mod RunLaws

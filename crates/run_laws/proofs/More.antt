@@ -8,7 +8,8 @@ use Rattle.grid_model.specs.Rows.{Cat}
 use Rattle.grid_model.specs.RowGrids.{grid_of}
 use Rattle.grid_model.specs.Inputs.{Asked}
 use Rattle.grid_model.specs.Sessions.{State}
-use Rattle.grid_model.specs.Runs.{Request, Marked}
+use Rattle.grid_model.specs.Runs.{Request, Marked, does}
+use Rattle.grid_model.specs.Beginning.{begins}
 use Rattle.grid_model.specs.ReplyTexts.{reply_text}
 use Rattle.grid_model.specs.declared.marks.Mark.{Mark}
 use Rattle.grid_model.specs.Replies.{rest_lines}
@@ -16,12 +17,15 @@ use Rattle.grid_journal.specs.Stands.{StandsFor}
 use Rattle.grid_headline.specs.Worlds.{World}
 use Rattle.grid_headline.specs.Reads.{MeansRequest, EndsInput}
 use Rattle.grid_headline.specs.Served.{NoneSweeps, joined_texts, marks_of}
-use Rattle.grid_headline.specs.Files.{IsKnown, AreSettled, DisksAreSettled, KeepsNamed, WereWhole, AllStayWhole, StayNamed}
+use Rattle.grid_headline.specs.Files.{IsKnown, AreSettled, DisksAreSettled, KeepsReplicas, WereWhole, AllStayWhole, ReplicasStayNamed}
 use Rattle.grid_headline.specs.Causes.{AreCaused}
-use Rattle.grid_headline.specs.Ends.{AllStill, HasOneMore}
+use Rattle.grid_headline.specs.Ends.{AllStill, HasOneMore, HasFewOrphans, EndsSwept}
 use Rattle.grid_headline.specs.Headline.{BeginsOn}
+use Rattle.grid_headline.proofs.OneMeaning.{quits-alone}
+use Rattle.grid_headline.proofs.PutStops.{the_catalogue}
 use Rattle.run_laws.specs.Handled.{Handled, with_one, replies_of, IsOfRun, state_behind, OneOfRun, whole_report}
 use Rattle.run_laws.specs.Steps.{Gave, IsToldOf, ComesAfter, kept, unseen, NotesLine, RequestStep, IsHandledWhole}
+use Rattle.run_laws.specs.Silent.{LeavesFew}
 use Rattle.run_laws.specs.Sofar.{Ran, Sofar, KeepsWhole, KeepsNames}
 use Rattle.run_laws.specs.Went.{Went, AreInOrder}
 use Rattle.run_laws.proofs.Texts.{joined-push}
@@ -32,6 +36,7 @@ use Rattle.run_laws.proofs.Causes.{caused-then}
 use Rattle.run_laws.proofs.Draws.{gave-then}
 use Rattle.run_laws.proofs.BuiltOrders.{built, does-rules, removes_nothing}
 use Rattle.run_laws.proofs.Images.{IsOneMore, behind-of, like-of, image-more, image-one, shows-one, pieces-have, reply_has}
+use Rattle.run_laws.proofs.Orphans.{LastOne, swept_last, quit_last, few-before, few-behind, few-swept, last-one, quits-leave, quits-remove}
 
 -- ---- what was handled so far
 
@@ -64,9 +69,9 @@ module _ {B : Type 0} (old mid : World B) (found c : Cat) (at : State) (asked : 
         (stay (disks-settled old mid so.ran.went begin.spare_tells so.main_settled settled)
         (whole-now old mid so.ran.went begin.main_tells begin.spare_tells order c old.moments so.ran.went.drawn so.stands so_far))
 
-    -- all stays named, where it does from here on
+    -- what replicas named stays named, where all does from here on
     pub named-so : (new : World B) → Went mid new → (NoneSweeps old.source.left → KeepsNames mid new c) → NoneSweeps old.source.left → IsSettled old.main
-        → StayNamed new old.moments found
+        → ReplicasStayNamed new old.moments found
     named-so new then stay none settled t main d late left stands = by (cases_lt mid.moments t)
       where
         mid_tells : IsTrue mid.main.tells
@@ -75,11 +80,11 @@ module _ {B : Type 0} (old mid : World B) (found c : Cat) (at : State) (asked : 
         u : ℕ
         u = mid.moments + 1
 
-        now : KeepsNamed found c
+        now : KeepsReplicas found c
         now = so.ran.named none settled u mid.main.holds c (omega (arith, so.ran.went.drawn)) (mid.main.now mid_tells u (omega (arith, order.main_last))) so.stands
 
-        by : (mid.moments < t) ⊎ (t ≤ mid.moments) → KeepsNamed found d
-        by (inl later) = λ slot name is. stay none mid_tells (so.main_settled settled) t main d later left stands slot name (now slot name is)
+        by : (mid.moments < t) ⊎ (t ≤ mid.moments) → KeepsReplicas found d
+        by (inl later) = λ slot name row names is. stay none mid_tells (so.main_settled settled) t main d later left stands slot name (now slot name row names is)
         by (inr early) = so.ran.named none settled t main d late (then.main.earlier t main early left) stands
 
 -- ---- one more
@@ -198,20 +203,43 @@ module _ {B : Type 0} (old mid new : World B) (found c : Cat) (at : State) (aske
     pub stands-more : StandsFor new.main.holds after
     stands-more = whole.stands (subst IsTrue (sym so.ran.went.main.tells) begin.main_tells)
 
-    -- where all left the grid as it was and told no mark, main has the run's record more
-    pub still-more : AllStill (grid_of found) more.begun more.done → HasOneMore old.main.holds new.main.holds × (grid_of after ≡ grid_of found)
-    still-more all =
+    -- where no orphan was found, all left the grid as it was and told no mark, main has the run's record more
+    pub still-more : found.orphans ≡ [] → AllStill (grid_of found) more.begun more.done
+        → HasOneMore old.main.holds new.main.holds × (grid_of after ≡ grid_of found)
+    still-more clear all =
         let two = still-split (grid_of found) h.begun h.done m step.d all in
-        let so_far = so.still two.0 in
+        let so_far = so.still clear two.0 in
         let main : new.main.holds ≡ mid.main.holds =
         whole.still (removes_nothing means two.1.2) two.1.0 (two.1.1 ∙ sym so_far.1) (subst IsTrue (sym so.ran.went.main.tells) begin.main_tells) in (
           subst (HasOneMore old.main.holds) (sym main) so_far.0,
           whole.grid ∙ ap (λ (s : State). s.grid) (sym whole.state) ∙ two.1.1,
         )
 
+    -- where it ends the input, it leaves what was
+    catalogue-left : EndsInput a → after ≡ c
+    catalogue-left ends =
+        let one = quits-alone at a request ends means in
+        let left = quits-leave at one.0 step.marks step.d (ap (λ (r : Request). does at r step.marks) (sym one.1) ∙ step.does_so) in
+        let main : new.main.holds ≡ mid.main.holds =
+        whole.still (quits-remove one.0 request one.1) (sym step.marks_are ∙ left.0) (left.1 ∙ sym so.grid) (subst IsTrue (sym so.ran.went.main.tells) begin.main_tells) in
+        the_catalogue mid.main.holds [] c after (so.stands []) (subst (λ (t : Text). StandsFor t after) main stands-more [])
+
+    -- behind a sweep, few orphans are left
+    pub few-more : LeavesFew mid new request step.d after → EndsSwept (state_behind found more) more.begun more.done (length more.begun) → HasFewOrphans old new after
+    few-more few ends =
+        by (last-one (begins (grid_of found) []) h.begun h.done m step.d many (length-append h.begun (m ∷ [])) ends)
+      where
+        many : length h.done ≡ length h.begun
+        many = done-many old mid found at asked so.ran ∙ sym (begun-many old mid found at asked so.ran)
+
+        by : LastOne (begins (grid_of found) []) h.begun h.done m step.d many → HasFewOrphans old new after
+        by (swept_last session be asks ok) = few-before old mid new after so.ran.went (few-swept mid new be at a session request step.d after asks means few ok)
+        by (quit_last quits before) =
+            subst (HasFewOrphans old new) (sym (catalogue-left quits)) (few-behind old mid new c then (so.few before))
+
     -- it was handled whole, and the run goes on
-    sofar_did : ¬ EndsInput a → Sofar old new found after step.d.state (asked ++ a ∷ [])
-    sofar_did goes_on = record {
+    sofar_did : LeavesFew mid new request step.d after → ¬ EndsInput a → Sofar old new found after step.d.state (asked ++ a ∷ [])
+    sofar_did few goes_on = record {
       ran = ran-more;
       none_end = all-append (λ (x : Asked). ¬ EndsInput x) asked (a ∷ []) so.none_end (goes_on, tt);
       text = text-more;
@@ -220,10 +248,11 @@ module _ {B : Type 0} (old mid new : World B) (found c : Cat) (at : State) (aske
       grid = whole.grid ∙ ap (λ (s : State). s.grid) (sym whole.state);
       no_rules = no-rules;
       still = still-more;
+      few = few-more few;
       stands = stands-more;
       main_settled = λ settled. whole.main_settled (subst IsTrue (sym so.ran.went.main.tells) begin.main_tells) (so.main_settled settled);
       sink_settled = λ tells settled. whole.sink_settled (sink-mid tells) (so.sink_settled tells settled);
     }
 
-    pub sofar-more : ¬ EndsInput a → Sofar old new found after end (asked ++ a ∷ [])
-    sofar-more goes_on = subst (λ (s : State). Sofar old new found after s (asked ++ a ∷ [])) whole.state (sofar_did goes_on)
+    pub sofar-more : LeavesFew mid new request step.d after → ¬ EndsInput a → Sofar old new found after end (asked ++ a ∷ [])
+    sofar-more few goes_on = subst (λ (s : State). Sofar old new found after s (asked ++ a ∷ [])) whole.state (sofar_did few goes_on)

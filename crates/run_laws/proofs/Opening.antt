@@ -14,14 +14,14 @@ use Rattle.grid_model.specs.declared.deltas.ReplicaRow.{ReplicaRow}
 use Rattle.tables_laws.proofs.Grids.{grid-same}
 use Rattle.grid_journal.specs.Stands.{Stands, stands as made_of, StandsFor, StandsEither}
 use Rattle.grid_headline.specs.Worlds.{World}
-use Rattle.grid_headline.specs.Files.{AllAreWhole, AreSettled, DisksAreSettled, KeepsNamed, WereWhole, AllStayWhole, StayNamed}
+use Rattle.grid_headline.specs.Files.{AllAreWhole, AreSettled, DisksAreSettled, KeepsNamed, KeepsReplicas, WereWhole, AllStayWhole, ReplicasStayNamed}
 use Rattle.grid_headline.specs.Numbers.{KeepsNumbers}
 use Rattle.grid_headline.specs.Served.{NoneSweeps}
 use Rattle.grid_headline.specs.Headline.{BeginsOn}
 use Rattle.grid_headline.proofs.PutStops.{the_catalogue}
 use Rattle.run_laws.specs.Handled.{none_handled, IsOfRun, OneOfRun, not_begun, in_run, whole_report}
-use Rattle.run_laws.specs.Opening.{OneOfOpening, Opens, Opened}
-use Rattle.run_laws.specs.Sofar.{run_begun, Ran, Sofar}
+use Rattle.run_laws.specs.Opening.{OneOfOpening, Opens}
+use Rattle.run_laws.specs.Sofar.{run_begun, Ran}
 use Rattle.run_laws.specs.Steps.{Gave}
 use Rattle.run_laws.specs.Went.{Rests, AreInOrder}
 use Rattle.run_laws.proofs.Lists.{all-map}
@@ -40,7 +40,7 @@ module _ (found : Cat) where
   names_same slot name (by_replica r) its = its
   names_same slot name (by_orphan o) its = its
 
-  names_begun : (slot name : ℕ) (row : Naming) → Names found slot name row → Names (run_begun found) slot name row
+  pub names_begun : (slot name : ℕ) (row : Naming) → Names found slot name row → Names (run_begun found) slot name row
   names_begun slot name (by_replica r) its = its
   names_begun slot name (by_orphan o) its = its
 
@@ -51,7 +51,7 @@ module _ (found : Cat) where
   rows_begun rows = all-map (λ (r : ReplicaRow). IsTrue r.good → IsLikeObject found r) (λ (r : ReplicaRow). IsTrue r.good → IsLikeObject (run_begun found) r)
       (λ r is good. let like = is good in record { row = like.row; there = like.there; size = like.size; digest = like.digest }) found.replicas rows
 
-  named_begun : KeepsNamed found (run_begun found)
+  pub named_begun : KeepsNamed found (run_begun found)
   named_begun slot name one = record { row = one.row; names = names_begun slot name one.row one.names; only = λ other its. one.only other (names_same slot name other its) }
 
   files_begun : (slot : ℕ) (files : Files) → IsWhole found slot files → IsWhole (run_begun found) slot files
@@ -60,10 +60,10 @@ module _ (found : Cat) where
     accounted = λ name file is. named_begun slot name (whole.accounted name file is);
   }
 
-  grid-begun : grid_of (run_begun found) ≡ grid_of found
+  pub grid-begun : grid_of (run_begun found) ≡ grid_of found
   grid-begun = grid-same found (run_begun found) refl (grid_of found) refl
 
-  of-run-begun : found.rules ≡ [] → IsOfRun found (run_begun found)
+  pub of-run-begun : found.rules ≡ [] → IsOfRun found (run_begun found)
   of-run-begun rules = record { number = refl; rules = rules; none = refl; keeps = keeps_begun; stores = refl }
 
 -- ---- the world
@@ -88,12 +88,12 @@ module _ {B : Type 0} (old now : World B) (found : Cat) (begin : BeginsOn old fo
       by (inl is) = subst (AllAreWhole now t) (sym (the_catalogue main spare found c (is spare) its)) (whole_found t (whole t late))
       by (inr is) = subst (AllAreWhole now t) (sym (the_catalogue main spare (run_begun found) c (is spare) its)) (whole_begun t (whole t late))
 
-  pub stay-named : NoneSweeps old.source.left → IsSettled old.main → StayNamed now old.moments found
+  pub stay-named : NoneSweeps old.source.left → IsSettled old.main → ReplicasStayNamed now old.moments found
   stay-named none settled t main c late left stands = by (opens.main settled t main late left)
     where
-      by : StandsEither found (run_begun found) main → KeepsNamed found c
-      by (inl is) slot name one = let P : Cat → Type 0 = λ d. IsNamed d slot name in subst P (sym (the_catalogue main [] found c (is []) (stands []))) one
-      by (inr is) slot name one = let P : Cat → Type 0 = λ d. IsNamed d slot name in
+      by : StandsEither found (run_begun found) main → KeepsReplicas found c
+      by (inl is) slot name row names one = let P : Cat → Type 0 = λ d. IsNamed d slot name in subst P (sym (the_catalogue main [] found c (is []) (stands []))) one
+      by (inr is) slot name row names one = let P : Cat → Type 0 = λ d. IsNamed d slot name in
           subst P (sym (the_catalogue main [] (run_begun found) c (is []) (stands []))) (named_begun found slot name one)
 
   abbrev report : Text
@@ -142,24 +142,6 @@ module _ {B : Type 0} (old now : World B) (found : Cat) (begin : BeginsOn old fo
     named = stay-named;
     images = images-none;
   }
-
--- it is begun
-pub sofar-none : {B : Type 0} (old now : World B) (found : Cat) → BeginsOn old found → AreInOrder old → found.rules ≡ []
-    → Opened old now found
-    → Sofar old now found (run_begun found) (begins (grid_of found) []) []
-sofar-none old now found begin order rules opened = record {
-  ran = ran-none old now found begin order rules opened.opens;
-  none_end = tt;
-  text = λ tells. opened.text tells ∙ sym (append-nil (old.sink.holds ++ whole_report found));
-  of_run = of-run-begun found rules;
-  last = omega arith;
-  grid = grid-begun found;
-  no_rules = refl;
-  still = λ all. (opened.one, grid-begun found);
-  stands = opened.stands;
-  main_settled = opened.settled;
-  sink_settled = opened.sink_settled;
-}
 
 -- where main was not even called a stop leaves what was found
 pub images-rest : {B : Type 0} (old now : World B) (found : Cat) → BeginsOn old found → AreInOrder old → Rests old.main now.main → IsSettled old.main

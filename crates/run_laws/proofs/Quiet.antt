@@ -132,6 +132,7 @@ module _ {B : Type 0} (old now : World B) (source : SourceState) where
     grid = so.grid;
     no_rules = so.no_rules;
     still = so.still;
+    few = so.few;
     stands = so.stands;
     main_settled = so.main_settled;
     sink_settled = so.sink_settled;

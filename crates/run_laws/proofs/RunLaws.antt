@@ -15,20 +15,23 @@ use Rattle.grid_headline.specs.Ends.{RunEnd}
 use Rattle.grid_headline.specs.Headline.{Serves}
 use Rattle.run_laws.specs.Ends.{ReadsSo, StopsSo, IsGoodIfNoneFailed}
 use Rattle.run_laws.specs.Opening.{Opens, Opened}
+use Rattle.run_laws.specs.Silent.{IsSwept, LeavesFew, Sweeps}
 use Rattle.run_laws.specs.Sofar.{run_begun, BeginsPlainly, CallsGoOn, Sofar}
 use Rattle.run_laws.specs.Steps.{NotesLine, RequestStep, IsHandledWhole, IsQuiet}
 use Rattle.run_laws.specs.Went.{AreInOrder}
-use Rattle.run_laws.proofs.More.{ran-more, no-rules, text-more, of-run-more, stands-more, still-more, sofar-more}
-use Rattle.run_laws.proofs.Opening.{ran-none, sofar-none}
+use Rattle.run_laws.proofs.More.{ran-more, no-rules, text-more, of-run-more, stands-more, still-more, few-more, sofar-more}
+use Rattle.run_laws.proofs.Opening.{ran-none}
 use Rattle.run_laws.proofs.Quiet.{ran-quiet, sofar-read}
 use Rattle.run_laws.proofs.Runs.{serves}
+use Rattle.run_laws.proofs.Silent.{ran-swept, sofar-swept}
 
 -- ---- how it goes on
 
--- the run is begun
-pub none_yet : {B : Type 0} {old now : World B} {found : Cat} → BeginsPlainly old found → AreInOrder old → Opened old now found
-    → Sofar old now found (run_begun found) (begins (grid_of found) []) []
-none_yet {old = old} {now = now} {found = found} plain order opened = sofar-none old now found plain.begin order plain.rules opened
+-- the run is begun, and has swept
+pub none_yet : {B : Type 0} {old mid now : World B} {found c : Cat} → BeginsPlainly old found → AreInOrder old → Opened old mid found
+    → Sweeps mid now (run_begun found) → IsSwept mid now (run_begun found) c → Sofar old now found c (begins (grid_of found) []) []
+none_yet {old = old} {mid = mid} {now = now} {found = found} {c = c} plain order opened sweeps swept =
+    sofar-swept old mid now found plain.begin order plain.rules opened sweeps c swept
 
 -- the source alone was read
 pub read_on : {B : Type 0} {old now : World B} {found c : Cat} {at : State} {asked : List Asked} (source : SourceState) → Sofar old now found c at asked
@@ -39,10 +42,10 @@ read_on {old = old} {now = now} {found = found} {c = c} {at = at} {asked = asked
 pub one_more : {B : Type 0} {old mid new : World B} {found c after : Cat} {at end : State} {asked : List Asked} {a : Asked} {request : Request}
     → BeginsPlainly old found
     → Sofar old mid found c at asked → CallsGoOn old.source.left mid new c → NotesLine a.line mid new → MeansRequest at a request → ¬ EndsInput a
-    → (step : RequestStep mid new at c (length asked + 1) request)
+    → (step : RequestStep mid new at c (length asked + 1) request) → LeavesFew mid new request step.d after
     → IsHandledWhole mid new at c (length asked + 1) request step after end → Sofar old new found after end (asked ++ a ∷ [])
-one_more {old = old} {mid = mid} {new = new} {found = found} {c = c} {after = after} {at = at} {end = end} {asked = asked} {a = a} {request = request} plain so goes noted means more step whole =
-    sofar-more old mid new found c at asked plain.begin goes.order so goes.went goes.whole goes.names a noted request means step after end whole more
+one_more {old = old} {mid = mid} {new = new} {found = found} {c = c} {after = after} {at = at} {end = end} {asked = asked} {a = a} {request = request} plain so goes noted means more step few whole =
+    sofar-more old mid new found c at asked plain.begin goes.order so goes.went goes.whole goes.names a noted request means step after end whole few more
 
 -- ---- how it ends
 
@@ -65,13 +68,20 @@ ends_before {old = old} {now = now} {found = found} {end = end} plain order open
     serves old now found (begins (grid_of found) []) [] plain.pending plain.rules (ran-none old now found plain.begin order plain.rules opens)
     (inl (old.source.left, none_taken)) tt end (inr stops) good
 
+-- the run is begun, and maybe has not swept all
+pub ends_swept : {B : Type 0} {old mid now : World B} {found : Cat} {end : RunEnd} → BeginsPlainly old found → AreInOrder old → Opened old mid found
+    → Sweeps mid now (run_begun found) → StopsSo old now found (begins (grid_of found) []) [] end → IsGoodIfNoneFailed old now end → Serves old now found end
+ends_swept {old = old} {mid = mid} {now = now} {found = found} {end = end} plain order opened sweeps stops good =
+    serves old now found (begins (grid_of found) []) [] plain.pending plain.rules (ran-swept old mid now found plain.begin order plain.rules opened sweeps)
+    (inl (old.source.left, none_taken)) tt end (inr stops) good
+
 -- the input was read, and all is answered
 pub ends_well : {B : Type 0} {old now : World B} {found c : Cat} {at : State} {asked : List Asked} {end : RunEnd} → BeginsPlainly old found
     → Sofar old now found c at asked
     → BeginsWithRequests old.source.left asked → ReadsSo asked old.source now.source end → IsGoodIfNoneFailed old now end → Serves old now found end
 ends_well {old = old} {now = now} {found = found} {c = c} {at = at} {asked = asked} {end = end} plain so first reads good =
     serves old now found at asked plain.pending plain.rules so.ran first (end-last asked so.none_end) end
-    (inl (record { text = so.text; cat = c; stands = so.stands; of_run = so.of_run; grid = so.grid; no_rules = so.no_rules; still = λ all. (so.still all).0 }, reads)) good
+    (inl (record { text = so.text; cat = c; stands = so.stands; of_run = so.of_run; grid = so.grid; no_rules = so.no_rules; still = λ clear all. (so.still clear all).0; few = so.few }, reads)) good
 
 -- something ran out before anything was done for another request
 pub ends_idle : {B : Type 0} {old now : World B} {found c : Cat} {at : State} {asked : List Asked} {end : RunEnd} → BeginsPlainly old found
@@ -99,10 +109,10 @@ module _ {B : Type 0} {old mid new : World B} {found c : Cat} {at : State} {aske
       (ran-more old mid new found c at asked plain.begin goes.order so goes.went goes.whole goes.names a noted request means step) first (end-behind asked a so.none_end) end (inr stops) good
 
   -- the input ended with a request, which was handled whole
-  pub ends_with : {after : Cat} {left : State} → IsHandledWhole mid new at c (length asked + 1) request step after left
+  pub ends_with : {after : Cat} {left : State} → LeavesFew mid new request step.d after → IsHandledWhole mid new at c (length asked + 1) request step after left
       → ReadsSo (asked ++ a ∷ []) old.source new.source end
       → IsGoodIfNoneFailed old new end → Serves old new found end
-  ends_with {after = after} {left = left} whole reads good =
+  ends_with {after = after} {left = left} few whole reads good =
       serves old new found step.d.state (asked ++ a ∷ []) plain.pending plain.rules
       (ran-more old mid new found c at asked plain.begin goes.order so goes.went goes.whole goes.names a noted request means step) first (end-behind asked a so.none_end) end
       (inl (
@@ -113,7 +123,8 @@ module _ {B : Type 0} {old mid new : World B} {found c : Cat} {at : State} {aske
           of_run = of-run-more old mid new found c at asked plain.begin goes.order so goes.went goes.whole goes.names a noted request means step after left whole;
           grid = whole.grid ∙ ap (λ (s : State). s.grid) (sym whole.state);
           no_rules = no-rules old mid new found c at asked plain.begin goes.order so goes.went goes.whole goes.names a noted request means step;
-          still = λ all. (still-more old mid new found c at asked plain.begin goes.order so goes.went goes.whole goes.names a noted request means step after left whole all).0;
+          still = λ clear all. (still-more old mid new found c at asked plain.begin goes.order so goes.went goes.whole goes.names a noted request means step after left whole clear all).0;
+          few = few-more old mid new found c at asked plain.begin goes.order so goes.went goes.whole goes.names a noted request means step after left whole few;
         },
         reads,
       )) good

@@ -33,7 +33,7 @@ use Rattle.grid_headline.specs.Numbers.{KeepsNumbers}
 use Rattle.grid_headline.specs.Files.{IsKnown, IsOfUnknown, DisksAreSettled, WereWhole}
 use Rattle.grid_headline.specs.Causes.{NoneFailed, AllTell}
 use Rattle.grid_headline.specs.Draws.{DrawsMarks, AreSomeOf, word_of, time_of, told_words, times_of, kept_count}
-use Rattle.grid_headline.specs.Ends.{RunEnd, read_all, source_failed, too_long, worn, no_memory, disk_failed, sink_failed, SaysOfEnd, AnswersAll, Needs, MakesFiles}
+use Rattle.grid_headline.specs.Ends.{RunEnd, read_all, source_failed, too_long, worn, no_memory, disk_failed, sink_failed, SaysOfEnd, AnswersAll, Needs, MakesFiles, LeavesFewOrphans}
 use Rattle.grid_headline.specs.Headline.{Shows, Completes, Serves, IsGoodEnd}
 use Rattle.run_laws.specs.Handled.{replies_of, HasNoRecovery, WaitsBehind, OneOfRun, not_begun, in_run, in_deed_of_run, passed_of, report_begun, whole_report}
 use Rattle.run_laws.specs.Handled as handled
@@ -404,6 +404,12 @@ module _ {B : Type 0} (old new : World B) (base : Cat) (at : State) (asked : Lis
     says end (inl so) = says_read end so.0 (reads end so.1)
     says end (inr so) = says_stopped end so
 
+    -- where all was read, few orphans are left behind a sweep
+    leaves_few : (end : RunEnd) → (IsAnswered old new found at ran.handled × ReadsSo asked old.source new.source end) ⊎ StopsSo old new found at asked end
+        → end ≡ read_all → LeavesFewOrphans run old new
+    leaves_few end (inl so) e = λ ends none. record { cat = so.0.cat; stands = so.0.stands new.spare.holds; holds = so.0.few ends }
+    leaves_few end (inr so) e = absurd (subst (StopsSo old new found at asked) e so)
+
     serves_base : (end : RunEnd) → (IsAnswered old new found at ran.handled × ReadsSo asked old.source new.source end) ⊎ StopsSo old new found at asked end
         → IsGoodIfNoneFailed old new end → Serves old new found end
     serves_base end so good = record {
@@ -414,6 +420,7 @@ module _ {B : Type 0} (old new : World B) (base : Cat) (at : State) (asked : Lis
       images = λ tells settled t i late leaves. image i (ran.images tells settled t i.main i.sink late leaves.disks.of_main leaves.of_sink);
       whole = ran.whole;
       named = ran.named;
+      orphans = leaves_few end so;
       caused = ran.caused;
       completes = λ tells none tell settled whole fits. completes tells end none tell settled whole (good none fits);
     }

@@ -16,9 +16,9 @@ use Rattle.grid_headline.specs.Reads.{MeansRequest}
 use Rattle.grid_headline.specs.Causes.{NoneFailed}
 use Rattle.grid_headline.specs.Served.{BeginsWithRequests, joined_texts}
 use Rattle.grid_headline.specs.Ends.{RunEnd, read_all, source_failed, too_long, worn, no_memory, disk_failed, sink_failed}
-use Rattle.grid_headline.specs.Ends.{EndsInRequest, EndsAtEnd, ReadsEnded, ReadsMost, HasRunOut, AllStill, HasOneMore}
+use Rattle.grid_headline.specs.Ends.{EndsInRequest, EndsAtEnd, ReadsEnded, ReadsMost, HasRunOut, AllStill, HasOneMore, HasFewOrphans, EndsSwept}
 use Rattle.grid_headline.specs.Headline.{IsGoodEnd}
-use Rattle.run_laws.specs.Handled.{Handled, replies_of, IsOfRun, whole_report}
+use Rattle.run_laws.specs.Handled.{Handled, replies_of, state_behind, IsOfRun, whole_report}
 
 -- ---- the input was read
 
@@ -37,7 +37,8 @@ pub record IsAnswered {B : Type 0} (old new : World B) (found : Cat) (at : State
   pub of_run : IsOfRun found cat
   pub grid : grid_of cat ≡ at.grid
   pub no_rules : at.rules ≡ []
-  pub still : AllStill (grid_of found) h.begun h.done → HasOneMore old.main.holds new.main.holds
+  pub still : found.orphans ≡ [] → AllStill (grid_of found) h.begun h.done → HasOneMore old.main.holds new.main.holds
+  pub few : EndsSwept (state_behind found h) h.begun h.done (length h.begun) → HasFewOrphans old new cat
 
 -- ---- something ran out or failed
 

@@ -15,11 +15,11 @@ use Rattle.grid_journal.specs.Stands.{StandsFor}
 use Rattle.grid_headline.specs.Worlds.{World}
 use Rattle.grid_headline.specs.Reads.{MeansRequest, EndsInput}
 use Rattle.grid_headline.specs.Served.{AllPieces, NoneSweeps, joined_texts, marks_of, asked_of}
-use Rattle.grid_headline.specs.Files.{IsKnown, AreSettled, DisksAreSettled, WereWhole, AllStayWhole, StayNamed}
+use Rattle.grid_headline.specs.Files.{IsKnown, AreSettled, DisksAreSettled, WereWhole, AllStayWhole, StayNamed, ReplicasStayNamed}
 use Rattle.grid_headline.specs.Causes.{AreCaused}
-use Rattle.grid_headline.specs.Ends.{AllStill, HasOneMore}
+use Rattle.grid_headline.specs.Ends.{AllStill, HasOneMore, HasFewOrphans, EndsSwept}
 use Rattle.grid_headline.specs.Headline.{BeginsOn}
-use Rattle.run_laws.specs.Handled.{Handled, replies_of, HasNoRecovery, IsOfRun, OneOfRun, ShowsMost, whole_report}
+use Rattle.run_laws.specs.Handled.{Handled, replies_of, state_behind, HasNoRecovery, IsOfRun, OneOfRun, ShowsMost, whole_report}
 use Rattle.run_laws.specs.Steps.{Gave, IsToldOf}
 use Rattle.run_laws.specs.Went.{Went, AreInOrder}
 
@@ -68,7 +68,7 @@ pub record Ran {B : Type 0} (old now : World B) (found : Cat) (at : State) (aske
   pub caused : AreCaused old now (marks_of handled.begun)
   pub gave : IsTrue now.ambient.tells → Gave (marks_of handled.begun) old.ambient now.ambient
   pub whole : DisksAreSettled old → WereWhole old old.moments found → AllStayWhole now old.moments
-  pub named : NoneSweeps old.source.left → IsSettled old.main → StayNamed now old.moments found
+  pub named : NoneSweeps old.source.left → IsSettled old.main → ReplicasStayNamed now old.moments found
   pub images : IsTrue old.sink.tells → AreSettled old → (t : ℕ) (main sink : Text) → old.moments < t → now.main.left t main → now.sink.left t sink
       → OneOfRun found handled old.sink.holds main sink
 
@@ -82,8 +82,11 @@ pub record Sofar {B : Type 0} (old now : World B) (found c : Cat) (at : State) (
   pub last : c.numbers.last ≤ length asked
   pub grid : grid_of c ≡ at.grid
   pub no_rules : at.rules ≡ []
-  -- where all left the grid as it was and told no mark, main has the record with which the run was begun more
-  pub still : AllStill (grid_of found) ran.handled.begun ran.handled.done → HasOneMore old.main.holds now.main.holds × (grid_of c ≡ grid_of found)
+  -- where no orphan was found, all left the grid as it was and told no mark, main has the record with which the run was begun more
+  pub still : found.orphans ≡ [] → AllStill (grid_of found) ran.handled.begun ran.handled.done
+      → HasOneMore old.main.holds now.main.holds × (grid_of c ≡ grid_of found)
+  -- behind a sweep, or where nothing was asked, few orphans are left
+  pub few : EndsSwept (state_behind found ran.handled) ran.handled.begun ran.handled.done (length ran.handled.begun) → HasFewOrphans old now c
   -- the disks and the sink
   pub stands : StandsFor now.main.holds c
   pub main_settled : IsSettled old.main → IsSettled now.main

@@ -11,6 +11,7 @@ ghost use Rattle.grid_headline.specs.Reads.{EndsInput, MeansRequest};
 ghost use Rattle.grid_headline.specs.Served.{BeginsWithRequests};
 ghost use Rattle.run_laws.specs.Ends.{IsGoodIfNoneFailed, ReadsSo, StopsSo};
 ghost use Rattle.run_laws.specs.Opening.{Opened};
+ghost use Rattle.run_laws.specs.Silent.{IsSwept, LeavesFew, Sweeps};
 ghost use Rattle.run_laws.specs.Sofar.{BeginsPlainly, CallsGoOn, Sofar, run_begun};
 ghost use Rattle.run_laws.specs.Steps.{IsQuiet, IsHandledWhole, NotesLine, RequestStep};
 ghost use Rattle.run_laws.specs.Surrounding.{world};
@@ -19,14 +20,29 @@ ghost use Rattle.run_laws.specs.Went.{AreInOrder};
 use crate::around::Around;
 use grid_outside::{Ambient, Disk, Plugin, Sink, Source};
 
-/// A run that is begun over a catalogue without rules, and without a pending command that has recoveries, has handled no request yet.
+/// A run that is begun over a catalogue without rules, and without a pending command that has recoveries, and has swept, has handled
+/// no request yet.
 pub fn a_run_is_begun<D: Disk, S: Source, K: Sink, A: Ambient, P: Plugin>(
     old: &Around<D, S, K, A, P>,
+    mid: &Around<D, S, K, A, P>,
     now: &Around<D, S, K, A, P>,
 )
-    ensures { let from = world D.disk S.source K.sink A.ambient P.plugin old.now in let to = world D.disk S.source K.sink A.ambient P.plugin now.now in
-        (found : Cat) → BeginsPlainly from found → AreInOrder from → Opened from to found →
-        Sofar from to found (run_begun found) (begins (grid_of found) []) [] }
+    ensures { let from = world D.disk S.source K.sink A.ambient P.plugin old.now in let by = world D.disk S.source K.sink A.ambient P.plugin mid.now in
+        let to = world D.disk S.source K.sink A.ambient P.plugin now.now in
+        (found c : Cat) → BeginsPlainly from found → AreInOrder from → Opened from by found → Sweeps by to (run_begun found) →
+        IsSwept by to (run_begun found) c → Sofar from to found c (begins (grid_of found) []) [] }
+{}
+
+/// Where something ran out or failed in the sweep behind the opening, all holds that is promised of a run.
+pub fn a_run_ends_in_its_sweep<D: Disk, S: Source, K: Sink, A: Ambient, P: Plugin>(
+    old: &Around<D, S, K, A, P>,
+    mid: &Around<D, S, K, A, P>,
+    now: &Around<D, S, K, A, P>,
+)
+    ensures { let from = world D.disk S.source K.sink A.ambient P.plugin old.now in let by = world D.disk S.source K.sink A.ambient P.plugin mid.now in
+        let to = world D.disk S.source K.sink A.ambient P.plugin now.now in
+        (found : Cat) (end : RunEnd) → BeginsPlainly from found → AreInOrder from → Opened from by found → Sweeps by to (run_begun found) →
+        StopsSo from to found (begins (grid_of found) []) [] end → IsGoodIfNoneFailed from to end → Serves from to found end }
 {}
 
 /// Behind the requests that were handled comes one more, which is handled whole and does not end the input.
@@ -39,7 +55,7 @@ pub fn a_run_goes_on<D: Disk, S: Source, K: Sink, A: Ambient, P: Plugin>(
         let to = world D.disk S.source K.sink A.ambient P.plugin new.now in
         (found c after : Cat) (at end : State) (asked : List Asked) (a : Asked) (request : Request) → BeginsPlainly from found →
         Sofar from by found c at asked → CallsGoOn from.source.left by to c → NotesLine a.line by to → MeansRequest at a request → ¬ EndsInput a
-        → (step : RequestStep by to at c (length asked + 1) request) →
+        → (step : RequestStep by to at c (length asked + 1) request) → LeavesFew by to request step.d after →
         IsHandledWhole by to at c (length asked + 1) request step after end → Sofar from to found after end (asked ++ a ∷ []) }
 {}
 
