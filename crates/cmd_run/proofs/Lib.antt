@@ -12,6 +12,7 @@ pub mod GoodWords
 pub mod GotLemmas
 pub mod KeepLemmas
 pub mod KeptEnds
+pub mod LeftOrphans
 pub mod Listings
 pub mod LoginLemmas
 pub mod Meant
@@ -30,10 +31,12 @@ pub mod ReplLemmas
 pub mod Resting
 pub mod SayLemmas
 pub mod SentFiles
+pub mod SilentSweeps
 pub mod SumEnds
 pub mod SumLemmas
 pub mod SweepEnds
 pub mod SweepLemmas
+pub mod SweptFew
 pub mod Tagged
 pub mod Users
 pub mod Vaults

@@ -1,6 +1,6 @@
 -- Rows of orphans, of which nothing is seen.
-use Rattle.std.proofs.Common.{◌≡◌, ◌≢◌, inl, inr, ℕ, zero, suc, ◌<◌, List, [], ◌∷◌, Ok, Err, IsTrue, refl, sym, ap, ◌∙◌, subst, arith}
-use Rattle.std.specs.Prelude.{◌==◌, not, filter, map, All}
+use Rattle.std.proofs.Common.{◌≡◌, ◌≢◌, inl, inr, ℕ, zero, suc, ◌<◌, ◌≤◌, List, [], ◌∷◌, Ok, Err, IsTrue, refl, sym, ap, ◌∙◌, subst, arith}
+use Rattle.std.specs.Prelude.{◌==◌, not, filter, map, All, Result, ⊤}
 use Rattle.std.specs.List.{AllByRecursion, Contains}
 use Rattle.std.specs.List.Sorted.{IsStrictlySortedBy}
 use Rattle.std.specs.Ordering.{nat_cmp}
@@ -8,10 +8,13 @@ use Rattle.std.specs.declared.cmp.Ordering.TheVariants.{Less}
 use Rattle.std.specs.Cmp.{ranked}
 use Rattle.grid_model.specs.Rows.{Cat, orphan_cmp}
 use Rattle.grid_model.specs.Applying.{IsMade, apply, apply_all, has_orphan}
-use Rattle.grid_model.specs.Whole.{Naming, by_replica, by_orphan, Names}
+use Rattle.grid_model.specs.Names.{Text}
+use Rattle.grid_model.specs.Whole.{Naming, by_replica, by_orphan, IsNamed, Names}
 use Rattle.grid_model.specs.declared.deltas.Delta.TheVariants as delta
 use Rattle.grid_model.specs.declared.deltas.OrphanRow.{OrphanRow}
+use Rattle.grid_model.specs.declared.deltas.ReplicaRow.{ReplicaRow}
 use Rattle.grid_model.specs.declared.plans.NewFile.{NewFile}
+use Rattle.grid_vault.specs.Removal.{SplitInto}
 use Rattle.tables_laws.proofs.Grids.{grid-unseen}
 use Rattle.tables_laws.proofs.Rows.{IsIn, in_from_filter}
 use Rattle.tables_laws.proofs.Sound.{fits_so, ok-same, after_first}
@@ -24,6 +27,8 @@ use Rattle.grid_outside.specs.Device.{IsSettled}
 use Rattle.grid_outside.specs.Disk.{DiskState}
 use Rattle.grid_outside.specs.Files.{StoreState}
 use Rattle.grid_journal.specs.Journal.{Journal}
+use Rattle.grid_journal.specs.Stands.{StandsFor}
+use Rattle.grid_deed.proofs.Keeping.{held_stands}
 use Rattle.grid_journal.specs.declared.error.JournalError.{JournalError}
 use Rattle.grid_deed.specs.Deeds.{AreDiscarded}
 use Rattle.grid_deed.specs.Held.{IsHeld, CommitEnds}
@@ -31,7 +36,7 @@ use Rattle.cmd_run.specs.declared.server.Server.{Server}
 use Rattle.cmd_run.specs.declared.server.Ending.{Ending}
 use Rattle.cmd_run.specs.Errors.{ending_of}
 use Rattle.cmd_run.specs.Keeps.{KeepEnds}
-use Rattle.cmd_run.specs.Sweeping.{ForgetsOrphans, orphan_files}
+use Rattle.cmd_run.specs.Sweeping.{ForgetsOrphans, LeavesLike, StaysLike, orphan_files}
 use Rattle.cmd_run.proofs.KeepLemmas.{ends_err}
 use Rattle.cmd_run.proofs.Resting.{like_self}
 
@@ -48,6 +53,11 @@ like_then a b c one two = record {
   keeps = keeps-then a b c one.keeps two.keeps;
 }
 
+-- what names a file without it named that file with it
+named_back : (c : Cat) (vault slot name : ℕ) (x : Naming) → Names (record c { orphans = filter (λ o. not (o.vault == vault)) c.orphans }) slot name x → Names c slot name x
+named_back c vault slot name (by_replica r) n = n
+named_back c vault slot name (by_orphan o) n = (contains_of c.orphans o (in_from_filter (λ (o : OrphanRow). not (o.vault == vault)) c.orphans o (in_of _ o n.0)).0, n.1, n.2)
+
 -- one is taken away
 gone_one : (c d : Cat) (vault : ℕ) → apply c (delta.NoOrphan vault) ≡ Ok d → IsLike c d
 gone_one c d vault e =
@@ -61,13 +71,17 @@ gone_one c d vault e =
       pending = ap (λ (x : Cat). x.pending) (sym is);
       keeps = record {
         rises = omega (arith, ap (λ (x : Cat). x.numbers.next_vault) (sym is));
-        names = λ slot name row low its. (row, back slot name row (let P : Cat → Type 0 = λ x. Names x slot name row in subst P (sym is) its));
+        names = λ slot name row low its. (row, named_back c vault slot name row (let P : Cat → Type 0 = λ x. Names x slot name row in subst P (sym is) its));
       };
     }
-  where
-    back : (slot name : ℕ) (x : Naming) → Names (record c { orphans = filter (λ o. not (o.vault == vault)) c.orphans }) slot name x → Names c slot name x
-    back slot name (by_replica r) n = n
-    back slot name (by_orphan o) n = (contains_of c.orphans o (in_from_filter (λ (o : OrphanRow). not (o.vault == vault)) c.orphans o (in_of _ o n.0)).0, n.1, n.2)
+
+-- a replica names its file as before, and no other row does
+one_stays : (c d : Cat) (vault : ℕ) → apply c (delta.NoOrphan vault) ≡ Ok d → (slot name : ℕ) (r : ReplicaRow) → Names c slot name (by_replica r) → IsNamed c slot name
+    → Names d slot name (by_replica r) × IsNamed d slot name
+one_stays c d vault e slot name r its was =
+    let is = (fits_so (has_orphan c vault) 18 (record c { orphans = filter (λ o. not (o.vault == vault)) c.orphans }) d e).1 in
+    let P : Cat → Type 0 = λ x. Names x slot name (by_replica r) × IsNamed x slot name in
+    subst P is (its, record { row = by_replica r; names = its; only = λ other names. was.only other (named_back c vault slot name other names) ∙ sym (was.only (by_replica r) its) })
 
 -- some are taken away
 pub gone_like : (gone : List NewFile) (c d : Cat) → apply_all c (no_orphans gone) ≡ Ok d → IsLike c d
@@ -76,7 +90,46 @@ gone_like (f ∷ gone) c d e =
     let step = after_first (apply c (delta.NoOrphan f.name)) (no_orphans gone) d e in
     like_then c step.0 d (gone_one c step.0 f.name step.1) (gone_like gone step.0 d step.2)
 
+some_stay : (gone : List NewFile) (c d : Cat) → apply_all c (no_orphans gone) ≡ Ok d → (slot name : ℕ) (r : ReplicaRow) → Names c slot name (by_replica r) → IsNamed c slot name → IsNamed d slot name
+some_stay [] c d e slot name r its was = let P : Cat → Type 0 = λ x. IsNamed x slot name in subst P (ok-same c d (apply_all c []) refl e) was
+some_stay (f ∷ gone) c d e slot name r its was =
+    let step = after_first (apply c (delta.NoOrphan f.name)) (no_orphans gone) d e in
+    let one = one_stays c step.0 f.name step.1 slot name r its was in
+    some_stay gone step.0 d step.2 slot name r one.0 one.1
+
+-- nothing is seen of it, and files of replicas are named as before
+pub stays_like : (gone : List NewFile) (c d : Cat) → apply_all c (no_orphans gone) ≡ Ok d → StaysLike c d
+stays_like gone c d e = record { like = gone_like gone c d e; keeps = λ slot name r its was. some_stay gone c d e slot name r its was }
+
+pub stays_self : (c : Cat) → StaysLike c c
+stays_self c = record { like = like_self c; keeps = λ slot name r its was. was }
+
+-- main was not called
+pub still_like : (c : Cat) (from : ℕ) (main : DiskState) (s : Journal) → IsHeld c main s → main.last ≤ from → LeavesLike c from main main
+still_like c from main s held last told settled t image late left =
+    let S : Text → Type 0 = λ m. StandsFor m c in
+    (c, subst S (sym (settled t image (omega (arith, last, late)) left)) (held_stands c main s held told), stays_self c)
+
+-- they were forgotten, or how far that came
+pub forgets_like : (c : Cat) (from : ℕ) (old new : DiskState) (result : Result ⊤ Ending) (server : Server) → ForgetsOrphans c from old new result server → LeavesLike c from old new
+forgets_like c from old new result server forgets told settled t main late left = elim (forgets.leaves told settled t main late left) [
+  | inl before ↦ (c, before, stays_self c)
+  | inr behind ↦ (forgets.after, behind, stays_like forgets.gone c forgets.after forgets.applied)
+]
+
 -- ---- how their removal ended
+
+-- where none is gone the rows are as they were
+none_gone : (c after : Cat) (gone : List NewFile) → gone ≡ [] → apply_all c (no_orphans gone) ≡ Ok after → c ≡ after
+none_gone c after gone none applied =
+    let nothing : apply_all c (no_orphans gone) ≡ apply_all c [] = ap (λ g. apply_all c (no_orphans g)) none in
+    ok-same c after (apply_all c []) refl (sym nothing ∙ applied)
+
+-- none of none is gone
+no_parts : (files gone left : List NewFile) → files ≡ [] → SplitInto files gone left → gone ≡ []
+no_parts [] [] left none s = refl
+no_parts [] (g ∷ gone) left none s = elim s [ ]
+no_parts (f ∷ files) gone left none s = absurd cc
 
 module _ {D B : Type 0} (disk : D → DiskState) (plugin : B → StoreState) (old : Journal) (files : List NewFile) (from : ℕ) (main_old main_new : D) (stores_old stores_new : List B) where
   -- what is left was answered
@@ -87,7 +140,7 @@ module _ {D B : Type 0} (disk : D → DiskState) (plugin : B → StoreState) (ol
     gone = swept.gone;
     after = swept.after;
     applied = swept.applied;
-    ends = (let P : Journal → Type 0 = λ j. Ends j in subst P (sym same) (elim swept.ends.2 [ inl none ↦ unchanged none.0 none.1 none.2 none.3 | inr kept ↦ (kept.held, kept.cat, kept.staged, λ told settled. kept.settled told) ]));
+    ends = (let P : Journal → Type 0 = λ j. Ends j in subst P (sym same) (elim swept.ends.2 [ inl none ↦ unchanged none.0 none.1 none.2 none.3 | inr taken ↦ (let kept = taken.1 in (kept.held, kept.cat, kept.staged, λ told settled. kept.settled told)) ]));
     leaves = swept.leaves;
   }
     where
@@ -96,11 +149,23 @@ module _ {D B : Type 0} (disk : D → DiskState) (plugin : B → StoreState) (ol
 
       unchanged : swept.gone ≡ [] → new ≡ old → IsHeld old.cat (disk main_new) new → main_new ≡ main_old → Ends new
       unchanged none as_old held main_same =
-          let nothing : apply_all old.cat (no_orphans swept.gone) ≡ apply_all old.cat [] = ap (λ g. apply_all old.cat (no_orphans g)) none in
-          let is : old.cat ≡ swept.after = ok-same old.cat swept.after (apply_all old.cat []) refl (sym nothing ∙ swept.applied) in
+          let is : old.cat ≡ swept.after = none_gone old.cat swept.after swept.gone none swept.applied in
           let H : Cat → Type 0 = λ x. IsHeld x (disk main_new) new in
           let S : D → Type 0 = λ m. IsSettled (disk m) in
           (subst H is held, ap (λ (j : Journal). j.cat) as_old ∙ is, ap (λ (j : Journal). j.staged) as_old ∙ staged, λ told settled. subst S (sym main_same) settled)
+
+  pub forgot_cat : (left : List NewFile) (new : Journal) → (swept : AreDiscarded disk plugin old.cat files from main_old main_new stores_old stores_new old (Ok left) new) → new.cat ≡ swept.after
+  forgot_cat left new swept = elim swept.ends.2 [
+    | inl still ↦ ap (λ (j : Journal). j.cat) still.1 ∙ none_gone old.cat swept.after swept.gone still.0 swept.applied
+    | inr taken ↦ taken.1.cat
+  ]
+
+  -- where there was none, main was not called
+  pub forgot_none : (left : List NewFile) (new : Journal) → files ≡ [] → AreDiscarded disk plugin old.cat files from main_old main_new stores_old stores_new old (Ok left) new → main_new ≡ main_old
+  forgot_none left new none swept = elim swept.ends.2 [
+    | inl still ↦ still.3
+    | inr taken ↦ absurd (taken.0 (no_parts files swept.gone swept.left none swept.split))
+  ]
 
   -- it failed
   pub forgot_err : (e : JournalError) (ending : Ending) (new : Journal) (server : Server) → ending ≡ ending_of e

@@ -4,13 +4,22 @@ use Rattle.grid_outside.specs.Device.{IsSettled, Leaves}
 use Rattle.grid_outside.specs.Disk.{DiskState}
 use Rattle.grid_model.specs.Rows.{Cat}
 use Rattle.grid_model.specs.Applying.{apply_all}
+use Rattle.grid_model.specs.Meanings.{gives}
+use Rattle.grid_model.specs.Runs.{Request, does}
+use Rattle.grid_model.specs.Working.{Done}
 use Rattle.grid_model.specs.declared.deltas.OrphanRow.{OrphanRow}
+use Rattle.grid_model.specs.declared.marks.Mark.{Mark}
 use Rattle.grid_model.specs.declared.plans.NewFile.{NewFile}
-use Rattle.grid_journal.specs.Stands.{StandsEither}
+use Rattle.grid_journal.specs.Stands.{StandsEither, StandsFor}
 use Rattle.file_laws.specs.Removals.{no_orphans}
 use Rattle.grid_deed.specs.Held.{IsHeld}
+use Rattle.grid_headline.specs.Files.{KeepsReplicas}
+use Rattle.grid_headline.specs.Worlds.{World}
+use Rattle.run_laws.specs.Silent.{LeavesFew}
+use Rattle.run_laws.specs.Steps.{IsLike}
 use Rattle.cmd_run.specs.declared.server.Server.{Server}
 use Rattle.cmd_run.specs.declared.server.Ending.{Ending}
+use Rattle.cmd_run.specs.Fits.{state_of, FitsMain}
 use Rattle.cmd_run.specs.Keeps.{KeepEnds}
 
 -- the files of the orphans, in the order of their numbers
@@ -31,3 +40,25 @@ pub record ForgetsOrphans (kept : Cat) (from : ℕ) (main_old main_new : DiskSta
   pub applied : apply_all kept (no_orphans gone) ≡ Ok after
   pub ends : ForgetEnds after main_old main_new result new
   pub leaves : IsTrue main_old.tells → IsSettled main_old → Leaves from (StandsEither kept after) main_new
+
+-- Nothing of the catalogue is seen to be other than before, and each file of a replica that was named is named.
+pub record StaysLike (before c : Cat) : Type 0 where
+  pub like : IsLike before c
+  pub keeps : KeepsReplicas before c
+
+-- at each moment after so many main has such a catalogue
+abbrev pub LeavesLike : Cat → ℕ → DiskState → DiskState → Type 0
+LeavesLike before from old new = IsTrue old.tells → IsSettled old → Leaves from (λ main. (c : Cat) × StandsFor main c × StaysLike before c) new
+
+-- Main and memory have a catalogue of which nothing is seen to be other than before, and the server stands for the same state.
+pub record StandsAsBefore (main_old main_new : DiskState) (before after : Server) : Type 0 where
+  pub like : IsLike before.store.cat after.store.cat
+  pub state : state_of after ≡ state_of before
+  pub fits : FitsMain main_new after
+  pub settled : IsTrue main_old.tells → IsSettled main_old → IsSettled main_new
+
+-- A request that is a sweep and was answered ok leaves few orphans, whatever its marks are.
+abbrev pub SweepLeavesFew : {B : Type 0} → World B → World B → Server → Request → Result ⊤ Ending → Server → Type 0
+SweepLeavesFew old new before request (Ok done) after = (marks : List Mark) (d : Done) → does (state_of before) request marks ≡ gives d
+    → LeavesFew old new request d after.store.cat
+SweepLeavesFew old new before request (Err e) after = Unit {0}

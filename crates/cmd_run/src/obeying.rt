@@ -9,6 +9,7 @@ ghost use Rattle.run_laws.specs.Steps.{RemovesNoFile};
 ghost use Rattle.cmd_run.specs.Around.{around};
 ghost use Rattle.cmd_run.specs.Asking.{AsksForRequest, IsForm, IsLineOf};
 ghost use Rattle.cmd_run.specs.Passes.{AreReady, CallsPass};
+ghost use Rattle.cmd_run.specs.Sweeping.{SweepLeavesFew};
 
 use crate::answers::well;
 use crate::tagging::TagLine;
@@ -25,8 +26,9 @@ impl Server {
 
     /// Handles the request of this number: it is decided over the rows, done, kept and answered. Where its words were
     /// refused, that is answered. `body` is the request's body, and empty where its verb has none or promised more bytes
-    /// than an object may have. `line` is its line, which is noted while a deed of it runs. `Disk` and `Sink` come only where that device failed, and `Worn` only where numbers of vault
-    /// files or the room of the log have run out; a run ends after any error. Draws at most 2^72 moments.
+    /// than an object may have. `line` is its line, which is noted while a deed of it runs. `Disk` and `Sink` come only where that
+    /// device failed, and `Worn` only where numbers of vault files or the room of the log have run out; a run ends after any error.
+    /// Draws at most 2^72 moments.
     pub fn command<D: Disk, K: Sink, A: Ambient, P: Plugin>(
         &mut self,
         alloc: Global,
@@ -47,6 +49,11 @@ impl Server {
             Obeys (around D.disk A.ambient P.plugin outside.old (K.sink sink.old) source)
             (around D.disk A.ambient P.plugin outside.new (K.sink sink.new) source)
             self.old number request result self.new }
+        // A request that is a sweep leaves few orphans.
+        ensures few { (source : SourceState) (request : RequestOf) → AsksForRequest (state_of self.old) asked body request →
+            SweepLeavesFew (around D.disk A.ambient P.plugin outside.old (K.sink sink.old) source)
+            (around D.disk A.ambient P.plugin outside.new (K.sink sink.new) source)
+            self.old request result self.new }
         ensures worn { (source : SourceState) (request : RequestOf) → AsksForRequest (state_of self.old) asked body request →
             IsWorn (around D.disk A.ambient P.plugin outside.new (K.sink sink.new) source) self.old request result }
         ensures call { (l : TextOf) → IsLineOf asked line l → NamesItsCall l outside.old.moments (D.disk outside.old.main) (D.disk outside.new.main) }

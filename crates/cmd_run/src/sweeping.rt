@@ -1,22 +1,24 @@
-ghost use Rattle.std.specs.Prelude.{◌≡◌, ◌+◌, ◌≤◌, ◌<◌, ◌^◌, All, IfOk, IsTrue, IsErrOf, Ok, length, vec_len};
+ghost use Rattle.std.specs.Prelude.{◌≡◌, ℕ, ◌+◌, ◌≤◌, ◌<◌, ◌^◌, [], IfOk, IsTrue, IsErrOf, OnOk, Err, Ok, length, vec_len};
 ghost use Rattle.grid_outside.specs.Source.{SourceState};
 ghost use Rattle.grid_model.specs.Orders.{sweeps};
 ghost use Rattle.grid_model.specs.Runs.{Request};
 ghost use Rattle.grid_model.specs.Working.{well};
-ghost use Rattle.run_laws.specs.Steps.{RemovesNoFile};
-ghost use Rattle.file_laws.specs.Removals.{AreOrphans, HaveOwnNames};
+ghost use Rattle.grid_journal.specs.Journal.{ClosesAt};
+ghost use Rattle.grid_vault.specs.Removal.{FewerThanFaults};
 ghost use Rattle.grid_deed.specs.Frame.{IsReady, Frame};
 ghost use Rattle.grid_deed.specs.Safe.{KeepWhole};
+ghost use Rattle.grid_headline.specs.Ends.{HasFewOrphans};
+ghost use Rattle.run_laws.specs.Steps.{RemovesNoFile};
 ghost use Rattle.cmd_run.specs.Around.{around};
 ghost use Rattle.cmd_run.specs.Passes.{AreReady, CallsPass};
-ghost use Rattle.cmd_run.specs.Sweeping.{ForgetsOrphans, orphan_files};
+ghost use Rattle.cmd_run.specs.Sweeping.{ForgetsOrphans, LeavesLike, StandsAsBefore, SweepLeavesFew, orphan_files};
 
 use crate::answers::{end_text, put_text, well};
 use crate::keeping::ending_of;
 use crate::{Ending, Server};
 use grid_deed::discard_all;
 use grid_model::{End, NewFile, NewFiles, Refusal};
-use grid_outside::{Ambient, Disk, Outside, Plugin, Sink};
+use grid_outside::{Ambient, Disk, Outside, Plugin, Sink, Wear};
 use grid_tables::Tables;
 use plan_base::is_admin;
 use std::alloc::{AllocError, Global};
@@ -47,6 +49,10 @@ impl Server {
             Obeys (around D.disk A.ambient P.plugin outside.old (K.sink sink.old) source)
             (around D.disk A.ambient P.plugin outside.new (K.sink sink.new) source)
             self.old number request result self.new }
+        ensures few { (source : SourceState) (request : Request) → request ≡ Ok (session, sweeps) →
+            SweepLeavesFew (around D.disk A.ambient P.plugin outside.old (K.sink sink.old) source)
+            (around D.disk A.ambient P.plugin outside.new (K.sink sink.new) source)
+            self.old request result self.new }
         ensures worn { (source : SourceState) (request : Request)
             → IsWorn (around D.disk A.ambient P.plugin outside.new (K.sink sink.new) source) self.old request result }
         ensures none_waits { HasNoneWaiting outside.old.moments (D.disk outside.old.main) (D.disk outside.new.main) }
@@ -89,6 +95,8 @@ impl Server {
             Obeys (around D.disk A.ambient P.plugin outside.old (K.sink sink.old) source)
             (around D.disk A.ambient P.plugin outside.new (K.sink sink.new) source)
             self.old number request result self.new }
+        ensures few { (source : SourceState) → OnOk result (HasFewOrphans (around D.disk A.ambient P.plugin outside.old (K.sink sink.old) source)
+            (around D.disk A.ambient P.plugin outside.new (K.sink sink.new) source) self.new.store.cat) }
         ensures worn { (source : SourceState) (request : Request)
             → IsWorn (around D.disk A.ambient P.plugin outside.new (K.sink sink.new) source) self.old request result }
         ensures none_waits { HasNoneWaiting outside.old.moments (D.disk outside.old.main) (D.disk outside.new.main) }
@@ -98,22 +106,49 @@ impl Server {
             (record { outside = outside.old; sink = sink.old }) (record { outside = outside.new; sink = sink.new }) }
         ensures drawn { outside.new.moments ≤ outside.old.moments + 2 ^ 50 }
     {
+        let Ok(text) = end_text(alloc, number, well(alloc)) else {
+            return Err(Ending::Memory);
+        };
+        match self.sweep_orphans(alloc, outside) {
+            Ok(()) => put_text(&mut outside.moments, sink, text.as_slice()),
+            Err(ending) => Err(ending),
+        }
+    }
+
+    /// Has the files of all orphans removed, and forgets those that are gone, whichever stores fail; nothing is said. Where there
+    /// are no orphans main is left as it was. `Disk` comes only where main failed, `Worn` only where the room of the log has run
+    /// out, and `Sink` never. Draws at most 2^40 moments.
+    pub fn sweep_orphans<D: Disk, A: Ambient, P: Plugin>(
+        &mut self,
+        alloc: Global,
+        outside: &mut Outside<D, A, P>,
+    ) -> Result<(), Ending>
+        requires fits { FitsMain (D.disk outside.old.main) self.old }
+        requires slots { self.old.store.cat.stores ≡ vec_len outside.old.stores }
+        requires ready { IsReady D.disk P.plugin (2 ^ 40) outside.old }
+        ensures stands { OnOk result (StandsAsBefore (D.disk outside.old.main) (D.disk outside.new.main) self.old self.new) }
+        ensures few { OnOk result (FewerThanFaults P.plugin (orphan_files self.new.store.cat) outside.old.stores.items outside.new.stores.items) }
+        ensures still { self.old.store.cat.orphans ≡ [] → OnOk result (outside.new.main ≡ outside.old.main) }
+        ensures sessions { self.new.sessions ≡ self.old.sessions }
+        ensures leaves { LeavesLike self.old.store.cat outside.old.moments (D.disk outside.old.main) (D.disk outside.new.main) }
+        ensures whole { KeepWhole P.plugin outside.old.moments self.old.store.cat
+            (D.disk outside.old.main) (D.disk outside.new.main) outside.old.stores.items outside.new.stores.items }
+        ensures frame { Frame D.disk P.plugin (IsErrOf result Ending.Disk) outside.old outside.new }
+        ensures worn { (what : Wear) (place : ℕ) → result ≡ Err (Ending.Worn what place) →
+            (what ≡ Wear.Log) × (2 ^ 62 < place) × (IsTrue (D.disk outside.old.main).tells → ClosesAt (D.disk outside.new.main).holds place) }
+        ensures not_sink { ¬ IsErrOf result Ending.Sink }
+        ensures drawn { outside.new.moments ≤ outside.old.moments + 2 ^ 40 }
+    {
         let Ok(files) = orphans_of(alloc, self.store.tables()) else {
             return Err(Ending::Memory);
         };
         if files.as_slice().len() > MANY {
             return Err(Ending::Memory);
         }
-        let Ok(text) = end_text(alloc, number, well(alloc)) else {
-            return Err(Ending::Memory);
-        };
-        match self.forget(alloc, outside, &files) {
-            Ok(()) => put_text(&mut outside.moments, sink, text.as_slice()),
-            Err(ending) => Err(ending),
-        }
+        self.forget(alloc, outside, &files)
     }
 
-    // Has these orphans' files removed, and takes the rows of those that are gone away.
+    // Has the files of the orphans, which are these, removed, and takes the rows of those that are gone away.
     fn forget<D: Disk, A: Ambient, P: Plugin>(
         &mut self,
         alloc: Global,
@@ -121,11 +156,12 @@ impl Server {
         files: &NewFiles,
     ) -> Result<(), Ending>
         requires fits { FitsMain (D.disk outside.old.main) self.old }
-        requires orphans { AreOrphans self.old.store.cat files.now }
-        requires names { HaveOwnNames files.now }
-        requires slots { All (λ file. file.slot < vec_len outside.old.stores) files.now }
+        requires all { files.now ≡ orphan_files self.old.store.cat }
+        requires slots { self.old.store.cat.stores ≡ vec_len outside.old.stores }
         requires ready { IsReady D.disk P.plugin (length files.now + 4) outside.old }
         ensures forgets { ForgetsOrphans self.old.store.cat outside.old.moments (D.disk outside.old.main) (D.disk outside.new.main) result self.new }
+        ensures few { OnOk result (FewerThanFaults P.plugin (orphan_files self.new.store.cat) outside.old.stores.items outside.new.stores.items) }
+        ensures still { self.old.store.cat.orphans ≡ [] → OnOk result (outside.new.main ≡ outside.old.main) }
         ensures whole { KeepWhole P.plugin outside.old.moments self.old.store.cat
             (D.disk outside.old.main) (D.disk outside.new.main) outside.old.stores.items outside.new.stores.items }
         ensures frame { Frame D.disk P.plugin (IsErrOf result Ending.Disk) outside.old outside.new }

@@ -16,6 +16,8 @@ use Rattle.cmd_run.specs.declared.tagging.TagLine.{TagLine}
 use Rattle.cmd_run.specs.Asking.{AsksForRequest, FitsTag, HasGoodWords, IsForm, IsLineOf, NamesSome, QueryOf, ShowOf, TagOf}
 use Rattle.cmd_run.specs.Fits.{state_of}
 use Rattle.cmd_run.specs.Obeys.{NamesItsCall, SaysOnly}
+use Rattle.cmd_run.specs.Around.{around}
+use Rattle.cmd_run.proofs.SweptFew.{few_other, few_refused, not_sweep}
 use Rattle.cmd_run.proofs.Remembering.{call_none, call_of, names_none, no_source, remembers_none}
 use Rattle.cmd_run.proofs.LoginLemmas.{says_refused, says_quit}
 use Rattle.cmd_run.proofs.WorkingLemmas.{verb_asks, asks_other}
@@ -381,6 +383,9 @@ returns-in_default g c =
     record {
       obeys = λ source request asks. w.obeys source request
           (other request c.in-Ok.request c.in-Ok.is n.not-Login n.not-Logout n.not-Quit n.not-Sweep n.not-Ls n.not-Put n.not-Get n.not-AddMeta n.not-RmMeta n.not-LsMeta n.not-Repl n.not-ChkSum n.not-Query asks);
+      few = λ source request asks. few_other (around g.D.Disk.disk g.A.Ambient.ambient g.P.Plugin.plugin c.args.outside.now (g.K.Sink.sink c.args.sink.now) source)
+          (around g.D.Disk.disk g.A.Ambient.ambient g.P.Plugin.plugin c.works.new.outside (g.K.Sink.sink c.works.new.sink) source)
+          c.args.self.now request c.works.result c.works.new.self c.args.asked c.args.body asks c.in-Ok.request c.in-Ok.request.verb c.in-Ok.is refl (not_sweep c.in-Ok.request.verb n.not-Sweep);
       worn = λ source request asks. w.worn source request;
       call = λ l its. call_none l c.args.self.now.store.cat c.args.outside.now.moments (g.D.Disk.disk c.args.outside.now.main) (g.D.Disk.disk c.works.new.outside.main) w.remembers;
       remembers = λ request asks no_sweep. remembers_none c.args.line c.args.self.now.store.cat c.args.outside.now.moments (g.D.Disk.disk c.args.outside.now.main) (g.D.Disk.disk c.works.new.outside.main) w.remembers;
@@ -394,3 +399,98 @@ returns-in_default g c =
 
 pub returns-in-Sweep-clause-call : goal.returns-in-Sweep-clause-call
 returns-in-Sweep-clause-call g c = λ l its. names_none l c.args.outside.now.moments (g.D.Disk.disk c.args.outside.now.main) (g.D.Disk.disk c.sweep.new.outside.main) c.sweep.ensures.none_waits
+
+pub returns-in-Err-clause-few : goal.returns-in-Err-clause-few
+returns-in-Err-clause-few g c = λ source request asks.
+    few_refused (around g.D.Disk.disk g.A.Ambient.ambient g.P.Plugin.plugin c.args.outside.now (g.K.Sink.sink c.args.sink.now) source)
+    (around g.D.Disk.disk g.A.Ambient.ambient g.P.Plugin.plugin c.say.new.outside (g.K.Sink.sink c.say.new.sink) source)
+    c.args.self.now request c.say.result c.args.self.now c.args.asked c.args.body asks c.in-Err.refusal c.in-Err.is
+
+pub returns-in-Login-clause-few : goal.returns-in-Login-clause-few
+returns-in-Login-clause-few g c = λ source request asks.
+    let p = c.in-Login in
+    few_other (around g.D.Disk.disk g.A.Ambient.ambient g.P.Plugin.plugin c.args.outside.now (g.K.Sink.sink c.args.sink.now) source)
+    (around g.D.Disk.disk g.A.Ambient.ambient g.P.Plugin.plugin c.login.new.outside (g.K.Sink.sink c.login.new.sink) source)
+    c.args.self.now request c.login.result c.login.new.self c.args.asked c.args.body asks c.in-Ok.request (verb.Login p.user) c.in-Ok.is p.is refl
+
+pub returns-in-Logout-clause-few : goal.returns-in-Logout-clause-few
+returns-in-Logout-clause-few g c = λ source request asks.
+    let p = c.in-Logout in
+    few_other (around g.D.Disk.disk g.A.Ambient.ambient g.P.Plugin.plugin c.args.outside.now (g.K.Sink.sink c.args.sink.now) source)
+    (around g.D.Disk.disk g.A.Ambient.ambient g.P.Plugin.plugin c.logout.new.outside (g.K.Sink.sink c.logout.new.sink) source)
+    c.args.self.now request c.logout.result c.logout.new.self c.args.asked c.args.body asks c.in-Ok.request (verb.Logout) c.in-Ok.is p.is refl
+
+pub returns-in-Quit-clause-few : goal.returns-in-Quit-clause-few
+returns-in-Quit-clause-few g c = λ source request asks.
+    let p = c.in-Quit in
+    few_other (around g.D.Disk.disk g.A.Ambient.ambient g.P.Plugin.plugin c.args.outside.now (g.K.Sink.sink c.args.sink.now) source)
+    (around g.D.Disk.disk g.A.Ambient.ambient g.P.Plugin.plugin c.say-in-Quit.new.outside (g.K.Sink.sink c.say-in-Quit.new.sink) source)
+    c.args.self.now request c.say-in-Quit.result c.args.self.now c.args.asked c.args.body asks c.in-Ok.request (verb.Quit) c.in-Ok.is p.is refl
+
+pub returns-in-Put-clause-few : goal.returns-in-Put-clause-few
+returns-in-Put-clause-few g c = λ source request asks.
+    let p = c.in-Put in
+    few_other (around g.D.Disk.disk g.A.Ambient.ambient g.P.Plugin.plugin c.args.outside.now (g.K.Sink.sink c.args.sink.now) source)
+    (around g.D.Disk.disk g.A.Ambient.ambient g.P.Plugin.plugin c.put_line.new.outside (g.K.Sink.sink c.put_line.new.sink) source)
+    c.args.self.now request c.put_line.result c.put_line.new.self c.args.asked c.args.body asks c.in-Ok.request (verb.Put p.path p.resource p.mode p.count) c.in-Ok.is p.is refl
+
+pub returns-in-Repl-clause-few : goal.returns-in-Repl-clause-few
+returns-in-Repl-clause-few g c = λ source request asks.
+    let p = c.in-Repl in
+    few_other (around g.D.Disk.disk g.A.Ambient.ambient g.P.Plugin.plugin c.args.outside.now (g.K.Sink.sink c.args.sink.now) source)
+    (around g.D.Disk.disk g.A.Ambient.ambient g.P.Plugin.plugin c.repl.new.outside (g.K.Sink.sink c.repl.new.sink) source)
+    c.args.self.now request c.repl.result c.repl.new.self c.args.asked c.args.body asks c.in-Ok.request (verb.Repl p.path p.resource) c.in-Ok.is p.is refl
+
+pub returns-in-ChkSum-clause-few : goal.returns-in-ChkSum-clause-few
+returns-in-ChkSum-clause-few g c = λ source request asks.
+    let p = c.in-ChkSum in
+    few_other (around g.D.Disk.disk g.A.Ambient.ambient g.P.Plugin.plugin c.args.outside.now (g.K.Sink.sink c.args.sink.now) source)
+    (around g.D.Disk.disk g.A.Ambient.ambient g.P.Plugin.plugin c.chksum.new.outside (g.K.Sink.sink c.chksum.new.sink) source)
+    c.args.self.now request c.chksum.result c.chksum.new.self c.args.asked c.args.body asks c.in-Ok.request (verb.ChkSum p.path) c.in-Ok.is p.is refl
+
+pub returns-in-AddMeta-clause-few : goal.returns-in-AddMeta-clause-few
+returns-in-AddMeta-clause-few g c = λ source request asks.
+    let p = c.in-AddMeta in
+    few_other (around g.D.Disk.disk g.A.Ambient.ambient g.P.Plugin.plugin c.args.outside.now (g.K.Sink.sink c.args.sink.now) source)
+    (around g.D.Disk.disk g.A.Ambient.ambient g.P.Plugin.plugin c.tag.new.outside (g.K.Sink.sink c.tag.new.sink) source)
+    c.args.self.now request c.tag.result c.tag.new.self c.args.asked c.args.body asks c.in-Ok.request (verb.AddMeta p.item p.name p.attribute p.value p.unit) c.in-Ok.is p.is refl
+
+pub returns-in-RmMeta-clause-few : goal.returns-in-RmMeta-clause-few
+returns-in-RmMeta-clause-few g c = λ source request asks.
+    let p = c.in-RmMeta in
+    few_other (around g.D.Disk.disk g.A.Ambient.ambient g.P.Plugin.plugin c.args.outside.now (g.K.Sink.sink c.args.sink.now) source)
+    (around g.D.Disk.disk g.A.Ambient.ambient g.P.Plugin.plugin c.tag-in-RmMeta.new.outside (g.K.Sink.sink c.tag-in-RmMeta.new.sink) source)
+    c.args.self.now request c.tag-in-RmMeta.result c.tag-in-RmMeta.new.self c.args.asked c.args.body asks c.in-Ok.request (verb.RmMeta p.item p.name p.attribute p.value p.unit) c.in-Ok.is p.is refl
+
+pub returns-in-LsMeta-clause-few : goal.returns-in-LsMeta-clause-few
+returns-in-LsMeta-clause-few g c = λ source request asks.
+    let p = c.in-LsMeta in
+    few_other (around g.D.Disk.disk g.A.Ambient.ambient g.P.Plugin.plugin c.args.outside.now (g.K.Sink.sink c.args.sink.now) source)
+    (around g.D.Disk.disk g.A.Ambient.ambient g.P.Plugin.plugin c.show_tags.new.outside (g.K.Sink.sink c.show_tags.new.sink) source)
+    c.args.self.now request c.show_tags.result c.show_tags.new.self c.args.asked c.args.body asks c.in-Ok.request (verb.LsMeta p.item p.name) c.in-Ok.is p.is refl
+
+pub returns-in-Query-clause-few : goal.returns-in-Query-clause-few
+returns-in-Query-clause-few g c = λ source request asks.
+    let p = c.in-Query in
+    few_other (around g.D.Disk.disk g.A.Ambient.ambient g.P.Plugin.plugin c.args.outside.now (g.K.Sink.sink c.args.sink.now) source)
+    (around g.D.Disk.disk g.A.Ambient.ambient g.P.Plugin.plugin c.query.new.outside (g.K.Sink.sink c.query.new.sink) source)
+    c.args.self.now request c.query.result c.query.new.self c.args.asked c.args.body asks c.in-Ok.request (verb.Query p.text) c.in-Ok.is p.is refl
+
+pub returns-in-Ls-clause-few : goal.returns-in-Ls-clause-few
+returns-in-Ls-clause-few g c = λ source request asks.
+    let p = c.in-Ls in
+    few_other (around g.D.Disk.disk g.A.Ambient.ambient g.P.Plugin.plugin c.args.outside.now (g.K.Sink.sink c.args.sink.now) source)
+    (around g.D.Disk.disk g.A.Ambient.ambient g.P.Plugin.plugin c.list.new.outside (g.K.Sink.sink c.list.new.sink) source)
+    c.args.self.now request c.list.result c.args.self.now c.args.asked c.args.body asks c.in-Ok.request (verb.Ls p.path) c.in-Ok.is p.is refl
+
+pub returns-in-Get-clause-few : goal.returns-in-Get-clause-few
+returns-in-Get-clause-few g c = λ source request asks.
+    let p = c.in-Get in
+    few_other (around g.D.Disk.disk g.A.Ambient.ambient g.P.Plugin.plugin c.args.outside.now (g.K.Sink.sink c.args.sink.now) source)
+    (around g.D.Disk.disk g.A.Ambient.ambient g.P.Plugin.plugin c.get_for.new.outside (g.K.Sink.sink c.get_for.new.sink) source)
+    c.args.self.now request c.get_for.result c.get_for.new.self c.args.asked c.args.body asks c.in-Ok.request (verb.Get p.path p.resource) c.in-Ok.is p.is refl
+
+pub returns-in-Sweep-clause-few : goal.returns-in-Sweep-clause-few
+returns-in-Sweep-clause-few g c = λ source request asks.
+    let its = verb_asks (state_of c.args.self.now) c.args.asked c.args.body request c.in-Ok.request verb.Sweep c.in-Ok.is c.in-Sweep.is asks in
+    c.sweep.ensures.few source request (its.1 ∙ ap (λ (o : Order). Ok (c.in-Ok.request.session, o)) its.2.1)

@@ -14,6 +14,8 @@ use Rattle.cmd_run.specs.Fits.{state_of}
 use Rattle.cmd_run.specs.Obeys.{SaysOnly}
 use Rattle.cmd_run.proofs.LoginLemmas.{says_no_login, says_swept, says_not_admin}
 use Rattle.cmd_run.proofs.NotRefused.{well_not_refused}
+use Rattle.cmd_run.specs.Around.{around}
+use Rattle.cmd_run.proofs.SweptFew.{refused_few, swept_few}
 use Rattle.cmd_run.proofs.server.Server.sweep.Goals as goal
 
 pub returns-in_default-clause-obeys : goal.returns-in_default-clause-obeys
@@ -66,3 +68,23 @@ returns-clause-idle g c = λ request is refused.
     let admin = subst A c.tables.ensures (sym c.is_admin.ensures ∙ c.if-not-is_admin.false) in
     let Q : Request → Type 0 = λ r. SaysOnly (state_of s) r well (state_of s) in
     absurd (well_not_refused (state_of s) request (subst Q (sym is) (says_swept s c.args.session user (sym c.in-Some.ensures) admin)) refused)
+
+pub returns-in_default-clause-few : goal.returns-in_default-clause-few
+returns-in_default-clause-few g c = λ source request is.
+    let s = c.args.self.now in
+    refused_few (around g.D.Disk.disk g.A.Ambient.ambient g.P.Plugin.plugin c.args.outside.now (g.K.Sink.sink c.args.sink.now) source) (around g.D.Disk.disk g.A.Ambient.ambient g.P.Plugin.plugin c.say.new.outside (g.K.Sink.sink c.say.new.sink) source) s c.args.session request is
+    refusal.NoLogin (state_of s) (says_no_login s c.args.session sweeps (sym c.in_default.ensures) refl) c.say.result s
+
+pub returns-then-not-is_admin-clause-few : goal.returns-then-not-is_admin-clause-few
+returns-then-not-is_admin-clause-few g c = λ source request is.
+    let s = c.args.self.now in
+    let user = c.in-Some.user in
+    let A : Cat → Type 0 = λ x. is_admin (get (grid_of x).users (user_name x user)) ≡ false in
+    let other = subst A c.tables.ensures (sym c.is_admin.ensures ∙ c.if-not-is_admin.true) in
+    refused_few (around g.D.Disk.disk g.A.Ambient.ambient g.P.Plugin.plugin c.args.outside.now (g.K.Sink.sink c.args.sink.now) source) (around g.D.Disk.disk g.A.Ambient.ambient g.P.Plugin.plugin c.say-then-not-is_admin.new.outside (g.K.Sink.sink c.say-then-not-is_admin.new.sink) source) s c.args.session request is
+    refusal.NotAdmin (state_of s) (says_not_admin s c.args.session user (sym c.in-Some.ensures) other) c.say-then-not-is_admin.result s
+
+pub returns-clause-few : goal.returns-clause-few
+returns-clause-few g c = λ source request is.
+    swept_few (around g.D.Disk.disk g.A.Ambient.ambient g.P.Plugin.plugin c.args.outside.now (g.K.Sink.sink c.args.sink.now) source) (around g.D.Disk.disk g.A.Ambient.ambient g.P.Plugin.plugin c.sweep_all.new.outside (g.K.Sink.sink c.sweep_all.new.sink) source) c.args.self.now c.args.session request is
+    c.sweep_all.result c.sweep_all.new.self (c.sweep_all.ensures.few source)
