@@ -1,17 +1,12 @@
 -- A request that is handled behind those that were answered.
-use Rattle.std.proofs.Common.{◌≡◌, ◌⊎◌, inl, inr, ℕ, ◌+◌, ◌<◌, ◌≤◌, Bool, true, false, List, [], ◌∷◌, ◌++◌, length, length-append, refl, sym, ap, ◌∙◌, subst, arith, IsTrue}
-use Rattle.std.specs.Prelude.{Option, Some, None, Result, Ok, Err, ⊤}
+use Rattle.std.proofs.Common.{◌≡◌, ℕ, ◌+◌, List, [], ◌∷◌, ◌++◌, length, subst, IsTrue}
+use Rattle.std.specs.Prelude.{Result, Ok, ⊤}
 use Rattle.std.specs.List.{AllByRecursion}
-use Rattle.grid_outside.specs.Device.{IsSettled}
-use Rattle.grid_outside.specs.Files.{Files}
 use Rattle.grid_model.specs.Names.{Text}
 use Rattle.grid_model.specs.Inputs.{Asked}
 use Rattle.grid_model.specs.Rows.{Cat}
-use Rattle.grid_model.specs.Sessions.{State}
 use Rattle.grid_model.specs.Runs.{Request}
-use Rattle.grid_model.specs.declared.deltas.Pending.{Pending}
 use Rattle.grid_journal.specs.Stands.{Stands, stands as made_of, StandsFor}
-use Rattle.grid_headline.specs.Files.{DisksAreSettled, WereWhole, AllStayWhole, NamesCall}
 use Rattle.grid_headline.specs.Reads.{MeansRequest, EndsInput}
 use Rattle.grid_headline.specs.Worlds.{World}
 use Rattle.run_laws.specs.Sofar.{BeginsPlainly, CallsGoOn, KeepsWhole, Sofar}
@@ -21,6 +16,7 @@ use Rattle.run_laws.proofs.RunLaws.{one_more}
 use Rattle.cmd_run.specs.Asking.{IsLineOf}
 use Rattle.cmd_run.specs.Fits.{FitsMain, state_of}
 use Rattle.cmd_run.specs.Obeys.{Obeys, handled, quiet}
+use Rattle.cmd_run.specs.Sweeping.{SweepLeavesFew}
 use Rattle.cmd_run.specs.declared.server.Server.{Server}
 use Rattle.cmd_run.specs.declared.server.Ending.{Ending}
 use Rattle.run_laws.specs.declared.around.Around.{Around}
@@ -71,9 +67,10 @@ obeys_at old new before m n request r after e o = let O : ℕ → Type 0 = λ k.
 module _ {B : Type 0} {old mid new : World B} {found : Cat} {before : Server} {asked : List Asked} {a : Asked} {request : Request} (after : Server) (plain : BeginsPlainly old found)
     (so : Sofar old mid found before.store.cat (state_of before) asked) (goes : CallsGoOn old.source.left mid new before.store.cat) (notes : NotesLine a.line mid new) (means : MeansRequest (state_of before) a request) where
   -- it was handled whole, and does not end the input
-  pub answered_more : (done : ⊤) → Obeys mid new before (length asked + 1) request (Ok done) after → ¬ EndsInput a → Sofar old new found after.store.cat (state_of after) (asked ++ a ∷ [])
-  answered_more done (handled step ends) not = one_more plain so goes notes means not step ends.0
-  answered_more done (quiet ending e q) not = absurd (cc e)
+  pub answered_more : (done : ⊤) → Obeys mid new before (length asked + 1) request (Ok done) after → SweepLeavesFew mid new before request (Ok done) after → ¬ EndsInput a
+      → Sofar old new found after.store.cat (state_of after) (asked ++ a ∷ [])
+  answered_more done (handled step ends) few not = one_more plain so goes notes means not step (few step.marks step.d step.does_so) ends.0
+  answered_more done (quiet ending e q) few not = absurd (cc e)
 
 -- it fits, and the catalogue is of as many stores
 pub fits_more : {B : Type 0} (old new : World B) (before : Server) (n : ℕ) (request : Request) (done : ⊤) (after : Server) → Obeys old new before n request (Ok done) after

@@ -1,12 +1,10 @@
 -- What a request that was heard asks for.
-use Rattle.std.proofs.Common.{◌≡◌, ℕ, ◌<◌, ◌≤◌, Bool, true, false, List, [], ◌∷◌, length, arith, refl, sym, ap, ◌∙◌, subst}
+use Rattle.std.proofs.Common.{◌≡◌, ℕ, ◌<◌, Bool, true, false, List, [], ◌∷◌, arith, refl, sym, ap, ◌∙◌, subst}
 use Rattle.std.specs.Bool.{MatchBool}
-use Rattle.std.specs.Prelude.{nat_le, nat_lt, Option, Some, None, Result, Ok, Err, IsTrue}
-use Rattle.std.proofs.lemmas.Bool.{ltb-true, le-leb}
+use Rattle.std.specs.Prelude.{nat_lt, Option, Some, None, Result, Ok, Err, IsTrue}
+use Rattle.std.proofs.lemmas.Bool.{ltb-true}
 use Rattle.grid_model.specs.Names.{Text}
-use Rattle.grid_model.specs.Limits.{object_size}
 use Rattle.grid_model.specs.Writable.{is_word}
-use Rattle.grid_model.specs.Inputs.{Asked}
 use Rattle.grid_model.specs.Orders.{Order, quits}
 use Rattle.grid_model.specs.Sessions.{State}
 use Rattle.grid_model.specs.Runs as runs
@@ -17,11 +15,11 @@ use Rattle.grid_model.specs.declared.refusal.Refusal.{Refusal}
 use Rattle.grid_model.specs.declared.refusal.Refusal.TheVariants as refusal
 use Rattle.cmd_read.specs.Reading.{Reads, as_session, session_of, ReadsBehind, ReadsIn}
 use Rattle.cmd_read.specs.Table.{number_of}
-use Rattle.cmd_read.specs.Orders.{refusal_of, asks_for as reads_so, MeansOrder as MeansBy}
+use Rattle.cmd_read.specs.Orders.{refusal_of, asks_for as reads_so}
 use Rattle.cmd_read.specs.declared.error.ReadError.{ReadError}
 use Rattle.cmd_read.specs.declared.error.ReadError.TheVariants as error
 use Rattle.grid_headline.specs.Reads.{texts, is_built, MeansRequest, EndsInput}
-use Rattle.req_lines.specs.Hearing.{IsReadAs, a_request, cut_short, wrong_words, no_words, too_long, held_of, kept, KeepsLine}
+use Rattle.req_lines.specs.Hearing.{IsReadAs, a_request, cut_short, wrong_words, no_words, too_long, held_of, KeepsLine}
 use Rattle.req_lines.proofs.AskingLemmas.{asks_for, asks_refused, asks_unbuilt}
 use Rattle.req_lines.proofs.LineBytes.{line_is_word}
 use Rattle.req_lines.proofs.ReadingOnce.{IsReadAs-unique}

@@ -1,21 +1,17 @@
 -- How a run ends after a turn.
-use Rattle.std.proofs.Common.{append_assoc, ◌≡◌, ◌⊎◌, inl, inr, ℕ, ◌+◌, ◌-◌, ◌^◌, ◌<◌, ◌≤◌, Bool, true, false, List, [], ◌∷◌, ◌++◌, length, length-append, refl, sym, ap, ◌∙◌, subst, arith, IsTrue}
-use Rattle.std.specs.Prelude.{Option, Some, None, Result, Ok, Err, ⊤, ◌||◌}
+use Rattle.std.proofs.Common.{append_assoc, ◌≡◌, ◌⊎◌, inl, ℕ, ◌+◌, List, [], ◌∷◌, ◌++◌, length, length-append, refl, sym, ap, ◌∙◌, arith, IsTrue}
+use Rattle.std.specs.Prelude.{Some, Result, Ok, Err, ⊤}
 use Rattle.std.proofs.lemmas.List.{append-nil}
 use Rattle.std.specs.List.{AllByRecursion}
 use Rattle.grid_outside.specs.Fault.{Rose}
 use Rattle.grid_outside.specs.Source.{SourceState}
-use Rattle.grid_outside.specs.declared.outside.Wear.{Wear}
 use Rattle.grid_outside.specs.declared.outside.Wear.TheVariants as wear
 use Rattle.grid_model.specs.Names.{Text}
-use Rattle.grid_model.specs.Inputs.{Asked, Takes}
+use Rattle.grid_model.specs.Inputs.{Asked}
 use Rattle.grid_model.specs.Rows.{Cat}
 use Rattle.grid_model.specs.Sessions.{State}
 use Rattle.grid_model.specs.Runs.{Request}
-use Rattle.grid_journal.specs.Journal.{ClosesAt}
-use Rattle.grid_journal.specs.Stands.{StandsFor}
-use Rattle.grid_headline.specs.Causes.{NoneFailed}
-use Rattle.grid_headline.specs.Ends.{RunEnd, read_all, source_failed, too_long, worn, no_memory, disk_failed, sink_failed, EndsInRequest, EndsAtEnd, ReadsEnded, ReadsMost, Stand}
+use Rattle.grid_headline.specs.Ends.{RunEnd, read_all, worn, no_memory, disk_failed, sink_failed, EndsInRequest, EndsAtEnd, ReadsEnded, ReadsMost}
 use Rattle.grid_headline.specs.Headline.{Serves}
 use Rattle.grid_headline.specs.Reads.{MeansRequest, EndsInput}
 use Rattle.grid_headline.specs.Served.{BeginsWithRequests}
@@ -23,20 +19,20 @@ use Rattle.grid_headline.specs.Worlds.{World}
 use Rattle.run_laws.specs.Ends.{NextMakesFile, StopsSo, IsGoodIfNoneFailed}
 use Rattle.run_laws.specs.Steps.{NotesLine}
 use Rattle.run_laws.specs.Sofar.{BeginsPlainly, CallsGoOn, Sofar}
-use Rattle.run_laws.proofs.RunLaws.{ends_well, ends_idle, ends_quiet, ends_within, ends_with}
+use Rattle.run_laws.proofs.RunLaws.{ends_idle, ends_quiet, ends_within, ends_with}
 use Rattle.req_lines.specs.Reading.{Input}
 use Rattle.req_lines.specs.Hearing.{Stops}
 use Rattle.req_lines.specs.Progress.{HasHeard, HeardAll, HeardPart, HeardMost, HeardWithin}
 use Rattle.cmd_run.specs.Fits.{state_of}
 use Rattle.cmd_run.specs.Obeys.{Obeys, IsWorn, AsksForFile, handled, quiet}
+use Rattle.cmd_run.specs.Sweeping.{SweepLeavesFew}
 use Rattle.cmd_run.specs.declared.server.Server.{Server}
 use Rattle.cmd_run.specs.declared.server.Ending.{Ending}
 use Rattle.cmd_run.specs.declared.server.Ending.TheVariants as ending
 use Rattle.grid_server.specs.Serving.{TookFew}
-use Rattle.grid_server.specs.Turning.{status_of, after}
+use Rattle.grid_server.specs.Turning.{status_of}
 use Rattle.grid_server.specs.RunEnds.{run_end_of}
 use Rattle.grid_server.specs.declared.status.Status.{Status}
-use Rattle.grid_server.specs.declared.status.Status.TheVariants as status
 use Rattle.grid_server.proofs.AnsweredLemmas.{none_end_at}
 
 -- ---- what was read of the input
@@ -104,10 +100,11 @@ module _ {B : Type 0} {old mid new : World B} {found : Cat} {before : Server} {a
     (so : Sofar old mid found before.store.cat (state_of before) asked) (goes : CallsGoOn old.source.left mid new before.store.cat) (notes : NotesLine a.line mid new) (means : MeansRequest (state_of before) a request)
     (first : BeginsWithRequests old.source.left (asked ++ a ∷ [])) where
   -- a request that ended the input was handled whole
-  pub last_answered : (done : ⊤) → Obeys mid new before (length asked + 1) request (Ok done) after → EndsAtEnd (asked ++ a ∷ []) old.source new.source ⊎ EndsInRequest (asked ++ a ∷ []) old.source new.source
+  pub last_answered : (done : ⊤) → Obeys mid new before (length asked + 1) request (Ok done) after → SweepLeavesFew mid new before request (Ok done) after
+      → EndsAtEnd (asked ++ a ∷ []) old.source new.source ⊎ EndsInRequest (asked ++ a ∷ []) old.source new.source
       → Serves old new found read_all
-  last_answered done (handled step ends) reads = ends_with plain so goes notes means step first ends.0 reads (λ none fits. tt)
-  last_answered done (quiet ending e q) reads = absurd (cc e)
+  last_answered done (handled step ends) few reads = ends_with plain so goes notes means step first (few step.marks step.d step.does_so) ends.0 reads (λ none fits. tt)
+  last_answered done (quiet ending e q) few reads = absurd (cc e)
 
   -- something ran out or failed, of which nothing is said
   stopped : (r : Result ⊤ Ending) (e : Ending) → r ≡ Err e → Obeys mid new before (length asked + 1) request r after → BeginsWithRequests old.source.left asked

@@ -9,6 +9,7 @@ pub mod RestLemmas
 pub mod RunLemmas
 pub mod ServingLemmas
 pub mod StatusLemmas
+pub mod SweepingLemmas
 pub mod TaskLemmas
 pub mod TurnLemmas
 pub mod ViewLemmas

@@ -1,5 +1,5 @@
 -- What the beginning of a run leaves.
-use Rattle.std.proofs.Common.{length, ◌-◌, ◌≤◌, inl, inr, sym, ◌≡◌, ◌≢◌, ℕ, ◌+◌, ◌^◌, ◌<◌, Bool, List, [], ◌∷◌, Option, Result, Ok, Err, None, Some, IsTrue, refl, ap, ◌∙◌, subst, true, false, arith}
+use Rattle.std.proofs.Common.{length, ◌-◌, ◌≤◌, inl, inr, sym, ◌≡◌, ◌≢◌, ℕ, ◌+◌, ◌^◌, ◌<◌, Bool, List, [], ◌∷◌, Option, Result, Ok, Err, None, Some, IsTrue, refl, ap, ◌∙◌, subst, arith}
 use Rattle.std.specs.Prelude.{⊤, nat_lt, nat_le, ◌++◌, flat_map, is_some}
 use Rattle.std.proofs.lemmas.Bool.{and_from, lt-ltb, le-leb}
 use Rattle.grid_outside.specs.Device.{IsSettled}

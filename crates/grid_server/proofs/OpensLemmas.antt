@@ -1,5 +1,5 @@
 -- A run that is begun, or not, over a catalogue that was read.
-use Rattle.std.proofs.Common.{◌≡◌, ◌⊎◌, inl, inr, ℕ, ◌+◌, ◌-◌, ◌^◌, ◌<◌, ◌≤◌, List, [], Some, Result, Ok, Err, refl, sym, ap, ◌∙◌, subst, arith, IsTrue}
+use Rattle.std.proofs.Common.{◌≡◌, ◌⊎◌, inl, inr, ℕ, ◌<◌, ◌≤◌, [], Some, Result, Ok, Err, refl, sym, ◌∙◌, subst, arith, IsTrue}
 use Rattle.std.proofs.lemmas.List.{append-nil}
 use Rattle.grid_outside.specs.Device.{IsSettled}
 use Rattle.grid_outside.specs.Sink.{AddsPart}
@@ -17,7 +17,6 @@ use Rattle.grid_deed.proofs.Frames.{goes_nowhere, goes_more}
 use Rattle.grid_deed.proofs.Keeping.{held_stands}
 use Rattle.grid_headline.specs.Ends.{RunEnd, no_memory, disk_failed, sink_failed, worn, HasRunOut, HasOneMore}
 use Rattle.grid_headline.specs.Headline.{Serves}
-use Rattle.grid_headline.specs.Worlds.{World}
 use Rattle.run_laws.specs.declared.around.Around.{Around}
 use Rattle.run_laws.specs.Ends.{StopsSo, IsGoodIfNoneFailed}
 use Rattle.run_laws.specs.Handled.{report_begun, whole_report}
@@ -29,7 +28,7 @@ use Rattle.run_laws.proofs.RunLaws.{ends_before}
 use Rattle.cmd_run.specs.declared.server.Server.{Server}
 use Rattle.grid_server.specs.Opening.{BeginEnds, OpensRun, Outputs}
 use Rattle.grid_server.specs.RunEnds.{run_end_of}
-use Rattle.grid_server.specs.Serving.{Earlier, IsBegun, before}
+use Rattle.grid_server.specs.Serving.{IsOpened}
 use Rattle.grid_outside.specs.declared.outside.Wear.{Wear}
 use Rattle.grid_server.specs.Wearing.{HasWorn}
 use Rattle.grid_server.specs.Views.{Views, world_of}
@@ -64,11 +63,8 @@ module _ {D S K A P : Type 0} (v : Views D S K A P) where
 
 module _ {D S K A P : Type 0} (v : Views D S K A P) (start : Around D S K A P) (main spare : D) (found : Cat) where
   -- what was before main was read
-  abbrev pub earlier : Earlier D K
-  earlier = record { main = main; spare = spare; sink = start.sink; moments = start.outside.moments }
-
   abbrev pub first : Around D S K A P
-  first = before v earlier start
+  first = record start { outside = record start.outside { main = main; spare = spare } }
 
   module _ (main_new spare_new : D) (sink_new : K) (moments_new : ℕ) (plain : BeginsPlainly (world_of v first) found) (order : AreInOrder (world_of v first))
       (looked : Rests (v.disk main) (v.disk start.outside.main)) (spare_looked : Rests (v.disk spare) (v.disk start.outside.spare)) (same : spare_new ≡ start.outside.spare) (drawn : start.outside.moments ≤ moments_new) where
@@ -112,9 +108,9 @@ module _ {D S K A P : Type 0} (v : Views D S K A P) (start : Around D S K A P) (
           → Serves (world_of v first) (world_of v now) found x
       serves_not x stops good = ends_before plain order opens_by stops good
 
-    -- it was begun
-    pub begins_now : (s : Server) → OpensRun found start.outside.moments (outputs v start.outside.main start.sink) (outputs v main_new sink_new) (Ok s) → IsBegun v first now found
-    begins_now s o =
+    -- it was opened
+    pub opens_now : (s : Server) → OpensRun found start.outside.moments (outputs v start.outside.main start.sink) (outputs v main_new sink_new) (Ok s) → IsOpened v first now found
+    opens_now s o =
         let b = o.ends.0 in
         record {
           plain = plain;

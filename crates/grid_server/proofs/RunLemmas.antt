@@ -1,6 +1,6 @@
 -- From the words of the program to the statuses.
-use Rattle.std.proofs.Common.{◌≡◌, ◌⊎◌, inl, inr, ℕ, ◌^◌, ◌<◌, ◌≤◌, List, [], ◌∷◌, ◌++◌, ◌+◌, length, length-append, Result, Ok, Err, IsTrue, arith, refl, sym, subst, ap, ◌∙◌}
-use Rattle.grid_outside.specs.Device.{DeviceState, Looks, IsSettled}
+use Rattle.std.proofs.Common.{◌≡◌, ◌⊎◌, inl, inr, ℕ, ◌^◌, ◌≤◌, List, [], length, length-append, Result, Ok, Err, IsTrue, arith, refl, sym, subst, ap, ◌∙◌}
+use Rattle.grid_outside.specs.Device.{DeviceState}
 use Rattle.grid_outside.specs.Disk.{DiskState}
 use Rattle.grid_outside.specs.Sink.{SinkState}
 use Rattle.grid_outside.specs.Files.{StoreState}

@@ -1,33 +1,30 @@
 -- What a turn does to a run.
-use Rattle.std.proofs.Common.{◌≡◌, ◌⊎◌, inl, inr, ℕ, ◌+◌, ◌*◌, ◌^◌, ◌<◌, ◌≤◌, Bool, true, false, List, [], ◌∷◌, ◌++◌, length, length-append, refl, sym, ap, ◌∙◌, subst, arith, IsTrue}
-use Rattle.std.specs.Prelude.{Option, Some, None, Result, Ok, Err, ⊤, ◌||◌, vec_len}
-use Rattle.grid_outside.specs.Fault.{Rose}
+use Rattle.std.proofs.Common.{◌≡◌, ◌⊎◌, inl, inr, ℕ, ◌+◌, ◌^◌, ◌≤◌, Bool, true, false, List, [], ◌∷◌, ◌++◌, length, length-append, refl, sym, ap, ◌∙◌, subst, arith, IsTrue}
+use Rattle.std.specs.Prelude.{Option, Some, None, Result, Ok, Err, ⊤, ◌||◌}
 use Rattle.grid_outside.specs.declared.outside.Wear.{Wear}
 use Rattle.grid_outside.specs.declared.outside.Wear.TheVariants as wear
 use Rattle.grid_model.specs.Inputs.{Asked}
 use Rattle.grid_model.specs.Rows.{Cat}
-use Rattle.grid_headline.specs.Ends.{RunEnd, read_all, source_failed, too_long, no_memory, worn, ReadsMost, EndsAtEnd, EndsInRequest}
+use Rattle.grid_headline.specs.Ends.{read_all, worn, EndsAtEnd, EndsInRequest}
 use Rattle.grid_headline.specs.Headline.{Serves}
-use Rattle.grid_headline.specs.Reads.{EndsInput}
 use Rattle.grid_headline.specs.Served.{BeginsWithRequests}
-use Rattle.grid_headline.specs.Worlds.{World}
 use Rattle.run_laws.specs.declared.around.Around.{Around}
-use Rattle.run_laws.specs.Sofar.{run_begun, CallsGoOn, Sofar}
+use Rattle.run_laws.specs.Sofar.{CallsGoOn, Sofar}
 use Rattle.run_laws.proofs.BuiltOrders.{removes_nothing}
 use Rattle.run_laws.specs.Steps.{NotesLine}
 use Rattle.run_laws.specs.Went.{AreInOrder}
-use Rattle.run_laws.proofs.RunLaws.{read_on, ends_well, ends_idle}
-use Rattle.req_lines.specs.Hearing.{Hears, HearsNone, GoesOn as GoesPast, BreaksOff, ahead}
-use Rattle.req_lines.specs.Progress.{HasHeard, HeardAll, HeardMost, HeardPart, HeardWithin}
+use Rattle.run_laws.proofs.RunLaws.{read_on}
+use Rattle.req_lines.specs.Hearing.{Hears, ahead}
+use Rattle.req_lines.specs.Progress.{HasHeard, HeardAll}
 use Rattle.req_lines.specs.declared.requests.Heard.{Heard}
-use Rattle.req_lines.proofs.ProgressLemmas.{heard_first, heard_within, heard_ahead, heard_more, heard_last, heard_none, heard_most, heard_part}
-use Rattle.cmd_run.specs.Fits.{FitsMain, state_of}
+use Rattle.req_lines.proofs.ProgressLemmas.{heard_first, heard_ahead, heard_more, heard_last}
+use Rattle.cmd_run.specs.Fits.{state_of}
 use Rattle.cmd_run.specs.Obeys.{Obeys, IsWorn}
+use Rattle.cmd_run.specs.Sweeping.{SweepLeavesFew}
 use Rattle.cmd_run.specs.declared.server.Server.{Server}
 use Rattle.cmd_run.specs.declared.server.Ending.{Ending}
 use Rattle.cmd_run.specs.declared.server.Ending.TheVariants as ending
-use Rattle.grid_server.specs.RunEnds.{run_end_of}
-use Rattle.grid_server.specs.Serving.{Earlier, EndsBegun, IsAfter, IsBegun, HasAnswered, TookFew, before}
+use Rattle.grid_server.specs.Serving.{IsAfter, IsBegun, HasAnswered, before}
 use Rattle.cmd_run.specs.Asking.{IsLineOf, ends_input}
 use Rattle.grid_server.specs.Turning.{Commanded, TakesTurn, handled, none_left, too_long as goes_past, broken_off, no_memory as memory_gone, after, command_of, input_of, is_last, status_of}
 use Rattle.grid_server.specs.Views.{Views, WasRead, PassesOn, world_of}
@@ -35,8 +32,8 @@ use Rattle.grid_server.specs.declared.service.Service.{Service}
 use Rattle.grid_server.specs.declared.status.Status.{Status}
 use Rattle.grid_server.specs.declared.status.Status.TheVariants as status
 use Rattle.grid_server.proofs.AnsweredLemmas.{answered_more, fits_more, keeps_whole, none_end_more, notes_line, obeys_at}
-use Rattle.grid_server.proofs.AskLemmas.{Asks, asks_so, ends_input_so, kept_line, not_ending}
-use Rattle.grid_server.proofs.EndLemmas.{end_is, end_of, end_of_status, last_answered, stops_before, stops_in, reads_end, reads_part, reads_most, reads_to_end}
+use Rattle.grid_server.proofs.AskLemmas.{Asks, asks_so, kept_line, not_ending}
+use Rattle.grid_server.proofs.EndLemmas.{end_of, last_answered, stops_before, stops_in}
 use Rattle.grid_server.proofs.TurnLemmas.{goes_on}
 use Rattle.grid_server.proofs.ViewLemmas.{order_of, passes_as, passes_then, went_of}
 
@@ -86,10 +83,10 @@ module _ {D S K A P : Type 0} (v : Views D S K A P) (from : Server) (start mid n
     first_with asked told so false e = inl (ahead (input_of now (v.source new.source)), heard_first (v.source start.source) (input_of now (v.source new.source)) (asked ++ hears.asked ∷ []) (more_heard asked told so e))
     first_with asked told so true e = inr (all_heard asked told so e).are
 
-    module _ (told : IsTrue (v.source start.source).tells) (asked : List Asked) (ans : HasAnswered v from start mid was asked) (order : AreInOrder (world_of v start)) (e : Earlier D K) (found : Cat)
-        (began : IsBegun v (before v e start) start found) (cat : from.store.cat ≡ run_begun found) where
+    module _ (told : IsTrue (v.source start.source).tells) (asked : List Asked) (ans : HasAnswered v from start mid was asked) (order : AreInOrder (world_of v start)) (e : Around D S K A P) (found : Cat)
+        (began : IsBegun v (before v e start) start found from) where
       so_read : Sofar (world_of v (before v e start)) (world_of v by) found was.server.store.cat (state_of was.server) asked
-      so_read = read_on (v.source new.source) (ans.so e found began cat)
+      so_read = read_on (v.source new.source) (ans.so e found began)
 
       main_told : IsTrue (v.disk mid.outside.main).tells
       main_told = subst IsTrue (sym so_read.ran.went.main.tells) began.plain.begin.main_tells
@@ -116,6 +113,11 @@ module _ {D S K A P : Type 0} (v : Views D S K A P) (from : Server) (start mid n
       obeyed_at : Obeys (world_of v by) (world_of v new) was.server (length asked + 1) asks.request r now.server
       obeyed_at = obeys_at (world_of v by) (world_of v new) was.server was.number (length asked) asks.request r now.server ans.many obeyed
 
+      few_by : (done : ⊤) → r ≡ Ok done → SweepLeavesFew (world_of v by) (world_of v new) was.server asks.request (Ok done) now.server
+      few_by done is =
+          let F : Result ⊤ Ending → Type 0 = λ x. SweepLeavesFew (world_of v by) (world_of v new) was.server asks.request x now.server in
+          subst F is (cmd.few asks.request asks.asks)
+
       begins_short : BeginsWithRequests (v.source start.source).left asked
       begins_short = inl (ahead (input_of was (v.source mid.source)), heard_first (v.source start.source) (input_of was (v.source mid.source)) asked ans.heard)
 
@@ -127,14 +129,14 @@ module _ {D S K A P : Type 0} (v : Views D S K A P) (from : Server) (start mid n
           → Sofar (world_of v (before v e start)) (world_of v new) found now.server.store.cat (state_of now.server) (asked ++ hears.asked ∷ [])
       sofar_more done is others =
           let O : Result ⊤ Ending → Type 0 = λ x. Obeys (world_of v by) (world_of v new) was.server (length asked + 1) asks.request x now.server in
-          answered_more now.server began.plain so_read goes_by notes_by asks.means done (subst O is obeyed_at) (not_ending hears.asked.line hears.asked.body heard.asked hears.read others)
+          answered_more now.server began.plain so_read goes_by notes_by asks.means done (subst O is obeyed_at) (few_by done is) (not_ending hears.asked.line hears.asked.body heard.asked hears.read others)
 
       -- the run ends with it
       pub ends_last : (done : ⊤) → r ≡ Ok done → EndsAtEnd (asked ++ hears.asked ∷ []) (v.source start.source) (v.source new.source) ⊎ EndsInRequest (asked ++ hears.asked ∷ []) (v.source start.source) (v.source new.source)
           → Serves (world_of v (before v e start)) (world_of v new) found read_all
       ends_last done is reads =
           let O : Result ⊤ Ending → Type 0 = λ x. Obeys (world_of v by) (world_of v new) was.server (length asked + 1) asks.request x now.server in
-          last_answered now.server began.plain so_read goes_by notes_by asks.means begins_with done (subst O is obeyed_at) reads
+          last_answered now.server began.plain so_read goes_by notes_by asks.means begins_with done (subst O is obeyed_at) (few_by done is) reads
 
       -- something ran out or failed in it
       pub ends_stopped : (x : Ending) → r ≡ Err x → result ≡ Some (status_of x)
@@ -195,7 +197,7 @@ module _ {D S K A P : Type 0} (v : Views D S K A P) (from : Server) (start mid n
                 heard = more_heard heard r hears number cmd a.0 told a.1.heard more;
                 many = omega (arith, number, a.1.many, length-append a.0 (hears.asked ∷ []));
                 none_end = none_end_more a.0 hears.asked a.1.none_end (not_ending hears.asked.line hears.asked.body heard.asked hears.read others);
-                so = λ e found began cat. sofar_more heard r hears number cmd told a.0 a.1 order e found began cat on.1.0 on.1.1 others;
+                so = λ e found began. sofar_more heard r hears number cmd told a.0 a.1 order e found began on.1.0 on.1.1 others;
               },
             );
       }

@@ -1,41 +1,32 @@
 -- The status of a run after its last turn.
-use Rattle.std.proofs.Common.{◌≡◌, ◌≢◌, ◌⊎◌, inl, inr, ℕ, ◌+◌, ◌^◌, ◌<◌, ◌≤◌, Bool, true, false, List, [], ◌∷◌, ◌++◌, suc, length, length-append, refl, sym, ap, ◌∙◌, subst, arith, IsTrue}
-use Rattle.std.specs.Prelude.{Option, Some, None, Result, Ok, Err, ⊤, ◌||◌, vec_len}
+use Rattle.std.proofs.Common.{◌≡◌, ◌⊎◌, inl, inr, ℕ, ◌+◌, ◌^◌, Bool, true, false, List, [], ◌∷◌, ◌++◌, length, length-append, refl, sym, ap, ◌∙◌, subst, arith, IsTrue}
+use Rattle.std.specs.Prelude.{Option, Some, Result, Ok, Err, ⊤, ◌||◌, vec_len}
 use Rattle.grid_outside.specs.Fault.{Rose}
 use Rattle.grid_outside.specs.declared.outside.Wear.{Wear}
 use Rattle.grid_outside.specs.declared.outside.Wear.TheVariants as wear
-use Rattle.grid_model.specs.Beginning.{begins}
 use Rattle.grid_model.specs.Inputs.{Asked, none_taken}
-use Rattle.grid_model.specs.Maps.{empty}
-use Rattle.grid_model.specs.Names.{Text}
 use Rattle.grid_model.specs.Rows.{Cat}
-use Rattle.grid_model.specs.RowGrids.{grid_of, user_name}
 use Rattle.grid_model.specs.Runs as runs
-use Rattle.grid_model.specs.Sessions.{State}
-use Rattle.tables_laws.proofs.Grids.{grid-same}
-use Rattle.sess.specs.Places.{Places, at, sessions_from, with_place}
-use Rattle.sess.specs.declared.sessions.Session.{Session}
 use Rattle.grid_headline.specs.Ends.{RunEnd, read_all, source_failed, too_long, no_memory, ReadsMost, EndsAtEnd, EndsInRequest}
 use Rattle.grid_headline.specs.Headline.{Serves}
 use Rattle.grid_headline.specs.Served.{BeginsWithRequests}
 use Rattle.grid_headline.specs.Worlds.{World}
 use Rattle.run_laws.specs.declared.around.Around.{Around}
-use Rattle.run_laws.specs.Sofar.{run_begun, Sofar}
+use Rattle.run_laws.specs.Sofar.{Sofar}
 use Rattle.run_laws.specs.Went.{AreInOrder}
-use Rattle.run_laws.proofs.RunLaws.{none_yet, read_on, ends_well, ends_idle}
+use Rattle.run_laws.proofs.RunLaws.{read_on, ends_well, ends_idle}
 use Rattle.grid_outside.specs.Source.{SourceState}
 use Rattle.req_lines.specs.Reading.{Input}
 use Rattle.req_lines.specs.Hearing.{Hears, ahead}
-use Rattle.req_lines.specs.Progress.{HasHeard, HeardAll, HeardMost}
 use Rattle.req_lines.specs.declared.requests.Heard.{Heard}
 use Rattle.req_lines.proofs.ProgressLemmas.{heard_nothing, heard_first, heard_within, heard_none, heard_most, heard_part}
-use Rattle.cmd_run.specs.Fits.{FitsMain, state_by, state_of}
+use Rattle.cmd_run.specs.Fits.{FitsMain, state_of}
 use Rattle.cmd_run.specs.declared.server.Server.{Server}
 use Rattle.cmd_run.specs.declared.server.Ending.{Ending}
 use Rattle.cmd_run.specs.declared.server.Ending.TheVariants as ending
-use Rattle.cmd_run.specs.Obeys.{IsWorn, IsWornAt}
+use Rattle.cmd_run.specs.Obeys.{IsWornAt}
 use Rattle.grid_server.specs.RunEnds.{run_end_of}
-use Rattle.grid_server.specs.Serving.{Earlier, IsAfter, IsBegun, HasAnswered, TookFew, before}
+use Rattle.grid_server.specs.Serving.{IsAfter, IsBegun, HasAnswered, TookFew, before}
 use Rattle.cmd_run.specs.Asking.{ends_input}
 use Rattle.grid_server.specs.Turning.{Commanded, TakesTurn, handled, none_left, too_long as goes_past, broken_off, no_memory as memory_gone, after, command_of, input_of, is_last, status_of}
 use Rattle.grid_server.specs.Views.{Views, WasRead, PassesOn, world_of}
@@ -45,34 +36,14 @@ use Rattle.grid_server.specs.declared.status.Status.{Status}
 use Rattle.grid_server.specs.declared.status.Status.TheVariants as status
 use Rattle.grid_server.proofs.AskLemmas.{ends_input_so}
 use Rattle.grid_server.proofs.EndLemmas.{end_is, end_of, end_of_status, reads_end, reads_part, reads_most, reads_to_end, took_all, took_most, took_part, took_stopped, took_within}
-use Rattle.grid_server.proofs.ServingLemmas.{asks, more_heard, all_heard, ends_last, ends_stopped, told_mid, told_new}
+use Rattle.grid_server.proofs.ServingLemmas.{asks, more_heard, all_heard, ends_last, ends_stopped}
 use Rattle.grid_server.proofs.TurnLemmas.{after_worn, ending_behind, some_is}
 use Rattle.grid_server.proofs.ViewLemmas.{passes_as, passes_none, passes_then, read_same}
 
 -- ---- before the first request
 
--- nobody is logged in
-sessions_none : (names : ℕ → Text) (n : ℕ) (places : Places) → ((k : ℕ) → at places k ≡ None) → sessions_from names n places ≡ empty
-sessions_none names n [] none = refl
-sessions_none names n (x ∷ xs) none =
-    ap (λ (o : Option Session). with_place names n o (sessions_from names (n + 1) xs)) (none 0) ∙ sessions_none names (n + 1) xs (λ k. none (suc k))
-
-state_none : (found : Cat) (places : Places) → ((k : ℕ) → at places k ≡ None) → state_by (run_begun found) places ≡ begins (grid_of found) []
-state_none found places none = λ i. record {
-  grid = grid-same found (run_begun found) refl (grid_of found) refl i;
-  rules = [];
-  sessions = sessions_none (user_name (run_begun found)) 0 places none i;
-}
-
-module _ {D S K A P : Type 0} (v : Views D S K A P) (server : Server) (start : Around D S K A P) (fits : FitsMain (v.disk start.outside.main) server) (nobody : (n : ℕ) → at server.sessions n ≡ None)
+module _ {D S K A P : Type 0} (v : Views D S K A P) (server : Server) (start : Around D S K A P) (fits : FitsMain (v.disk start.outside.main) server)
     (slots : server.store.cat.stores ≡ vec_len start.outside.stores) where
-  sofar_none : (e : Earlier D K) (found : Cat) → IsBegun v (before v e start) start found → server.store.cat ≡ run_begun found
-      → Sofar (world_of v (before v e start)) (world_of v start) found server.store.cat (state_of server) []
-  sofar_none e found began cat =
-      let C : Cat → State → Type 0 = λ c s. Sofar (world_of v (before v e start)) (world_of v start) found c s [] in
-      let state : state_of server ≡ begins (grid_of found) [] = ap (λ (c : Cat). state_by c server.sessions) cat ∙ state_none found server.sessions nobody in
-      subst (λ (c : Cat). C c (state_of server)) (sym cat) (subst (C (run_begun found)) (sym state) (none_yet began.plain began.order began.opened))
-
   starts_with : (s : Service) → s.server ≡ server → s.requests.unread ≡ [] → s.requests.taken ≡ 0 → s.number ≡ 0 → IsAfter v server start start s
   starts_with s is unread taken number =
       let I : Server → Type 0 = λ x. IsAfter v server start start (record s { server = x }) in
@@ -90,7 +61,7 @@ module _ {D S K A P : Type 0} (v : Views D S K A P) (server : Server) (start : A
             heard = heard_nothing (v.source start.source) s.requests unread taken;
             many = number;
             none_end = tt;
-            so = sofar_none;
+            so = λ e found began. began.so;
           },
         );
       })
@@ -99,16 +70,16 @@ module _ {D S K A P : Type 0} (v : Views D S K A P) (server : Server) (start : A
   starts = starts_with
 
   -- there was no memory for the first request
-  pub ends_first : (e : Earlier D K) (found : Cat) (end : RunEnd) → IsBegun v (before v e start) start found → server.store.cat ≡ run_begun found → run_end_of status.Memory ≡ Some end
+  pub ends_first : (e : Around D S K A P) (found : Cat) (end : RunEnd) → IsBegun v (before v e start) start found server → run_end_of status.Memory ≡ Some end
       → Serves (world_of v (before v e start)) (world_of v start) found end
-  ends_first e found end began cat its =
+  ends_first e found end began its =
       let is : no_memory ≡ end = cc in
       let S : RunEnd → Type 0 = λ x. Serves (world_of v (before v e start)) (world_of v start) found x in
-      subst S is (ends_idle began.plain (sofar_none e found began cat) (inl ((v.source start.source).left, none_taken)) tt (λ none fits. tt))
+      subst S is (ends_idle began.plain began.so (inl ((v.source start.source).left, none_taken)) tt (λ none fits. tt))
 
 -- ---- after the last turn
 
-no_long : (x : Ending) (taken : ℕ) → status_of x ≡ status.Long taken → ⊥
+pub no_long : (x : Ending) (taken : ℕ) → status_of x ≡ status.Long taken → ⊥
 no_long ending.Disk taken e = cc e
 no_long ending.Sink taken e = cc e
 no_long ending.Memory taken e = cc e
@@ -203,7 +174,7 @@ module _ {D S K A P : Type 0} (v : Views D S K A P) (from : Server) (start mid n
 
   module _ (order : AreInOrder (world_of v start)) (untouched : (place : ℕ) → result ≡ Some (status.Worn wear.Vaults place) → (new.outside ≡ mid.outside) × (new.sink ≡ mid.sink))
       (cause : result ≡ Some status.SourceFault → Rose (v.source mid.source).faults (v.source new.source).faults)
-      (e : Earlier D K) (found : Cat) (end : RunEnd) (began : IsBegun v (before v e start) start found) (cat : from.store.cat ≡ run_begun found) (its : run_end_of s ≡ Some end) where
+      (e : Around D S K A P) (found : Cat) (end : RunEnd) (began : IsBegun v (before v e start) start found from) (its : run_end_of s ≡ Some end) where
     abbrev old : World P
     old = world_of v (before v e start)
 
@@ -233,7 +204,7 @@ module _ {D S K A P : Type 0} (v : Views D S K A P) (from : Server) (start mid n
     first = inl (ahead in_was, heard_first first_source in_was asked ans.heard)
 
     sofar_new : new ≡ record mid { source = new.source } → Sofar old (world_of v new) found was.server.store.cat (state_of was.server) asked
-    sofar_new same = let W : Around D S K A P → Type 0 = λ a. Sofar old (world_of v a) found was.server.store.cat (state_of was.server) asked in subst W (sym same) (read_on (v.source new.source) (ans.so e found began cat))
+    sofar_new same = let W : Around D S K A P → Type 0 = λ a. Sofar old (world_of v a) found was.server.store.cat (state_of was.server) asked in subst W (sym same) (read_on (v.source new.source) (ans.so e found began))
 
     serves_handled : (heard : Heard) (r : Result ⊤ Ending) → result ≡ after (is_last heard) r → (hears : Hears in_was in_now heard) (number : now.number ≡ was.number + 1)
         (cmd : Commanded (world_of v (record mid { source = new.source })) (world_of v new) (command_of was heard) r now.server) → is_served end
@@ -246,13 +217,13 @@ module _ {D S K A P : Type 0} (v : Views D S K A P) (from : Server) (start mid n
             (heard_within first_source in_now _ (more_heard v from start mid new was now result so_far passes read heard r hears number cmd asked told ans.heard ends) hears.over.most))
 
         by_last : (b : Bool) (done : ⊤) → is_last heard ≡ b → r ≡ Ok done → result ≡ after b (Ok done) → is_served end
-        by_last true done last ok eq = ends_as status.Done read_all eq refl (ends_last v from start mid new was now result so_far passes read heard r hears number cmd told asked ans order e found began cat done ok (by_ends heard.ends refl last))
+        by_last true done last ok eq = ends_as status.Done read_all eq refl (ends_last v from start mid new was now result so_far passes read heard r hears number cmd told asked ans order e found began done ok (by_ends heard.ends refl last))
         by_last false done last ok eq = absurd (cc (eq, is))
 
         by_result : (x : Result ⊤ Ending) → r ≡ x → result ≡ after (is_last heard) x → is_served end
         by_result (Ok done) ok eq = by_last (is_last heard) done refl ok eq
         by_result (Err x) failed eq =
-            ends_as (status_of x) (end_of x) eq (end_of_status x) (ends_stopped v from start mid new was now result so_far passes read heard r hears number cmd told asked ans order e found began cat x failed eq untouched)
+            ends_as (status_of x) (end_of x) eq (end_of_status x) (ends_stopped v from start mid new was now result so_far passes read heard r hears number cmd told asked ans order e found began x failed eq untouched)
 
     pub serves_so : is_served end
     serves_so = by turns

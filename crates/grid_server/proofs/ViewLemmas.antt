@@ -1,12 +1,11 @@
 -- Calls of all devices, one after another, as worlds see them.
-use Rattle.std.proofs.Common.{◌≡◌, ℕ, ◌≤◌, List, refl, sym, ap, ◌∙◌, subst, arith, IsTrue}
+use Rattle.std.proofs.Common.{◌≡◌, ℕ, ◌≤◌, refl, sym, ap, subst, arith}
 use Rattle.grid_outside.specs.Fault.{Rose}
-use Rattle.grid_deed.specs.Frame.{Goes, Frame, AddsInRoom}
+use Rattle.grid_deed.specs.Frame.{Goes, AddsInRoom}
 use Rattle.grid_deed.proofs.Frames.{frame_none, frame_then, frame_as, frame_main, room_same, goes_nowhere, goes_more}
-use Rattle.grid_headline.specs.Worlds.{World}
 use Rattle.run_laws.specs.declared.around.Around.{Around}
 use Rattle.run_laws.specs.Went.{Went, AreInOrder}
-use Rattle.cmd_run.specs.Passes.{CallsPass, Seen}
+use Rattle.cmd_run.specs.Passes.{CallsPass}
 use Rattle.grid_server.specs.Serving.{SinkWent}
 use Rattle.grid_server.specs.Views.{Views, WasRead, world_of, PassesOn}
 use Rattle.grid_server.proofs.RestLemmas.{rests_where}

@@ -1,5 +1,5 @@
 -- What a service has done so far, and how its run ends.
-use Rattle.std.specs.Prelude.{◌≡◌, ℕ, ◌+◌, ◌*◌, ◌^◌, ◌≤◌, List, ◌++◌, length, vec_len, IsTrue}
+use Rattle.std.specs.Prelude.{◌≡◌, ℕ, ◌+◌, ◌*◌, ◌^◌, ◌≤◌, List, [], ◌++◌, length, vec_len, IsTrue}
 use Rattle.std.specs.List.{AllByRecursion}
 use Rattle.grid_outside.specs.Sink.{SinkState}
 use Rattle.grid_outside.specs.Source.{SourceState}
@@ -10,7 +10,7 @@ use Rattle.grid_model.specs.Rows.{Cat}
 use Rattle.grid_headline.specs.Reads.{EndsInput}
 use Rattle.run_laws.specs.declared.around.Around.{Around}
 use Rattle.run_laws.specs.Opening.{Opened}
-use Rattle.run_laws.specs.Sofar.{run_begun, BeginsPlainly, Sofar}
+use Rattle.run_laws.specs.Sofar.{BeginsPlainly, Sofar}
 use Rattle.run_laws.specs.Went.{AreInOrder}
 use Rattle.req_lines.specs.Progress.{HasHeard}
 use Rattle.cmd_run.specs.Fits.{state_of, FitsMain}
@@ -45,30 +45,28 @@ pub record SinkWent (from to : ℕ) (old new : SinkState) : Type 0 where
   pub last : old.last ≤ from → new.last ≤ to
   pub goes : DeviceGoes from old new
 
--- what the disks and the sink were, and how many moments were drawn, before a run was begun
-pub record Earlier (D K : Type 0) : Type 0 where
-  pub main : D
-  pub spare : D
-  pub sink : K
-  pub moments : ℕ
-
 module _ {D S K A P : Type 0} (v : Views D S K A P) where
-  -- all that is around the run, then
-  abbrev pub before : Earlier D K → Around D S K A P → Around D S K A P
-  before e a = record a { outside = record a.outside { main = e.main; spare = e.spare; moments = e.moments }; sink = e.sink }
+  -- all that was around the run, with the source as it is now
+  abbrev pub before : Around D S K A P → Around D S K A P → Around D S K A P
+  before e a = record e { source = a.source }
 
-  -- the run was begun in between, over this catalogue
-  pub record IsBegun (old now : Around D S K A P) (found : Cat) : Type 0 where
+  -- the run was opened in between, over this catalogue
+  pub record IsOpened (old now : Around D S K A P) (found : Cat) : Type 0 where
     pub plain : BeginsPlainly (world_of v old) found
     pub order : AreInOrder (world_of v old)
     pub opened : Opened (world_of v old) (world_of v now) found
+
+  -- it was begun in between, over this catalogue: this is the server, and nothing was asked of it yet
+  pub record IsBegun (old now : Around D S K A P) (found : Cat) (s : Server) : Type 0 where
+    pub plain : BeginsPlainly (world_of v old) found
+    pub so : Sofar (world_of v old) (world_of v now) found s.store.cat (state_of s) []
 
   -- These requests were read and answered since the run was begun, and none of them ended the input.
   pub record HasAnswered (from : Server) (start now : Around D S K A P) (s : Service) (asked : List Asked) : Type 0 where
     pub heard : HasHeard (v.source start.source) (input_of s (v.source now.source)) asked
     pub many : s.number ≡ length asked
     pub none_end : AllByRecursion (λ a. ¬ EndsInput a) asked
-    pub so : (e : Earlier D K) (found : Cat) → IsBegun (before e start) start found → from.store.cat ≡ run_begun found
+    pub so : (e : Around D S K A P) (found : Cat) → IsBegun (before e start) start found from
         → Sofar (world_of v (before e start)) (world_of v now) found s.server.store.cat (state_of s.server) asked
 
   -- Where a service is that began so.

@@ -13,6 +13,7 @@ use Rattle.req_lines.specs.declared.requests.Heard.{Heard}
 use Rattle.cmd_run.specs.Asking.{AsksForRequest, IsLineOf, ends_input}
 use Rattle.cmd_run.specs.Fits.{state_of}
 use Rattle.cmd_run.specs.Obeys.{Obeys, IsWorn, NamesItsCall, RemembersDeed}
+use Rattle.cmd_run.specs.Sweeping.{SweepLeavesFew}
 use Rattle.cmd_run.specs.declared.server.Server.{Server}
 use Rattle.cmd_run.specs.declared.server.Ending.{Ending}
 use Rattle.cmd_run.specs.declared.server.Ending.TheVariants as ending
@@ -56,6 +57,8 @@ pub record Commanded {B : Type 0} (old new : World B) (c : Command) (result : Re
   pub call : (line : Text) → IsLineOf c.heard.asked c.heard.line line → NamesItsCall line old.moments old.main new.main
   pub remembers : (request : runs.Request) → AsksForRequest (state_of c.before) c.heard.asked c.heard.body request → RemovesNoFile request
       → RemembersDeed c.heard.line c.before.store.cat old.moments old.main new.main
+  pub few : (request : runs.Request) → AsksForRequest (state_of c.before) c.heard.asked c.heard.body request
+      → SweepLeavesFew old new c.before request result after
 
 -- ---- one turn
 

@@ -8,6 +8,7 @@ mod running;
 mod service;
 mod serving;
 mod status;
+mod sweeping;
 mod words;
 
 pub use running::run;

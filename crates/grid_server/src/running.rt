@@ -24,7 +24,7 @@ ghost use Rattle.grid_server.specs.Starting.{usage_line as usage_text, not_empty
 ghost use Rattle.grid_server.specs.Starting.{not_a_catalogue_line as not_a_catalogue_text, stores_line as stores_text};
 ghost use Rattle.grid_server.specs.Starting.{side_name as side_text};
 ghost use Rattle.grid_server.specs.Running.{SaysLine, HoldsStill, RefusesDisks, RefusesStores, Inits, IsComplete, EndsServing, IsNotBegun, IsHeldBack};
-ghost use Rattle.grid_server.specs.Serving.{SinkWent, TookFew, before};
+ghost use Rattle.grid_server.specs.Serving.{SinkWent, TookFew};
 ghost use Rattle.run_laws.specs.declared.around.Around.{Around};
 ghost use Rattle.grid_server.specs.Views.{Views, world_of};
 ghost use Rattle.grid_server.specs.Tasks as task;
@@ -33,7 +33,7 @@ ghost use Rattle.grid_server.specs.Tasks.{AsksForTask, AsksNothing};
 use crate::Status;
 use crate::opening::BeginError;
 use crate::reopening::open_run;
-use crate::serving::serve_all;
+use crate::sweeping::sweep_and_serve;
 use crate::words::{Asked, read_words};
 use grid_journal::{JournalError, Store};
 use grid_model::{Side, Text};
@@ -267,7 +267,7 @@ fn serve_over<D: Disk, S: Source, K: Sink, A: Ambient, P: Plugin>(
     requires stores { (0 < vec_len outside.old.stores) × (vec_len outside.old.stores ≤ 16) }
     ensures serve { let v : Views D S K A P = record { disk = D.disk; source = S.source; sink = K.sink; ambient = A.ambient; plugin = P.plugin } in
         let start : Around D S K A P = record { outside = outside.old; source = source.old; sink = sink.old } in
-        (main spare : D) (end : RunEnd) → let old = world_of v (before v (record { main = main; spare = spare; sink = sink.old; moments = outside.old.moments }) start) in
+        (main spare : D) (end : RunEnd) → let old = world_of v (record start { outside = record outside.old { main = main; spare = spare } }) in
         BeginsPlainly old store.cat → AreInOrder old → Rests (D.disk main) (D.disk outside.old.main) → Rests (D.disk spare) (D.disk outside.old.spare) →
         run_end_of result ≡ Some end → Serves old (world_of v (record { outside = outside.new; source = source.new; sink = sink.new })) store.cat end }
     ensures not_plain { store.cat.stores ≡ vec_len outside.old.stores → ¬ IsPlain store.cat →
@@ -309,7 +309,7 @@ fn serve_over<D: Disk, S: Source, K: Sink, A: Ambient, P: Plugin>(
         &mut outside.moments,
         sink,
     ) {
-        Ok(server) => serve_all(alloc, server, outside, source, sink),
+        Ok(server) => sweep_and_serve(alloc, server, outside, source, sink),
         Err(BeginError::Runs { at }) => Status::Worn {
             what: Wear::Runs,
             at,

@@ -138,8 +138,8 @@ fn after(last: bool, answered: Result<(), Ending>) -> Option<Status>
     }
 }
 
-// The status of a run that ends so.
-fn status_of(ending: Ending) -> Status
+/// The status of a run that ends so.
+pub(crate) fn status_of(ending: Ending) -> Status
     ensures { result ≡ status_of ending }
 {
     match ending {

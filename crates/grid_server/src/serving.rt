@@ -2,14 +2,12 @@ ghost use Rattle.std.specs.Prelude.{◌≡◌, ◌≢◌, ◌+◌, ◌^◌, ◌�
 ghost use Rattle.grid_outside.specs.Fault.{Rose};
 ghost use Rattle.grid_model.specs.Inputs.{Asked as AskedOf};
 ghost use Rattle.grid_model.specs.Rows.{Cat};
-ghost use Rattle.sess.specs.Places.{at};
 ghost use Rattle.grid_headline.specs.Ends.{ReadsMost, RunEnd};
 ghost use Rattle.grid_headline.specs.Headline.{Serves};
-ghost use Rattle.run_laws.specs.Sofar.{run_begun};
 ghost use Rattle.cmd_run.specs.Fits.{FitsMain};
 ghost use Rattle.cmd_run.specs.Passes.{AreReady, CallsPass};
 ghost use Rattle.grid_server.specs.RunEnds.{run_end_of};
-ghost use Rattle.grid_server.specs.Serving.{Earlier, EndsBegun, IsBegun, TookFew, before};
+ghost use Rattle.grid_server.specs.Serving.{EndsBegun, IsBegun, TookFew, before};
 ghost use Rattle.run_laws.specs.declared.around.Around.{Around};
 ghost use Rattle.grid_server.specs.Views.{WasRead, Views, world_of};
 ghost use Rattle.grid_server.specs.Wearing.{HasWorn};
@@ -30,13 +28,12 @@ pub(crate) fn serve_all<D: Disk, S: Source, K: Sink, A: Ambient, P: Plugin>(
     sink: &mut K,
 ) -> Status
     requires fits { FitsMain (D.disk outside.old.main) server }
-    requires nobody { (n : ℕ) → at server.sessions n ≡ None }
     requires slots { server.store.cat.stores ≡ vec_len outside.old.stores }
     requires spare_last { (D.disk outside.old.spare).last ≤ outside.old.moments }
     requires ready { AreReady D.disk P.plugin K.sink (2 ^ 121) (record { outside = outside.old; sink = sink.old }) }
     ensures serves { let v : Views D S K A P = record { disk = D.disk; source = S.source; sink = K.sink; ambient = A.ambient; plugin = P.plugin } in
         let start : Around D S K A P = record { outside = outside.old; source = source.old; sink = sink.old } in
-        (e : Earlier D K) (found : Cat) (end : RunEnd) → IsBegun v (before v e start) start found → server.store.cat ≡ run_begun found →
+        (e : Around D S K A P) (found : Cat) (end : RunEnd) → IsBegun v (before v e start) start found server →
         run_end_of result ≡ Some end → Serves (world_of v (before v e start))
         (world_of v (record { outside = outside.new; source = source.new; sink = sink.new })) found end }
     ensures ends { EndsBegun result }

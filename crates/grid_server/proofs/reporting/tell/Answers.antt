@@ -1,5 +1,4 @@
-use Rattle.std.proofs.Common.{◌≡◌, ℕ, [], refl, sym, subst, arith}
-use Rattle.std.proofs.lemmas.List.{append-nil}
+use Rattle.std.proofs.Common.{arith}
 use Rattle.grid_outside.specs.Sink.{AddsPart}
 use Rattle.grid_outside.proofs.Spans.{acted, stays}
 use Rattle.grid_server.proofs.OpensLemmas.{adds_none}

@@ -1,4 +1,4 @@
-use Rattle.std.proofs.Common.{arith, ◌≡◌, ℕ, Err, inl, inr, refl, ap, subst}
+use Rattle.std.proofs.Common.{◌≡◌, ℕ, Err, inl, inr, refl, ap, subst}
 use Rattle.std.specs.Prelude.{vec_len}
 use Rattle.grid_outside.specs.declared.outside.Wear.TheVariants.{Log}
 use Rattle.grid_journal.specs.declared.error.JournalError.TheVariants as journal

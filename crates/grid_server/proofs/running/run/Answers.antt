@@ -1,5 +1,4 @@
-use Rattle.std.proofs.Common.{arith, inl, inr, refl, sym, ap, ◌∙◌, ◌≤◌, subst}
-use Rattle.grid_server.specs.Serving.{TookFew}
+use Rattle.std.proofs.Common.{arith, inl, inr, sym, ◌∙◌}
 use Rattle.grid_server.specs.declared.status.Status.TheVariants as status
 use Rattle.grid_server.proofs.RunLemmas.{serve_or_init, inits_so, complete, complete_init, asked_names, usage_says_none, usage_says_no_stores, no_both, says_another, start_whole_as, took_none, long_fits}
 use Rattle.grid_server.proofs.running.run.Goals as goal

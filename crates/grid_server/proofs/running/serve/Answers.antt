@@ -1,20 +1,15 @@
 use Rattle.std.proofs.Common.{List, ℕ, arith, inl, ◌≡◌, IsTrue, Err, subst, sym, ap, ◌∙◌, refl}
-use Rattle.grid_model.specs.Names.{Text}
 use Rattle.grid_model.specs.Rows.{Cat}
 use Rattle.grid_outside.specs.declared.outside.Wear.TheVariants.{Log}
 use Rattle.grid_model.specs.declared.grid.Side.TheVariants.{Main}
 use Rattle.grid_journal.specs.Journal.{ClosesAt}
-use Rattle.grid_headline.specs.Ends.{HasRunOut, RunEnd}
-use Rattle.grid_headline.specs.Headline.{Serves}
-use Rattle.run_laws.specs.declared.around.Around.{Around}
-use Rattle.run_laws.specs.Went.{AreInOrder}
+use Rattle.grid_headline.specs.Ends.{HasRunOut}
 use Rattle.grid_server.specs.Opening.{HasRoom, IsPlain}
-use Rattle.grid_server.specs.Views.{Views, world_of}
 use Rattle.grid_server.specs.declared.status.Status.TheVariants as status
 use Rattle.grid_server.proofs.OpensLemmas.{serves_looked_memory, serves_looked_fault, serves_held, not_disk}
 use Rattle.grid_server.proofs.RestLemmas.{looked_rests, rests_on, rests_same}
-use Rattle.grid_server.proofs.RunLemmas.{one_cat, no_both, stands_for, refuses_there, refused_at, rests_more, other_stores}
-use Rattle.grid_server.proofs.ViewLemmas.{passes_main, passes_sink, passes_then, passes_as}
+use Rattle.grid_server.proofs.RunLemmas.{one_cat, no_both, refuses_there, refused_at, rests_more, other_stores}
+use Rattle.grid_server.proofs.ViewLemmas.{passes_main, passes_sink, passes_then}
 use Rattle.grid_server.proofs.running.serve.Goals as goal
 
 pub serve_over-requires-clause-made : goal.serve_over-requires-clause-made

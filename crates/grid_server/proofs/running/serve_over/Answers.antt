@@ -1,13 +1,11 @@
 use Rattle.std.proofs.Common.{◌≡◌, IsTrue, inl, inr, Err, refl, sym, ap, ◌∙◌, subst}
 use Rattle.std.specs.Prelude.{vec_len}
 use Rattle.grid_model.specs.Rows.{Cat}
-use Rattle.run_laws.specs.declared.around.Around.{Around}
 use Rattle.grid_server.specs.Opening.{OpensRun}
-use Rattle.grid_server.specs.Views.{Views}
 use Rattle.grid_server.specs.declared.opening.BeginError.{BeginError}
 use Rattle.grid_server.specs.declared.opening.BeginError.TheVariants as opening
 use Rattle.grid_server.specs.declared.status.Status.TheVariants as status
-use Rattle.grid_server.proofs.OpensLemmas.{earlier, outputs, begins_now, serves_unbegun, run_out, log_out, stores_named}
+use Rattle.grid_server.proofs.OpensLemmas.{first, outputs, opens_now, serves_unbegun, run_out, log_out, stores_named}
 use Rattle.grid_server.proofs.RunLemmas.{stores_so}
 use Rattle.grid_server.proofs.ViewLemmas.{passes_opened, passes_then}
 use Rattle.grid_server.proofs.running.serve_over.Goals as goal
@@ -29,8 +27,8 @@ returns-then-kept-given-clause-stores_only g c = λ had given is.
 
 pub returns-in-Ok-clause-serve : goal.returns-in-Ok-clause-serve
 returns-in-Ok-clause-serve g c = λ main spare end plain order looked spare_looked its.
-    c.serve_all.ensures.serves (earlier (record { disk = g.D.Disk.disk; source = g.S.Source.source; sink = g.K.Sink.sink; ambient = g.A.Ambient.ambient; plugin = g.P.Plugin.plugin }) (record { outside = c.args.outside.now; source = c.args.source.now; sink = c.args.sink.now }) main spare c.args.store.cat) c.args.store.cat end
-    (begins_now (record { disk = g.D.Disk.disk; source = g.S.Source.source; sink = g.K.Sink.sink; ambient = g.A.Ambient.ambient; plugin = g.P.Plugin.plugin }) (record { outside = c.args.outside.now; source = c.args.source.now; sink = c.args.sink.now }) main spare c.args.store.cat c.open_run.new.main c.open_run.new.spare c.open_run.new.sink c.open_run.new.moments plain order looked spare_looked c.open_run.ensures.spare c.open_run.ensures.drawn_from c.in-Ok.server c.in-Ok.ensures.opens)
+    c.sweep_and_serve.ensures.serves (first (record { disk = g.D.Disk.disk; source = g.S.Source.source; sink = g.K.Sink.sink; ambient = g.A.Ambient.ambient; plugin = g.P.Plugin.plugin }) (record { outside = c.args.outside.now; source = c.args.source.now; sink = c.args.sink.now }) main spare c.args.store.cat) c.args.store.cat end
+    (opens_now (record { disk = g.D.Disk.disk; source = g.S.Source.source; sink = g.K.Sink.sink; ambient = g.A.Ambient.ambient; plugin = g.P.Plugin.plugin }) (record { outside = c.args.outside.now; source = c.args.source.now; sink = c.args.sink.now }) main spare c.args.store.cat c.open_run.new.main c.open_run.new.spare c.open_run.new.sink c.open_run.new.moments plain order looked spare_looked c.open_run.ensures.spare c.open_run.ensures.drawn_from c.in-Ok.server c.in-Ok.ensures.opens)
     c.in-Ok.ensures.opens.ends.0.1 its
 
 pub returns-in-Ok-clause-worn : goal.returns-in-Ok-clause-worn
@@ -47,16 +45,16 @@ returns-in-Err-Sink-clause-worn g c = λ stores none.
 
 pub returns-in-Ok-clause-worn_only : goal.returns-in-Ok-clause-worn_only
 returns-in-Ok-clause-worn_only g c = λ what place is told.
-    run_out c.args.store.cat (g.D.Disk.disk c.serve_all.new.outside.main).holds (g.D.Disk.disk c.serve_all.new.outside.spare).holds what place
-    (c.serve_all.ensures.worn_only what place is (subst IsTrue (sym c.in-Ok.ensures.opens.main.tells) told))
+    run_out c.args.store.cat (g.D.Disk.disk c.sweep_and_serve.new.outside.main).holds (g.D.Disk.disk c.sweep_and_serve.new.outside.spare).holds what place
+    (c.sweep_and_serve.ensures.worn_only what place is (subst IsTrue (sym c.in-Ok.ensures.opens.main.tells) told))
 
 pub returns-in-Ok-clause-passes : goal.returns-in-Ok-clause-passes
 returns-in-Ok-clause-passes g c =
-    passes_then (record { disk = g.D.Disk.disk; source = g.S.Source.source; sink = g.K.Sink.sink; ambient = g.A.Ambient.ambient; plugin = g.P.Plugin.plugin }) ⊥ ⊥ (c.serve_all.result ≡ status.DiskFault) (c.serve_all.result ≡ status.SinkFault) (record { outside = c.args.outside.now; source = c.args.source.now; sink = c.args.sink.now })
+    passes_then (record { disk = g.D.Disk.disk; source = g.S.Source.source; sink = g.K.Sink.sink; ambient = g.A.Ambient.ambient; plugin = g.P.Plugin.plugin }) ⊥ ⊥ (c.sweep_and_serve.result ≡ status.DiskFault) (c.sweep_and_serve.result ≡ status.SinkFault) (record { outside = c.args.outside.now; source = c.args.source.now; sink = c.args.sink.now })
     (record { outside = record c.args.outside.now { main = c.open_run.new.main; spare = c.open_run.new.spare; moments = c.open_run.new.moments }; source = c.args.source.now; sink = c.open_run.new.sink })
-    (record { outside = c.serve_all.new.outside; source = c.serve_all.new.source; sink = c.serve_all.new.sink }) (λ x. x)
+    (record { outside = c.sweep_and_serve.new.outside; source = c.sweep_and_serve.new.source; sink = c.sweep_and_serve.new.sink }) (λ x. x)
     (passes_opened (record { disk = g.D.Disk.disk; source = g.S.Source.source; sink = g.K.Sink.sink; ambient = g.A.Ambient.ambient; plugin = g.P.Plugin.plugin }) ⊥ ⊥ (record { outside = c.args.outside.now; source = c.args.source.now; sink = c.args.sink.now }) c.open_run.new.main c.open_run.new.spare c.open_run.new.sink c.open_run.new.moments c.open_run.ensures.drawn_from c.open_run.ensures.main_last c.open_run.ensures.sink_last c.in-Ok.ensures.opens.main c.in-Ok.ensures.opens.sink c.open_run.ensures.spare (λ f. absurd f) (λ ok. c.in-Ok.ensures.in_room (λ e. cc e)) (λ x. absurd x))
-    c.serve_all.ensures.passes
+    c.sweep_and_serve.ensures.passes
 
 pub returns-in-Err-Log-clause-worn_only : goal.returns-in-Err-Log-clause-worn_only
 returns-in-Err-Log-clause-worn_only g c =

@@ -1,8 +1,3 @@
-use Rattle.std.proofs.Common.{arith, sym}
-use Rattle.std.specs.Prelude.{Option, None, Some}
-use Rattle.run_laws.specs.declared.around.Around.{Around}
-use Rattle.run_laws.specs.Went.{AreInOrder}
-use Rattle.grid_server.specs.Views.{Views, world_of}
 use Rattle.grid_server.proofs.ServingLemmas.{after_turn}
 use Rattle.grid_server.proofs.StatusLemmas.{starts, ends_first, all_passes, took_so, long_so, worn_only, serves_so}
 use Rattle.grid_server.proofs.serving.serve_all.Goals as goal
@@ -10,12 +5,12 @@ use Rattle.grid_server.proofs.serving.serve_all.Goals as goal
 pub returns-in_default-clause-serves : goal.returns-in_default-clause-serves
 returns-in_default-clause-serves g c =
     ends_first (record { disk = g.D.Disk.disk; source = g.S.Source.source; sink = g.K.Sink.sink; ambient = g.A.Ambient.ambient; plugin = g.P.Plugin.plugin }) c.args.server
-    (record { outside = c.args.outside.now; source = c.args.source.now; sink = c.args.sink.now }) c.requires.fits c.requires.nobody c.requires.slots
+    (record { outside = c.args.outside.now; source = c.args.source.now; sink = c.args.sink.now }) c.requires.fits c.requires.slots
 
 pub requests-init : goal.requests-init
 requests-init g c =
     starts (record { disk = g.D.Disk.disk; source = g.S.Source.source; sink = g.K.Sink.sink; ambient = g.A.Ambient.ambient; plugin = g.P.Plugin.plugin }) c.args.server
-    (record { outside = c.args.outside.now; source = c.args.source.now; sink = c.args.sink.now }) c.requires.fits c.requires.nobody c.requires.slots
+    (record { outside = c.args.outside.now; source = c.args.source.now; sink = c.args.sink.now }) c.requires.fits c.requires.slots
     c.in-Ok.service c.in-Ok.ensures.server c.in-Ok.ensures.unread c.in-Ok.ensures.taken c.in-Ok.ensures.number
 
 pub requests-preserved : goal.requests-preserved

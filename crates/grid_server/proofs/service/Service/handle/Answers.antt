@@ -1,8 +1,7 @@
-use Rattle.std.proofs.Common.{ap, ◌∙◌, refl, sym}
+use Rattle.std.proofs.Common.{ap, ◌∙◌, sym}
 use Rattle.grid_outside.specs.declared.outside.Wear.TheVariants.{Vaults}
 use Rattle.grid_server.specs.Turning.{after}
-use Rattle.grid_server.specs.Views.{Views}
-use Rattle.grid_server.proofs.TurnLemmas.{after_disk, after_sink, after_worn}
+use Rattle.grid_server.proofs.TurnLemmas.{after_worn}
 use Rattle.grid_server.proofs.service.Service.handle.Goals as goal
 
 pub returns-clause-commands : goal.returns-clause-commands
@@ -15,6 +14,7 @@ returns-clause-commands g c = (
     whole = c.command-answered.ensures.whole;
     call = c.command-answered.ensures.call;
     remembers = c.command-answered.ensures.remembers;
+    few = c.command-answered.ensures.few source;
   },
 )
 

@@ -1,4 +1,4 @@
-use Rattle.std.proofs.Common.{◌≡◌, ap, ◌∙◌, refl, sym, subst}
+use Rattle.std.proofs.Common.{sym, subst}
 use Rattle.req_lines.specs.Reading.{Reader, input}
 use Rattle.req_lines.specs.Hearing.{Finds, Hears}
 use Rattle.req_lines.specs.declared.requests.Next.{Next}
