@@ -49,6 +49,32 @@ const SWEPT: Turn = Turn {
 
 const SWEPT_LATER: [Turn; 2] = [LEFT_BEHIND, SWEPT];
 
+// A run that is asked for nothing begins with a sweep of its own.
+const OPENED: Turn = Turn {
+    input: b"",
+    replies: b"",
+    ..SWEPT
+};
+
+const SWEPT_AT_THE_OPENING: [Turn; 2] = [LEFT_BEHIND, OPENED];
+
+// The first store fails in that sweep: its file stays for the next run.
+const FIRST_FAILS: Harm = Harm {
+    fails: [1, 0, 0, 0],
+    lost: (0, 0),
+};
+
+const SWEPT_IN_PART: [Turn; 3] = [
+    LEFT_BEHIND,
+    Turn {
+        harm: FIRST_FAILS,
+        rows: b"collections 4 objects 0 good 0 stale 0\norphan 1 0\n",
+        files: b"0 1 abc\n",
+        ..OPENED
+    },
+    OPENED,
+];
+
 const SWEPT_AT_ONCE: [Turn; 1] = [Turn {
     input: b"0 login rods\n0 put /tempZone/home/rods/abc r new 3\nabc0 sweep\n",
     replies: b"1 ok\n2 mark fault 1 0\n2 err Fault 1\n3 ok\n",
@@ -83,9 +109,11 @@ fn files_that_no_replica_has_are_swept(rt: HostRuntime) -> Result<(), Fail> {
     let main = begun_with(&rt, alloc, REPLICATION, 9)?;
     let on_three: &[Turn] = &ON_THREE;
     let later: &[Turn] = &SWEPT_LATER;
+    let at_the_opening: &[Turn] = &SWEPT_AT_THE_OPENING;
+    let in_part: &[Turn] = &SWEPT_IN_PART;
     let at_once: &[Turn] = &SWEPT_AT_ONCE;
     let twice: &[Turn] = &SWEPT_TWICE;
-    for turns in [on_three, later, at_once, twice] {
+    for turns in [on_three, later, at_the_opening, in_part, at_once, twice] {
         takes_turns(&rt, alloc, &main, turns)?;
     }
     Ok(())
