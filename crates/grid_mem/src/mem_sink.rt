@@ -58,6 +58,13 @@ impl MemSink {
         &self.bytes
     }
 
+    /// Its puts, in order.
+    pub fn calls(&self) -> &[Call<Vec<u8>>]
+        ensures { result.now ≡ (sink_history self.now).calls }
+    {
+        &self.calls
+    }
+
     /// A law, which does nothing: a stop at a put's own moment may leave exactly what was held before with any first
     /// part of its bytes, and a stop at another moment exactly what is held then.
     pub fn leaves(&self)
