@@ -1,0 +1,9 @@
+mod catalogues;
+mod fronts;
+mod images;
+mod reopening;
+mod rows;
+mod serving;
+mod session;
+mod stops;
+mod whole;

@@ -1,0 +1,62 @@
+// The catalogue that main has, and the files of the stores beside it.
+use super::rows::rows_of;
+use super::serving::Left;
+use super::whole::are_whole;
+use grid_journal::Store;
+use grid_mem::{MemDisk, MemFiles};
+use grid_tables::Tables;
+use std::alloc::Global;
+use std::process::Abort;
+use std::test::Fail;
+
+// The number of the run, the number of the command that is pending, or 0, how many files are named that no replica has, and
+// what the rows tell of the grid.
+#[derive(Drop)]
+pub(crate) struct Kept {
+    pub(crate) run: u64,
+    pub(crate) pending: u64,
+    pub(crate) orphans: usize,
+    pub(crate) rows: Vec<u8>,
+}
+
+// It stands apart since each way out of a function that owns a store is dear to prove.
+fn kept_by(
+    rt: &impl Abort,
+    alloc: Global,
+    tables: &Tables,
+    stores: &[MemFiles; 3],
+) -> Result<Kept, Fail> {
+    are_whole(rt, alloc, tables, stores)?;
+    let numbers = tables.numbers();
+    let mut pending: u64 = 0;
+    if let Some(command) = tables.pending() {
+        assert_eq!(rt; command.run, numbers.run);
+        pending = command.number;
+    }
+    Ok(Kept {
+        run: numbers.run,
+        pending,
+        orphans: tables.orphans().len(),
+        rows: rows_of(alloc, tables)?,
+    })
+}
+
+// What a stop left, with what the catalogue on main tells.
+#[derive(Drop)]
+pub(crate) struct Seen {
+    pub(crate) left: Left,
+    pub(crate) kept: Kept,
+}
+
+fn kept_in(rt: &impl Abort, alloc: Global, left: &Left) -> Result<Kept, Fail> {
+    let mut main = MemDisk::new(alloc, left.main.clone()?, Vec::new(alloc))?;
+    let mut spare = MemDisk::new(alloc, Vec::new(alloc), Vec::new(alloc))?;
+    let store = Store::open(alloc, &mut main, &mut spare)?;
+    kept_by(rt, alloc, store.tables(), &left.stores)
+}
+
+// Reads the catalogue that a stop left, by which the files of the stores are whole.
+pub(crate) fn see(rt: &impl Abort, alloc: Global, left: Left) -> Result<Seen, Fail> {
+    let kept = kept_in(rt, alloc, &left)?;
+    Ok(Seen { left, kept })
+}
