@@ -28,7 +28,7 @@ use Rattle.run_laws.proofs.RunLaws.{ends_before}
 use Rattle.cmd_run.specs.declared.server.Server.{Server}
 use Rattle.grid_server.specs.Opening.{BeginEnds, OpensRun, Outputs}
 use Rattle.grid_server.specs.RunEnds.{run_end_of}
-use Rattle.grid_server.specs.Serving.{IsOpened}
+use Rattle.grid_server.specs.Serving.{WasOpened}
 use Rattle.grid_outside.specs.declared.outside.Wear.{Wear}
 use Rattle.grid_server.specs.Wearing.{HasWorn}
 use Rattle.grid_server.specs.Views.{Views, world_of}
@@ -109,7 +109,7 @@ module _ {D S K A P : Type 0} (v : Views D S K A P) (start : Around D S K A P) (
       serves_not x stops good = ends_before plain order opens_by stops good
 
     -- it was opened
-    pub opens_now : (s : Server) → OpensRun found start.outside.moments (outputs v start.outside.main start.sink) (outputs v main_new sink_new) (Ok s) → IsOpened v first now found
+    pub opens_now : (s : Server) → OpensRun found start.outside.moments (outputs v start.outside.main start.sink) (outputs v main_new sink_new) (Ok s) → WasOpened v first now found
     opens_now s o =
         let b = o.ends.0 in
         record {

@@ -34,7 +34,7 @@ use Rattle.cmd_run.specs.declared.server.Server.{Server}
 use Rattle.cmd_run.specs.declared.server.Ending.{Ending}
 use Rattle.cmd_run.specs.declared.server.Ending.TheVariants as ending
 use Rattle.grid_server.specs.RunEnds.{run_end_of}
-use Rattle.grid_server.specs.Serving.{EndsBegun, IsBegun, IsOpened, before}
+use Rattle.grid_server.specs.Serving.{EndsBegun, IsBegun, WasOpened, before}
 use Rattle.grid_server.specs.Turning.{status_of}
 use Rattle.grid_server.specs.Views.{Views, PassesOn, world_of}
 use Rattle.grid_server.specs.Wearing.{HasWorn}
@@ -120,7 +120,7 @@ module _ {D S K A P : Type 0} (v : Views D S K A P) (start : Around D S K A P) (
 
   module _ (whole : KeepWhole v.plugin start.outside.moments was.store.cat (v.disk start.outside.main) (v.disk swept.main) start.outside.stores.items swept.stores.items)
       (leaves : LeavesLike was.store.cat start.outside.moments (v.disk start.outside.main) (v.disk swept.main)) (none : was.store.cat.pending ≡ None) where
-    module _ (e : Around D S K A P) (found : Cat) (opened : IsOpened v (before v e start) start found) (cat : was.store.cat ≡ run_begun found) where
+    module _ (e : Around D S K A P) (found : Cat) (opened : WasOpened v (before v e start) start found) (cat : was.store.cat ≡ run_begun found) where
       abbrev old : Around D S K A P
       old = before v e start
 

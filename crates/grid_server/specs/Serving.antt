@@ -51,7 +51,7 @@ module _ {D S K A P : Type 0} (v : Views D S K A P) where
   before e a = record e { source = a.source }
 
   -- the run was opened in between, over this catalogue
-  pub record IsOpened (old now : Around D S K A P) (found : Cat) : Type 0 where
+  pub record WasOpened (old now : Around D S K A P) (found : Cat) : Type 0 where
     pub plain : BeginsPlainly (world_of v old) found
     pub order : AreInOrder (world_of v old)
     pub opened : Opened (world_of v old) (world_of v now) found
