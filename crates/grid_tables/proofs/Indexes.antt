@@ -1,13 +1,14 @@
 -- Ids in the order of parent and name: how a place is found among them, and how they change.
-use Rattle.std.proofs.Common.{◌≡◌, ◌==◌, ℕ, zero, suc, ◌<◌, ◌≤◌, Bool, true, false, cond, List, [], ◌∷◌, length, take, drop, slice_index_or, Some, None, inl, inr, refl, sym, ap, ◌∙◌, subst, arith, eqb-true, eq-eqb}
+use Rattle.std.proofs.Common.{◌≡◌, ◌==◌, ℕ, zero, suc, ◌-◌, ◌<◌, Bool, true, false, cond, List, [], ◌∷◌, length, take, drop, slice_index_or, Some, None, inl, inr, refl, sym, ap, ◌∙◌, subst, arith, eqb-true, eq-eqb}
 use Rattle.std.specs.Prelude.{find, filter, not, ◌&&◌, ◌||◌, map, insert, IsTrue, Result, Ok, Err}
-use Rattle.std.specs.List.{AllByRecursion, list_any, remove}
+use Rattle.std.specs.List.{AllByRecursion, list_any, remove, slice_get}
 use Rattle.std.specs.List.Sorted.{IsStrictlySortedBy, IsBinarySearchResult, IsSearchInRange, IsNonDecreasingBy}
 use Rattle.std.specs.declared.cmp.Ordering.{Ordering}
-use Rattle.std.specs.declared.cmp.Ordering.TheVariants.{Less, Equal}
-use Rattle.std.specs.Ordering.{is_eq, is_le, nat_cmp, ordering_then, ordering_reverse, ordering_index}
+use Rattle.std.specs.declared.cmp.Ordering.TheVariants.{Less, Equal, Greater}
+use Rattle.std.specs.Ordering.{is_eq, is_gt, is_le, nat_cmp, ordering_then, ordering_reverse, ordering_index}
 use Rattle.std.specs.Cmp.{IsTotalOrder, nat_cmp_total, nat_cmp_is, on_total, then_total, ranked, first_so, second_so, both_ways}
 use Rattle.std.proofs.lemmas.Cmp.{tied_itself}
+use Rattle.std.proofs.lemmas.Option.{get_or_from_slice_get, slice_get_within}
 use Rattle.std.proofs.lemmas.List.Kept.{IsStrictlySortedBy-filter}
 use Rattle.std.proofs.lemmas.List.{get_or-map, take-map, drop-map, length-map, map-append}
 use Rattle.std.specs.BTreeMap.Comparable.{le_lt_trans}
@@ -17,12 +18,10 @@ use Rattle.grid_model.proofs.Comparing.{text_cmp_total, same_text-Decides}
 use Rattle.grid_model.proofs.TableLemmas.{with_row-before, IsTable-with_row}
 use Rattle.grid_model.proofs.FoundRows.{none_is_found, none_passes, none_any}
 use Rattle.tables_laws.proofs.Rows.{IsIn, in_from_any, any_from_in, in_from_all, all_from_in, in_from_find, find_from_in, in_from_filter, filter_from_in, in_from_with_row, new_in_with_row, old_in_with_row, in_once, apart_in_with_row}
-use Rattle.grid_tables.specs.Indexes.{IsIndex, place_cmp, order_at, is_placed, found_order, side_at, IsPlacedOnce}
-use Rattle.grid_tables.specs.Places.{IsPlace, Falls, passes}
+use Rattle.grid_tables.specs.Indexes.{IsIndex, place_cmp, order_at, is_placed, found_order, IsPlacedOnce}
+use Rattle.grid_tables.specs.Places.{IsPlace, passes}
 use Rattle.grid_tables.specs.Probes.{same_number, is_eq_then, tied}
-use Rattle.grid_tables.specs.Items.{falls_by}
-use Rattle.grid_tables.proofs.Runs.{falls_sorted}
-use Rattle.grid_tables.proofs.Searching.{place-searched, at-Ok, at-Err}
+use Rattle.grid_tables.proofs.Searching.{later_above, place-searched, at-Ok, at-Err}
 
 in_at : {X : Type 0} (rows : List X) (k : ℕ) (d : X) → k < length rows → IsIn rows (slice_index_or rows k d)
 in_at [] k d h = absurd (omega arith)
@@ -135,26 +134,77 @@ module _ {X : Type 0} (number : X → ℕ) (row_cmp : X → X → Ordering) (tot
   placed_itself r = placed_decides (parent r) (name r) r ∙ ap is_eq (tied_itself places_total r)
 
   -- what a search among the ids answers
-  pub sought : (rows : List X) → IsStrictlySortedBy row_cmp rows → (above : ℕ) (called : Text) (kept : X → Bool) (ids : List ℕ)
-      (index : IsIndex number (place_cmp parent name) (filter kept rows) ids) (place : Result ℕ ℕ) → IsSearchInRange place (length ids)
+  pub sought : (rows : List X) → IsStrictlySortedBy row_cmp rows → (above : ℕ) (called : Text) (some : List X) → ((x : X) → IsIn some x → IsIn rows x) → (ids : List ℕ)
+      (index : IsIndex number (place_cmp parent name) some ids) (place : Result ℕ ℕ) → IsSearchInRange place (length ids)
       → IsBinarySearchResult (λ id. ordering_reverse (found_order (order_at parent name above called) (find (λ r. number r == id) rows))) ids place
       → IsPlace (order_at parent name above called) index.named place
-  sought rows sorted above called kept ids index place inside found =
+  sought rows sorted above called some there ids index place inside found =
       let key = order_at parent name above called in
-      let within : (x : X) → IsIn index.named x → IsIn rows x = λ x here. (in_from_filter kept rows x (index.none_else x here)).0 in
+      let within : (x : X) → IsIn index.named x → IsIn rows x = λ x here. there x (index.none_else x here) in
       let size : length ids ≡ length index.named = ap length index.ids_are ∙ length-map index.named number in
       place_among number row_cmp total by_number (place_cmp parent name) key (below_place above called) rows sorted index.named within index.ordered place
       (subst (λ n. IsSearchInRange place n) size inside)
       (subst (λ (l : List ℕ). IsBinarySearchResult (λ id. ordering_reverse (found_order key (find (λ r. number r == id) rows))) l place) index.ids_are found)
 
+  greater_only : (o : Ordering) → is_gt o ≡ true → o ≡ Greater
+  greater_only Less e = absurd (cc)
+  greater_only Equal e = absurd (cc)
+  greater_only Greater e = refl
+
+  above_greater : (above : ℕ) (called : Text) (a b : X) → place_cmp parent name a b ≡ Less → order_at parent name above called b ≡ Greater → order_at parent name above called a ≡ Greater
+  above_greater above called a b less greater = by (order_at parent name above called a) refl
+    where
+      by : (o : Ordering) → order_at parent name above called a ≡ o → order_at parent name above called a ≡ Greater
+      by Less e = let behind : order_at parent name above called b ≡ Less = below_place above called a b less (ap is_le e) in absurd (cc (behind, greater))
+      by Equal e = let behind : order_at parent name above called b ≡ Less = below_place above called a b less (ap is_le e) in absurd (cc (behind, greater))
+      by Greater e = e
+
+  -- a place behind that of the last row is behind all
+  pub behind_last : (rows : List X) → IsStrictlySortedBy row_cmp rows → (above : ℕ) (called : Text) (some : List X) → ((x : X) → IsIn some x → IsIn rows x) → (ids : List ℕ)
+      (index : IsIndex number (place_cmp parent name) some ids) (id : ℕ) → Some id ≡ slice_get ids (length ids - 1)
+      → is_gt (found_order (order_at parent name above called) (find (λ r. number r == id) rows)) ≡ true → IsPlace (order_at parent name above called) index.named (Err (length ids))
+  behind_last rows sorted above called some there ids index id last greater =
+      (omega (arith, size), λ h. absurd (omega (arith, h, size)), λ k low d. at k d low (k == length ids - 1) refl)
+    where
+      size : length ids ≡ length index.named
+      size = ap length index.ids_are ∙ length-map index.named number
+
+      inside : length ids - 1 < length index.named
+      inside = subst (λ n. length ids - 1 < n) size (slice_get_within ids (length ids - 1) id (sym last))
+
+      row : (x : X) × IsIn index.named x × ((d : X) → slice_index_or index.named (length ids - 1) d ≡ x)
+      row = at_index index.named (length ids - 1) inside
+
+      id_is : id ≡ number row.0
+      id_is =
+          sym (get_or_from_slice_get ids (length ids - 1) id id (sym last)) ∙ ap (λ (l : List ℕ). slice_index_or l (length ids - 1) id) index.ids_are
+          ∙ get_or-map number index.named (length ids - 1) row.0 id inside ∙ ap number (row.2 row.0)
+
+      behind : order_at parent name above called row.0 ≡ Greater
+      behind =
+          greater_only _ (sym (ap (λ o. is_gt (found_order (order_at parent name above called) o))
+          (ap (λ n. find (λ r. number r == n) rows) id_is ∙ found_itself number row_cmp total by_number rows sorted row.0 (there row.0 (index.none_else row.0 row.1)))) ∙ greater)
+
+      at : (k : ℕ) (d : X) → k < length ids → (b : Bool) → (k == length ids - 1) ≡ b → order_at parent name above called (slice_index_or index.named k d) ≡ Greater
+      at k d low true e = ap (λ n. order_at parent name above called (slice_index_or index.named n d)) (eqb-true _ _ e) ∙ ap (order_at parent name above called) (row.2 d) ∙ behind
+      at k d low false e =
+          let before : k < length ids - 1 = grind (arith, low, e) in
+          above_greater above called (slice_index_or index.named k d) (slice_index_or index.named (length ids - 1) d)
+          (later_above (place_cmp parent name) index.named index.ordered k (length ids - 1) d before inside) (ap (order_at parent name above called) (row.2 d) ∙ behind)
+
+  -- what was found has the name in the parent
+  pub place_named : (rows : List X) (ids : List ℕ) (index : IsIndex number (place_cmp parent name) rows ids) (above : ℕ) (called : Text) (i : ℕ)
+      → IsPlace (order_at parent name above called) index.named (Ok i) → list_any (λ r. is_placed parent name above called r) rows ≡ true
+  place_named rows ids index above called i place =
+      let found = at_index index.named i place.0 in
+      let placed : is_placed parent name above called found.0 ≡ true =
+      placed_decides above called found.0 ∙ ap is_eq (ap (order_at parent name above called) (sym (found.2 found.0)) ∙ place.1 found.0) in
+      any_from_in (λ r. is_placed parent name above called r) rows found.0 (index.none_else found.0 found.1) placed
+
   module _ (rows : List X) (sorted : IsStrictlySortedBy row_cmp rows) (ids : List ℕ) (index : IsIndex number (place_cmp parent name) rows ids) where
     one_place : (above : ℕ) (called : Text) (x y : X) → IsIn rows x → IsIn rows y → is_placed parent name above called x ≡ true → is_placed parent name above called y ≡ true → x ≡ y
     one_place above called x y here there one other =
         in_once (place_cmp parent name) places_total index.named x y index.ordered (index.all x here) (index.all y there) (alike parent name above called x y one other)
-
-    pub placed_alone : (above : ℕ) (called : Text) (test : X → Bool)
-        → list_any (λ r. is_placed parent name above called r && test r) rows ≡ passes test (find (λ r. is_placed parent name above called r) rows)
-    placed_alone above called test = any_found (is_placed parent name above called) test rows (one_place above called)
 
     pub found_by_id : (above : ℕ) (called : Text) (i e : ℕ) → IsPlace (order_at parent name above called) index.named (Ok i)
         → find (λ r. number r == slice_index_or ids i e) rows ≡ find (λ r. is_placed parent name above called r) rows
@@ -277,22 +327,6 @@ module _ {X : Type 0} (number : X → ℕ) (cmp : X → X → Ordering) where
   abbrev pub moved_index : (rows : List X) (ids other : List ℕ) → other ≡ ids → IsIndex number cmp rows ids → IsIndex number cmp rows other
   moved_index rows ids other same index = record { named = index.named; ids_are = same ∙ index.ids_are; ordered = index.ordered; all = index.all; none_else = index.none_else }
 
-  -- and where all rows are kept
-  abbrev pub kept_index : (rows : List X) (ids other : List ℕ) → other ≡ ids → IsIndex number cmp rows ids → IsIndex number cmp (filter (λ _. true) rows) other
-  kept_index rows ids other same index = record {
-    named = index.named;
-    ids_are = same ∙ index.ids_are;
-    ordered = index.ordered;
-    all = λ x here. index.all x (in_from_filter (λ _. true) rows x here).0;
-    none_else = λ x here. filter_from_in (λ _. true) rows x (index.none_else x here) refl;
-  }
-
--- where no row has the id, none is taken out
-pub index-same : {X : Type 0} (number : X → ℕ) (cmp : X → X → Ordering) (rows : List X) (ids : List ℕ) (id : ℕ) → None ≡ find (λ r. number r == id) rows → IsIndex number cmp rows ids
-    → IsIndex number cmp (filter (λ r. not (number r == id)) rows) ids
-index-same {X = X} number cmp rows ids id none index =
-    subst (λ (l : List X). IsIndex number cmp l ids) (sym (all_pass (λ r. number r == id) rows (none_passes (λ r. number r == id) rows (sym none)))) index
-
 module _ {X : Type 0} (number : X → ℕ) (row_cmp : X → X → Ordering) (total : IsTotalOrder row_cmp) (by_number : (a b : X) → row_cmp a b ≡ nat_cmp (number a) (number b))
     (parent : X → ℕ) (name : X → Text) (rows : List X) (sorted : IsStrictlySortedBy row_cmp rows) (row : X) where
   -- the index without the row of an id, where its place was sought
@@ -325,70 +359,6 @@ module _ {X : Type 0} (number : X → ℕ) (row_cmp : X → X → Ordering) (tot
       let there = subst (λ n. IsPlace (order_at parent name n called) index.named (Err i)) at_is place in
       let placed = subst (λ (t : Text). IsPlace (order_at parent name (parent row) t) index.named (Err i)) called_is there in
       index-put number row_cmp total by_number parent name rows sorted row ids index i placed)
-
-  -- a place that no other row has is free
-  pub place_free : (id above : ℕ) (called : Text) → id ≡ number row → above ≡ parent row → called ≡ name row
-      → list_any (λ o. is_placed parent name (parent row) (name row) o && not (number o == number row)) rows ≡ false
-      → (ids : List ℕ) (index : IsIndex number (place_cmp parent name) (filter (λ r. not (number r == id)) rows) ids) (i : ℕ) → IsPlace (order_at parent name above called) index.named (Ok i) → ⊥
-  place_free id above called id_is at_is called_is free ids index i place =
-      let found = at_index index.named i place.0 in
-      let kept = in_from_filter (λ r. not (number r == id)) rows found.0 (index.none_else found.0 found.1) in
-      let placed : is_placed parent name above called found.0 ≡ true =
-      placed_decides number row_cmp total by_number parent name above called found.0 ∙ ap is_eq (ap (order_at parent name above called) (sym (found.2 found.0)) ∙ place.1 found.0) in
-      let here : is_placed parent name (parent row) (name row) found.0 ≡ true =
-      ap (λ n. is_placed parent name n (name row) found.0) (sym at_is) ∙ ap (λ (t : Text). is_placed parent name above t found.0) (sym called_is) ∙ placed in
-      let other : not (number found.0 == number row) ≡ true = ap (λ n. not (number found.0 == n)) (sym id_is) ∙ kept.1 in
-      let both_so : (is_placed parent name (parent row) (name row) found.0 && not (number found.0 == number row)) ≡ true = ap (λ b. b && not (number found.0 == number row)) here ∙ other in
-      let some = any_from_in (λ o. is_placed parent name (parent row) (name row) o && not (number o == number row)) rows found.0 kept.0 both_so in
-      absurd (cc)
-
-filter_map : {X : Type 0} (f : X → ℕ) (test : ℕ → Bool) (p : X → Bool) (rows : List X) → ((x : X) → IsIn rows x → test (f x) ≡ p x) → filter test (map f rows) ≡ map f (filter p rows)
-filter_map f test p [] same = refl
-filter_map {X = X} f test p (r ∷ rows) same =
-    let more = filter_map f test p rows (λ x here. same x (inr here)) in
-    ap (λ b. cond b (f r ∷ filter test (map f rows)) (filter test (map f rows))) (same r (inl refl)) ∙ by_test (p r) more
-  where
-    by_test : (b : Bool) → filter test (map f rows) ≡ map f (filter p rows) → cond b (f r ∷ filter test (map f rows)) (filter test (map f rows)) ≡ map f (cond b (r ∷ filter p rows) (filter p rows))
-    by_test true more = ap (λ (l : List ℕ). f r ∷ l) more
-    by_test false more = more
-
-module _ {X : Type 0} (number : X → ℕ) (row_cmp : X → X → Ordering) (total : IsTotalOrder row_cmp) (by_number : (a b : X) → row_cmp a b ≡ nat_cmp (number a) (number b))
-    (parent : X → ℕ) (name : X → Text) (rows : List X) (sorted : IsStrictlySortedBy row_cmp rows) (ids : List ℕ) (index : IsIndex number (place_cmp parent name) rows ids) (above : ℕ) where
-  side_row : (x : X) → IsIn index.named x → side_at number parent above rows (number x) ≡ nat_cmp above (parent x)
-  side_row x here = ap (found_order (λ r. nat_cmp above (parent r))) (found_itself number row_cmp total by_number rows sorted x (index.none_else x here))
-
-  -- the ids in a parent stand next to one another
-  pub ids_fall : (other : List ℕ) → other ≡ ids → Falls (side_at number parent above rows) other
-  ids_fall other same i j e low inside = by_rows index.named refl
-    where
-      size : length other ≡ length index.named
-      size = ap length (same ∙ index.ids_are) ∙ length-map index.named number
-
-      at_id : (x : X) (k : ℕ) → k < length index.named → side_at number parent above rows (slice_index_or other k e) ≡ nat_cmp above (parent (slice_index_or index.named k x))
-      at_id x k h =
-          ap (λ (l : List ℕ). side_at number parent above rows (slice_index_or l k e)) (same ∙ index.ids_are)
-          ∙ ap (side_at number parent above rows) (get_or-map number index.named k x e h) ∙ side_row _ (in_at index.named k x h)
-
-      by_rows : (names : List X) → names ≡ index.named
-          → ordering_index (side_at number parent above rows (slice_index_or other j e)) ≤ ordering_index (side_at number parent above rows (slice_index_or other i e))
-      by_rows [] is = absurd (omega (arith, inside, size, ap length is))
-      by_rows (x ∷ names) is =
-          let here : j < length index.named = omega (arith, inside, size) in
-          let falls = falls_sorted (λ r. nat_cmp above (parent r)) (place_cmp parent name) (λ a b less. falls_by nat_cmp_total above (parent a) (parent b) _ less) index.named index.ordered in
-          omega (arith, falls i j x low here, ap ordering_index (at_id x j here), ap ordering_index (at_id x i (omega arith)))
-
-  -- they are an index of the rows in it
-  pub index-children : (other found : List ℕ) → other ≡ ids → found ≡ filter (λ id. is_eq (side_at number parent above rows id)) other
-      → IsIndex number (place_cmp parent name) (filter (λ r. parent r == above) rows) found
-  index-children other found same is = record {
-    named = filter (λ r. parent r == above) index.named;
-    ids_are = is ∙ ap (λ (l : List ℕ). filter (λ id. is_eq (side_at number parent above rows id)) l) (same ∙ index.ids_are)
-        ∙ filter_map number (λ id. is_eq (side_at number parent above rows id)) (λ r. parent r == above) index.named
-        (λ x here. ap is_eq (side_row x here) ∙ sym (same_number above (parent x)));
-    ordered = IsStrictlySortedBy-filter (place_cmp parent name) (λ r. parent r == above) index.named index.ordered;
-    all = λ x here. let was = in_from_filter (λ r. parent r == above) rows x here in filter_from_in (λ r. parent r == above) index.named x (index.all x was.0) was.1;
-    none_else = λ x here. let was = in_from_filter (λ r. parent r == above) index.named x here in filter_from_in (λ r. parent r == above) rows x (index.none_else x was.0) was.1;
-  }
 
 in_map : {X : Type 0} (f : X → ℕ) (rows : List X) (n : ℕ) → IsIn (map f rows) n → (x : X) × IsIn rows x × (f x ≡ n)
 in_map f [] n here = absurd here

@@ -15,7 +15,7 @@ use Rattle.tables_laws.proofs.Rows.{IsIn, in_from_all, in_from_filter}
 use Rattle.grid_tables.specs.declared.index_key.NamedId.{NamedId}
 use Rattle.grid_tables.specs.IndexKeys.{AreKeysOf}
 use Rattle.grid_tables.specs.KeyOrders.{name_cmp}
-use Rattle.grid_tables.specs.Probes.{tied}
+use Rattle.grid_tables.specs.Probes.{tied, is_eq_then}
 use Rattle.grid_tables.proofs.Runs.{alike}
 
 -- a test that comes to the same
@@ -59,9 +59,11 @@ first_found {X = X} p (r ∷ rows) =
 
 found_alike : {X : Type 0} (p q : X → Bool) (rows : List X) → ((x : X) → p x ≡ q x) → find p rows ≡ find q rows
 found_alike p q [] same = refl
-found_alike {X = X} p q (r ∷ rows) same = ap (λ b. cond b (Some r) (find p rows)) (same r) ∙ ap (λ (o : Option X). cond (q r) (Some r) o) (found_alike p q rows same)
+found_alike {X = X} p q (r ∷ rows) same =
+    ap (λ b. cond b (Some r) (find p rows)) (same r) ∙ ap (λ (o : Option X). cond (q r) (Some r) o) (found_alike p q rows same)
 
-module _ {X : Type 0} (number : X → ℕ) (name : X → Text) (row_cmp : X → X → Ordering) (by_number : (a b : X) → row_cmp a b ≡ nat_cmp (number a) (number b)) (called : Text) where
+module _ {X : Type 0} (number : X → ℕ) (name : X → Text) (row_cmp : X → X → Ordering)
+    (by_number : (a b : X) → row_cmp a b ≡ nat_cmp (number a) (number b)) (called : Text) where
   abbrev key_of : X → NamedId
   key_of r = record { name = name r; id = number r }
 
@@ -78,10 +80,12 @@ module _ {X : Type 0} (number : X → ℕ) (name : X → Text) (row_cmp : X → 
 
   same_order : (x y : X) → name x ≡ called → name y ≡ called → name_cmp (key_of x) (key_of y) ≡ nat_cmp (number x) (number y)
   same_order x y one other =
-      ap (λ (t : Text). ordering_then (text_cmp t (name y)) (nat_cmp (number x) (number y))) one ∙ ap (λ (t : Text). ordering_then (text_cmp called t) (nat_cmp (number x) (number y))) other
+      ap (λ (t : Text). ordering_then (text_cmp t (name y)) (nat_cmp (number x) (number y))) one
+      ∙ ap (λ (t : Text). ordering_then (text_cmp called t) (nat_cmp (number x) (number y))) other
       ∙ ap (λ o. ordering_then o (nat_cmp (number x) (number y))) (tied_itself text_cmp_total called)
 
-  first_same : (rows : List X) → IsStrictlySortedBy row_cmp rows → ((x : X) → IsIn rows x → name x ≡ called) → (keys : List NamedId) → AreKeysOf key_of name_cmp rows keys
+  first_same : (rows : List X) → IsStrictlySortedBy row_cmp rows → ((x : X) → IsIn rows x → name x ≡ called)
+      → (keys : List NamedId) → AreKeysOf key_of name_cmp rows keys
       → option_map (λ k. k.id) (slice_get keys 0) ≡ option_map number (slice_get rows 0)
   unfolding IsStrictlySortedBy
   first_same [] sorted all [] are = refl
@@ -92,29 +96,40 @@ module _ {X : Type 0} (number : X → ℕ) (name : X → Text) (row_cmp : X → 
       apart : (x : X) → IsIn (r ∷ rows) x → number x < number r → ⊥
       apart x (inl is) low = absurd (omega (arith, low, ap number is))
       apart x (inr later) low =
-          let high : number r < number x = ranked (number r) (number x) Less (sym (sym (by_number r x) ∙ in_from_all (λ y. row_cmp r y ≡ Less) rows sorted.0 x later)) in
+          let high : number r < number x = ranked (number r) (number x) Less
+          (sym (sym (by_number r x) ∙ in_from_all (λ y. row_cmp r y ≡ Less) rows sorted.0 x later)) in
           absurd (omega (arith, low, high))
 
       by : ((x : X) × IsIn (r ∷ rows) x × (key_of x ≡ k)) → IsIn (k ∷ keys) (key_of r) → Some k.id ≡ Some (number r)
       by x (inl is) = ap (λ (q : NamedId). Some q.id) is
       by x (inr later) =
           let less : name_cmp k (key_of r) ≡ Less = in_from_all (λ q. name_cmp k q ≡ Less) keys are.ordered.0 (key_of r) later in
-          let turned : nat_cmp (number x.0) (number r) ≡ Less = sym (same_order x.0 r (all x.0 x.1) (all r (inl refl))) ∙ ap (λ q. name_cmp q (key_of r)) x.2 ∙ less in
+          let turned : nat_cmp (number x.0) (number r) ≡ Less = sym (same_order x.0 r (all x.0 x.1) (all r (inl refl)))
+          ∙ ap (λ q. name_cmp q (key_of r)) x.2 ∙ less in
           absurd (apart x.0 x.1 (ranked (number x.0) (number r) Less (sym turned)))
 
   -- the id of the first row with a name
   pub first_named : (rows : List X) → IsStrictlySortedBy row_cmp rows → (keys : List NamedId) → AreKeysOf key_of name_cmp (filter is_called rows) keys
       → option_map (λ k. k.id) (slice_get keys 0) ≡ option_map number (find (λ r. same_text (name r) called) rows)
   first_named rows sorted keys are =
-      first_same (filter is_called rows) (IsStrictlySortedBy-filter row_cmp is_called rows sorted) (λ x here. named x (in_from_filter is_called rows x here).1) keys are
-      ∙ ap (option_map number) (sym (first_found is_called rows) ∙ sym (found_alike (λ r. same_text (name r) called) is_called rows (λ x. tied text_cmp_total called (name x))))
+      first_same (filter is_called rows) (IsStrictlySortedBy-filter row_cmp is_called rows sorted)
+      (λ x here. named x (in_from_filter is_called rows x here).1) keys are
+      ∙ ap (option_map number) (sym (first_found is_called rows)
+      ∙ sym (found_alike (λ r. same_text (name r) called) is_called rows (λ x. tied text_cmp_total called (name x))))
 
 -- ---- keys with one front
 
 -- where a test is that of a front
-pub keys_alike : {X K : Type 0} (of : X → K) (cmp : K → K → Ordering) (side : X → Ordering) (is : X → Bool) → ((x : X) → is x ≡ is_eq (side x)) → (rows : List X) (keys : List K)
+pub keys_alike : {X K : Type 0} (of : X → K) (cmp : K → K → Ordering) (side : X → Ordering) (is : X → Bool)
+    → ((x : X) → is x ≡ is_eq (side x)) → (rows : List X) (keys : List K)
     → AreKeysOf of cmp (filter (λ r. is_eq (side r)) rows) keys → AreKeysOf of cmp (filter is rows) keys
 keys_alike {X = X} of cmp side is same rows keys are = subst (λ (l : List X). AreKeysOf of cmp l keys) (sym (alike side is same rows)) are
+
+-- two texts are these
+pub same_texts : (q r a b : Text) → (same_text a q && same_text b r) ≡ is_eq (ordering_then (text_cmp q a) (text_cmp r b))
+same_texts q r a b =
+    ap (λ x. x && same_text b r) (tied text_cmp_total q a) ∙ ap (λ x. is_eq (text_cmp q a) && x) (tied text_cmp_total r b)
+    ∙ sym (is_eq_then (text_cmp q a) (text_cmp r b))
 
 pub some_any : {K : Type 0} (keys : List K) → not (length keys == 0) ≡ list_any (λ _. true) keys
 some_any [] = refl

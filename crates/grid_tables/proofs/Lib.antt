@@ -1,3 +1,4 @@
+mod ChildLists
 mod Descending
 mod Finding
 mod IndexKeys
@@ -7,7 +8,7 @@ mod Locating
 mod Runs
 mod SamePlaces
 mod Searching
-mod SharedAttributes
+mod SharedValues
 mod Trees
 mod VaultNumbers
 mod WaysUp

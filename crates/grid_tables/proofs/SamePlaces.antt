@@ -1,18 +1,18 @@
 -- A row that takes the place of one with its number, its parent and its name: the ids in the order of places stay.
-use Rattle.std.proofs.Common.{◌≡◌, ◌==◌, ℕ, Bool, true, false, cond, List, [], ◌∷◌, Option, Some, None, inl, inr, refl, sym, ap, ◌∙◌, subst, eqb-true, eq-eqb}
-use Rattle.std.specs.Prelude.{find, map, Result, Ok, Err, OnOk, OnErr}
+use Rattle.std.proofs.Common.{◌≡◌, ◌==◌, ℕ, true, false, cond, List, [], ◌∷◌, inl, inr, refl, sym, ap, ◌∙◌, subst, eqb-true, eq-eqb}
+use Rattle.std.specs.Prelude.{map}
 use Rattle.std.specs.List.{AllByRecursion}
 use Rattle.std.specs.List.Sorted.{IsStrictlySortedBy}
 use Rattle.std.specs.declared.cmp.Ordering.{Ordering}
-use Rattle.std.specs.declared.cmp.Ordering.TheVariants.{Less, Equal, Greater}
-use Rattle.std.specs.Ordering.{is_eq, nat_cmp}
+use Rattle.std.specs.declared.cmp.Ordering.TheVariants.{Less, Equal}
+use Rattle.std.specs.Ordering.{nat_cmp}
 use Rattle.std.specs.Cmp.{IsTotalOrder, nat_cmp_total, nat_cmp_is, on_total, then_total, ranked}
 use Rattle.std.proofs.lemmas.Cmp.{tied_itself, alike_right}
 use Rattle.grid_model.specs.Names.{Text}
 use Rattle.grid_model.specs.Rows.{with_row}
 use Rattle.grid_model.proofs.Comparing.{text_cmp_total}
-use Rattle.tables_laws.proofs.Rows.{IsIn, in_from_find, new_in_with_row, old_in_with_row, in_once, apart_in_with_row}
-use Rattle.grid_tables.specs.Indexes.{IsIndex, place_cmp, found_order}
+use Rattle.tables_laws.proofs.Rows.{IsIn, new_in_with_row, old_in_with_row, in_once, apart_in_with_row}
+use Rattle.grid_tables.specs.Indexes.{IsIndex, place_cmp}
 
 in_map : {X : Type 0} (f : X → X) (rows : List X) (x : X) → IsIn rows x → IsIn (map f rows) (f x)
 in_map f [] x here = absurd here
@@ -76,7 +76,7 @@ module _ {X : Type 0} (number : X → ℕ) (row_cmp : X → X → Ordering) (tot
     rises [] within rising = tt
     rises (r ∷ l) within rising = (above r (within r (inl refl)) l (λ x later. within x (inr later)) rising.0, rises l (λ x later. within x (inr later)) rising.1)
 
-    index_over : (ids : List ℕ) → IsIndex number (place_cmp parent name) rows ids → IsIndex number (place_cmp parent name) (with_row row_cmp rows row) ids
+    pub index_over : (ids : List ℕ) → IsIndex number (place_cmp parent name) rows ids → IsIndex number (place_cmp parent name) (with_row row_cmp rows row) ids
     index_over ids index = record {
       named = map over index.named;
       ids_are = index.ids_are ∙ numbers_over index.named;
@@ -96,22 +96,3 @@ module _ {X : Type 0} (number : X → ℕ) (row_cmp : X → X → Ordering) (tot
                   let yes : (number y == number row) ≡ true = eq-eqb (number y) (number row) (sym (ranked (number row) (number y) Equal (sym (sym (by_number row y) ∙ e)))) in
                   absurd (cc (yes, is)))
             ] refl
-
-  equal_only : (q : Ordering) → is_eq q ≡ true → q ≡ Equal
-  equal_only Less e = absurd (cc)
-  equal_only Equal e = refl
-  equal_only Greater e = absurd (cc)
-
-  found_over : (found : Option X) → find (λ r. number r == number row) rows ≡ found → is_eq (found_order (λ r. place_cmp parent name r row) found) ≡ true
-      → (ids : List ℕ) → IsIndex number (place_cmp parent name) rows ids → IsIndex number (place_cmp parent name) (with_row row_cmp rows row) ids
-  found_over None is told ids index = absurd (cc)
-  found_over (Some old) is told ids index =
-      let there = in_from_find (λ r. number r == number row) rows old is in
-      index_over old there.0 (eqb-true _ _ there.1) (equal_only _ told) ids index
-
-  -- whether it was put or not
-  pub index_in_place : {A E : Type 0} (result : Result A E) (new : List X) → OnOk result (new ≡ with_row row_cmp rows row) → OnErr result (new ≡ rows)
-      → is_eq (found_order (λ r. place_cmp parent name r row) (find (λ r. number r == number row) rows)) ≡ true
-      → (ids : List ℕ) → IsIndex number (place_cmp parent name) rows ids → IsIndex number (place_cmp parent name) new ids
-  index_in_place (Ok x) new put failed told ids index = subst (λ (l : List X). IsIndex number (place_cmp parent name) l ids) (sym put) (found_over _ refl told ids index)
-  index_in_place (Err e) new put failed told ids index = subst (λ (l : List X). IsIndex number (place_cmp parent name) l ids) (sym failed) index

@@ -1,5 +1,5 @@
 -- Ids of rows in the order of parent and name.
-use Rattle.std.specs.Prelude.{◌≡◌, ◌==◌, ◌&&◌, ℕ, Bool, List, Option, None, Some, map, find}
+use Rattle.std.specs.Prelude.{◌≡◌, ◌==◌, ◌&&◌, ℕ, Bool, List, Option, None, Some, map}
 use Rattle.std.specs.List.Sorted.{IsStrictlySortedBy}
 use Rattle.std.specs.declared.cmp.Ordering.{Ordering}
 use Rattle.std.specs.declared.cmp.Ordering.TheVariants.{Less, Equal}
@@ -28,10 +28,6 @@ module _ {X : Type 0} (parent : X → ℕ) (name : X → Text) where
 abbrev pub found_order : {X : Type 0} → (X → Ordering) → Option X → Ordering
 found_order key None = Less
 found_order key (Some r) = key r
-
--- how a parent stands to that of the row with an id
-abbrev pub side_at : {X : Type 0} → (X → ℕ) → (X → ℕ) → ℕ → List X → ℕ → Ordering
-side_at number parent above rows id = found_order (λ r. nat_cmp above (parent r)) (find (λ r. number r == id) rows)
 
 -- The ids are those of these rows, which strictly rise in an order.
 pub record IsIndex {X : Type 0} (number : X → ℕ) (cmp : X → X → Ordering) (rows : List X) (ids : List ℕ) : Type 0 where

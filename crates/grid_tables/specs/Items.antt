@@ -42,7 +42,7 @@ falls_by {R = R} o q a b rest less = by_order (R a b) refl less
     by_order Equal e h = omega (arith, ap ordering_index (alike_right o a b q e))
     by_order Greater e h = absurd (cc)
 
-grouped : (a b c : Ordering) → ordering_then (ordering_then a b) c ≡ ordering_then a (ordering_then b c)
+pub grouped : (a b c : Ordering) → ordering_then (ordering_then a b) c ≡ ordering_then a (ordering_then b c)
 grouped Less b c = refl
 grouped Equal b c = refl
 grouped Greater b c = refl

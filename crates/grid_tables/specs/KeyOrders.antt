@@ -19,8 +19,8 @@ use Rattle.grid_tables.specs.declared.index_key.NamedId.{NamedId}
 use Rattle.grid_tables.specs.declared.index_key.GroupOfUser.{GroupOfUser}
 use Rattle.grid_tables.specs.declared.index_key.AccessOfUser.{AccessOfUser}
 use Rattle.grid_tables.specs.declared.index_key.ReplicaOnLeaf.{ReplicaOnLeaf}
-use Rattle.grid_tables.specs.declared.index_key.ItemWithAttribute.{ItemWithAttribute}
-use Rattle.grid_tables.specs.Items.{falls_by}
+use Rattle.grid_tables.specs.declared.index_key.ItemWithValue.{ItemWithValue}
+use Rattle.grid_tables.specs.Items.{falls_by, grouped}
 
 pub first_tie : (a b : Ordering) → ordering_then a b ≡ Equal → a ≡ Equal
 first_tie Less b e = absurd (cc)
@@ -168,42 +168,60 @@ leaf_own a b e =
 pub leaf_falls : (q : ℕ) (a b : ReplicaOnLeaf) → leaf_cmp a b ≡ Less → ordering_index (nat_cmp q b.leaf) ≤ ordering_index (nat_cmp q a.leaf)
 leaf_falls q a b less = falls_by nat_cmp_total q a.leaf b.leaf (ordering_then (nat_cmp a.object b.object) (nat_cmp a.number b.number)) less
 
--- ---- items with attributes
+-- ---- items with values
 
--- by the name of the attribute, and then by the item
-abbrev pub attribute_cmp : ItemWithAttribute → ItemWithAttribute → Ordering
-attribute_cmp a b = ordering_then (text_cmp a.attribute b.attribute) (ordering_then (nat_cmp (item_number a.kind) (item_number b.kind)) (nat_cmp a.id b.id))
+-- by the kind of item, and then by the id
+abbrev pub same_value_cmp : ItemWithValue → ItemWithValue → Ordering
+same_value_cmp a b = ordering_then (nat_cmp (item_number a.kind) (item_number b.kind)) (nat_cmp a.id b.id)
 
-pub attribute_total : IsTotalOrder attribute_cmp
-attribute_total =
-    then_total (on_total (λ (k : ItemWithAttribute). k.attribute) text_cmp_total)
-    (then_total (on_total (λ (k : ItemWithAttribute). item_number k.kind) nat_cmp_total) (on_total (λ (k : ItemWithAttribute). k.id) nat_cmp_total))
+-- by the value, and then by the item
+abbrev pub same_attribute_cmp : ItemWithValue → ItemWithValue → Ordering
+same_attribute_cmp a b = ordering_then (text_cmp a.value b.value) (same_value_cmp a b)
 
-pub attribute_whole : (a b : ItemWithAttribute) → attribute_cmp a b ≡ Equal → a ≡ b
-attribute_whole a b e =
-    let rest = rest_tie (text_cmp a.attribute b.attribute) (ordering_then (nat_cmp (item_number a.kind) (item_number b.kind)) (nat_cmp a.id b.id)) e in
-    let attribute =
-    text_cmp-IsAntisymmetric a.attribute b.attribute
-    (first_tie (text_cmp a.attribute b.attribute) (ordering_then (nat_cmp (item_number a.kind) (item_number b.kind)) (nat_cmp a.id b.id)) e) in
+-- by the name of the attribute, then by the value, and then by the item
+abbrev pub valued_cmp : ItemWithValue → ItemWithValue → Ordering
+valued_cmp a b = ordering_then (text_cmp a.attribute b.attribute) (same_attribute_cmp a b)
+
+pub valued_total : IsTotalOrder valued_cmp
+valued_total =
+    then_total (on_total (λ (k : ItemWithValue). k.attribute) text_cmp_total)
+    (then_total (on_total (λ (k : ItemWithValue). k.value) text_cmp_total)
+    (then_total (on_total (λ (k : ItemWithValue). item_number k.kind) nat_cmp_total) (on_total (λ (k : ItemWithValue). k.id) nat_cmp_total)))
+
+pub valued_whole : (a b : ItemWithValue) → valued_cmp a b ≡ Equal → a ≡ b
+valued_whole a b e =
+    let rest = rest_tie (text_cmp a.attribute b.attribute) (same_attribute_cmp a b) e in
+    let item = rest_tie (text_cmp a.value b.value) (same_value_cmp a b) rest in
+    let attribute = text_cmp-IsAntisymmetric a.attribute b.attribute (first_tie (text_cmp a.attribute b.attribute) (same_attribute_cmp a b) e) in
+    let value = text_cmp-IsAntisymmetric a.value b.value (first_tie (text_cmp a.value b.value) (same_value_cmp a b) rest) in
     let number =
-    number_whole (item_number a.kind) (item_number b.kind) (first_tie (nat_cmp (item_number a.kind) (item_number b.kind)) (nat_cmp a.id b.id) rest) in
-    let id = number_whole a.id b.id (rest_tie (nat_cmp (item_number a.kind) (item_number b.kind)) (nat_cmp a.id b.id) rest) in
-    λ i. record { attribute = attribute i; kind = kind_whole a.kind b.kind number i; id = id i }
+    number_whole (item_number a.kind) (item_number b.kind) (first_tie (nat_cmp (item_number a.kind) (item_number b.kind)) (nat_cmp a.id b.id) item) in
+    let id = number_whole a.id b.id (rest_tie (nat_cmp (item_number a.kind) (item_number b.kind)) (nat_cmp a.id b.id) item) in
+    λ i. record { attribute = attribute i; value = value i; kind = kind_whole a.kind b.kind number i; id = id i }
 
-abbrev pub attribute_of : TripleRow → ItemWithAttribute
-attribute_of r = record { attribute = r.attribute; kind = r.kind; id = r.id }
+abbrev pub valued_of : TripleRow → ItemWithValue
+valued_of r = record { attribute = r.attribute; value = r.value; kind = r.kind; id = r.id }
 
--- one triple has one attribute
-pub attribute_steady : (a b : TripleRow) → triple_cmp a b ≡ Equal → attribute_of a ≡ attribute_of b
-attribute_steady a b e =
+-- one triple has one attribute and one value
+pub valued_steady : (a b : TripleRow) → triple_cmp a b ≡ Equal → valued_of a ≡ valued_of b
+valued_steady a b e =
     let at_id = rest_tie (nat_cmp (item_number a.kind) (item_number b.kind)) _ e in
     let at_attribute = rest_tie (nat_cmp a.id b.id) _ at_id in
+    let at_value = rest_tie (text_cmp a.attribute b.attribute) _ at_attribute in
     let number = number_whole (item_number a.kind) (item_number b.kind) (first_tie (nat_cmp (item_number a.kind) (item_number b.kind)) _ e) in
     let id = number_whole a.id b.id (first_tie (nat_cmp a.id b.id) _ at_id) in
     let attribute = text_cmp-IsAntisymmetric a.attribute b.attribute (first_tie (text_cmp a.attribute b.attribute) _ at_attribute) in
-    λ i. record { attribute = attribute i; kind = kind_whole a.kind b.kind number i; id = id i }
+    let value = text_cmp-IsAntisymmetric a.value b.value (first_tie (text_cmp a.value b.value) _ at_value) in
+    λ i. record { attribute = attribute i; value = value i; kind = kind_whole a.kind b.kind number i; id = id i }
 
-pub attribute_falls : (q : Text) (a b : ItemWithAttribute) → attribute_cmp a b ≡ Less
+pub attribute_falls : (q : Text) (a b : ItemWithValue) → valued_cmp a b ≡ Less
     → ordering_index (text_cmp q b.attribute) ≤ ordering_index (text_cmp q a.attribute)
-attribute_falls q a b less =
-    falls_by text_cmp_total q a.attribute b.attribute (ordering_then (nat_cmp (item_number a.kind) (item_number b.kind)) (nat_cmp a.id b.id)) less
+attribute_falls q a b less = falls_by text_cmp_total q a.attribute b.attribute (same_attribute_cmp a b) less
+
+pub valued_falls : (q r : Text) (a b : ItemWithValue) → valued_cmp a b ≡ Less
+    → ordering_index (ordering_then (text_cmp q b.attribute) (text_cmp r b.value))
+    ≤ ordering_index (ordering_then (text_cmp q a.attribute) (text_cmp r a.value))
+valued_falls q r a b less =
+    falls_by (then_total (on_total (λ (p : Text × Text). p.0) text_cmp_total) (on_total (λ (p : Text × Text). p.1) text_cmp_total)) (q, r)
+    (a.attribute, a.value) (b.attribute, b.value) (same_value_cmp a b)
+    (grouped (text_cmp a.attribute b.attribute) (text_cmp a.value b.value) (same_value_cmp a b) ∙ less)

@@ -1,3 +1,4 @@
+pub mod ChildLists
 pub mod Counts
 pub mod Descending
 pub mod KeyOrders

@@ -10,7 +10,7 @@ ghost use Rattle.grid_tables.specs.KeyOrders.{name_cmp, name_total, name_whole, 
 ghost use Rattle.grid_tables.specs.KeyOrders.{group_cmp, group_total, group_whole, group_of, group_own, group_falls};
 ghost use Rattle.grid_tables.specs.KeyOrders.{access_of_user_cmp, access_total, access_whole, access_of_row, access_own, access_falls};
 ghost use Rattle.grid_tables.specs.KeyOrders.{leaf_cmp, leaf_total, leaf_whole, leaf_of, leaf_own, leaf_falls};
-ghost use Rattle.grid_tables.specs.KeyOrders.{attribute_cmp, attribute_total, attribute_whole, attribute_of, attribute_falls};
+ghost use Rattle.grid_tables.specs.KeyOrders.{valued_cmp, valued_total, valued_whole, valued_of, attribute_falls, valued_falls};
 
 use crate::kinds::item_number;
 use crate::row::Row;
@@ -19,6 +19,7 @@ use grid_model::{
 };
 use std::alloc::{AllocError, Global};
 use std::cmp::Ordering;
+use std::marker::Model;
 
 /// A key by which rows of a table are looked for beside their own.
 pub(crate) trait IndexKey<T: Row>: Row {
@@ -294,60 +295,113 @@ impl Front<ReplicaOnLeaf> for u32 {
     }
 }
 
-/// An item that has an attribute.
+/// An item that has an attribute with a value.
 #[derive(Debug, Drop)]
-pub struct ItemWithAttribute {
+pub struct ItemWithValue {
     /// The name of the attribute.
     pub attribute: Text,
+    /// The value.
+    pub value: Text,
     /// What the item is.
     pub kind: ItemKind,
     /// Its id.
     pub id: u64,
 }
 
-impl Row for ItemWithAttribute {
-    ghost row_cmp = { attribute_cmp };
+/// An item that has an attribute with a value, in a block of memory of its own: among others, eight bytes are moved for it.
+#[derive(Debug, Drop)]
+pub struct BoxedItem {
+    inside: Box<ItemWithValue>,
+}
 
-    ghost fits = { λ _. true };
+impl Model for BoxedItem {
+    ghost use Rattle.grid_tables.specs.declared.index_key.ItemWithValue.{ItemWithValue};
 
-    ghost total = { attribute_total };
+    ghost Value = { ItemWithValue };
 
-    fn cmp_key(&self, other: &ItemWithAttribute) -> Ordering {
-        self.attribute
-            .cmp(&other.attribute)
-            .then(item_number(self.kind).cmp(&item_number(other.kind)))
-            .then(self.id.cmp(&other.id))
+    ghost view = { λ b. b.inside.value };
+}
+
+impl BoxedItem {
+    // The item in a block of its own. Fails for want of memory alone.
+    fn new(alloc: Global, item: ItemWithValue) -> Result<BoxedItem, AllocError>
+        ensures { IfOk result (λ boxed. boxed ≡ item) }
+    {
+        let inside = Box::new(alloc, item)?;
+        Ok(BoxedItem { inside })
+    }
+
+    /// The item. It takes no memory.
+    pub fn item(&self) -> &ItemWithValue
+        ensures { result.now ≡ self.now }
+    {
+        &self.inside
     }
 }
 
-impl IndexKey<TripleRow> for ItemWithAttribute {
-    ghost of = { attribute_of };
+impl Row for BoxedItem {
+    ghost row_cmp = { valued_cmp };
 
-    ghost whole = { attribute_whole };
+    ghost fits = { λ _. true };
 
-    fn key_of(alloc: Global, row: &TripleRow) -> Result<ItemWithAttribute, AllocError> {
+    ghost total = { valued_total };
+
+    fn cmp_key(&self, other: &BoxedItem) -> Ordering {
+        let (one, other) = (self.item(), other.item());
+        one.attribute
+            .cmp(&other.attribute)
+            .then(one.value.cmp(&other.value))
+            .then(item_number(one.kind).cmp(&item_number(other.kind)))
+            .then(one.id.cmp(&other.id))
+    }
+}
+
+impl IndexKey<TripleRow> for BoxedItem {
+    ghost of = { valued_of };
+
+    ghost whole = { valued_whole };
+
+    fn key_of(alloc: Global, row: &TripleRow) -> Result<BoxedItem, AllocError> {
         let attribute = Text::copy_of(alloc, row.attribute.as_slice())?;
-        Ok(ItemWithAttribute {
+        let value = Text::copy_of(alloc, row.value.as_slice())?;
+        let item = ItemWithValue {
             attribute,
+            value,
             kind: row.kind,
             id: row.id,
-        })
+        };
+        BoxedItem::new(alloc, item)
     }
 
-    fn compare_key(row: &TripleRow, other: &ItemWithAttribute) -> Ordering {
+    fn compare_key(row: &TripleRow, other: &BoxedItem) -> Ordering {
+        let other = other.item();
         row.attribute
             .cmp(&other.attribute)
+            .then(row.value.cmp(&other.value))
             .then(item_number(row.kind).cmp(&item_number(other.kind)))
             .then(row.id.cmp(&other.id))
     }
 }
 
-impl Front<ItemWithAttribute> for &Text {
+/// By the attribute.
+impl Front<BoxedItem> for &Text {
     ghost side = { λ q k. text_cmp q.now k.attribute };
 
     ghost falls = { λ q a b less. attribute_falls q.now a b less };
 
-    fn side(&self, key: &ItemWithAttribute) -> Ordering {
-        (*self).cmp(&key.attribute)
+    fn side(&self, key: &BoxedItem) -> Ordering {
+        (*self).cmp(&key.item().attribute)
+    }
+}
+
+/// By the attribute, and then by the value.
+impl Front<BoxedItem> for (&Text, &Text) {
+    ghost side = { λ q k. ordering_then (text_cmp q.0.now k.attribute) (text_cmp q.1.now k.value) };
+
+    ghost falls = { λ q a b less. valued_falls q.0.now q.1.now a b less };
+
+    fn side(&self, key: &BoxedItem) -> Ordering {
+        let key = key.item();
+        self.0.cmp(&key.attribute).then(self.1.cmp(&key.value))
     }
 }

@@ -11,7 +11,7 @@ ghost use Rattle.grid_tables.specs.Places.{IsPlace, Falls, StartsAt, RowsAtFront
 
 use crate::grouped::{GroupKey, Grouped, InOneGroup};
 use crate::groups::Groups;
-use crate::index_key::{Front, IndexKey, ItemWithAttribute, OwnKey};
+use crate::index_key::{BoxedItem, Front, IndexKey, OwnKey};
 use crate::row::{Numbered, OfItem, Row};
 use grid_model::{ItemKind, Text, TripleRow};
 use std::alloc::{AllocError, Global};
@@ -209,11 +209,13 @@ impl<T: Grouped + Drop, K: OwnKey<T> + Drop> Indexed<T, K> {
     }
 }
 
-// Whether one of these triples has the attribute.
-fn has_attribute(triples: &[TripleRow], attribute: &Text) -> bool
-    ensures { result ≡ list_any (λ t. same_text t.attribute attribute.now) triples.now }
+// Whether one of these triples has the attribute with the value.
+fn has_value(triples: &[TripleRow], attribute: &Text, value: &Text) -> bool
+    ensures { result ≡ list_any (λ t. same_text t.attribute attribute.now && same_text t.value value.now) triples.now }
 {
-    triples.iter().any(|row| row.attribute == *attribute)
+    triples
+        .iter()
+        .any(|row| row.attribute == *attribute && row.value == *value)
 }
 
 // Takes the key of a row out.
@@ -251,14 +253,16 @@ impl<T: Grouped + Drop, K: IndexKey<T> + Drop> Indexed<T, K> {
     }
 }
 
-impl Indexed<TripleRow, ItemWithAttribute> {
-    /// Drops a triple, where it is there. Its attribute stays the item's where another triple of the item has it.
+impl Indexed<TripleRow, BoxedItem> {
+    /// Drops a triple, where it is there. Its attribute with its value stays the item's where another triple of the item has
+    /// both.
     pub(crate) fn remove_triple(&mut self, row: &TripleRow)
         ensures { self.new ≡ filter (λ r. not (eq_by_cmp triple_cmp r row.now)) self.old }
     {
         self.rows.in_order();
         self.rows.remove(row);
-        let shared = has_attribute(self.rows.of_item(row.kind, row.id), &row.attribute);
+        let beside = self.rows.of_item(row.kind, row.id);
+        let shared = has_value(beside, &row.attribute, &row.value);
         if !shared {
             drop_key(&mut self.keys, row);
         }

@@ -29,5 +29,5 @@ mod vaults;
 
 pub use counts::{Ids, Kind};
 pub use error::TableError;
-pub use index_key::{AccessOfUser, GroupOfUser, ItemWithAttribute, ReplicaOnLeaf};
+pub use index_key::{AccessOfUser, BoxedItem, GroupOfUser, ItemWithValue, ReplicaOnLeaf};
 pub use tables::Tables;

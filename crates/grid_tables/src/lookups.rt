@@ -1,12 +1,12 @@
-ghost use Rattle.std.specs.Prelude.{◌≡◌, ◌==◌, ◌<◌, ◌+◌, true, false, filter, find, option_map, IfSome, IfNone};
+ghost use Rattle.std.specs.Prelude.{◌≡◌, ◌==◌, ◌<◌, ◌+◌, ◌&&◌, true, false, filter, find, option_map, IfSome, IfNone};
 ghost use Rattle.std.specs.Option.{option_copied};
 ghost use Rattle.grid_model.specs.Names.{same_text};
 ghost use Rattle.grid_model.specs.Rows.{IsCat, has_collection, has_object, has_resource, has_user, user, replicas_of, triples_of, access_of, kind_of, id_of};
 ghost use Rattle.grid_tables.specs.IndexKeys.{AreKeysOf};
 ghost use Rattle.grid_tables.specs.Indexes.{IsIndex, place_cmp};
-ghost use Rattle.grid_tables.specs.KeyOrders.{access_of_user_cmp, access_of_row, attribute_cmp, attribute_of, group_cmp, group_of, leaf_cmp, leaf_of};
+ghost use Rattle.grid_tables.specs.KeyOrders.{access_of_user_cmp, access_of_row, group_cmp, group_of, leaf_cmp, leaf_of, valued_cmp, valued_of};
 
-use crate::{AccessOfUser, GroupOfUser, ItemWithAttribute, ReplicaOnLeaf, Tables};
+use crate::{AccessOfUser, BoxedItem, GroupOfUser, ReplicaOnLeaf, Tables};
 use grid_model::{
     EntryRow, Item, ItemKind, MemberRow, Numbers, OrphanRow, Pending, ReplicaRow, ResourceRow,
     Text, TripleRow, UserRow,
@@ -198,11 +198,21 @@ impl Tables {
         self.triples.of_item(kind, id)
     }
 
-    /// The items that have an attribute of this name, each once: objects first, then collections, resources and users, by id.
-    pub fn items_with(&self, attribute: &Text) -> &[ItemWithAttribute]
-        ensures { AreKeysOf attribute_of attribute_cmp (filter (λ t. same_text t.attribute attribute.now) self.now.triples) result.now }
+    /// The items that have an attribute of this name, each once for each value that it has: by value, objects first, then
+    /// collections, resources and users, by id.
+    pub fn items_with(&self, attribute: &Text) -> &[BoxedItem]
+        ensures { AreKeysOf valued_of valued_cmp (filter (λ t. same_text t.attribute attribute.now) self.now.triples) result.now }
     {
         self.triples.at(attribute)
+    }
+
+    /// The items that have an attribute of this name with this value, each once: objects first, then collections, resources and
+    /// users, by id.
+    pub fn items_with_value(&self, attribute: &Text, value: &Text) -> &[BoxedItem]
+        ensures { AreKeysOf valued_of valued_cmp
+            (filter (λ t. same_text t.attribute attribute.now && same_text t.value value.now) self.now.triples) result.now }
+    {
+        self.triples.at((attribute, value))
     }
 
     /// The access that an item gives, by user.

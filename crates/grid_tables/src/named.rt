@@ -1,36 +1,43 @@
-ghost use Rattle.std.specs.Prelude.{◌≡◌, ◌<◌, ◌≤◌, ◌==◌, ◌&&◌, Bool, true, false, [], length, find, filter, map, not, vec_len};
-ghost use Rattle.std.specs.Prelude.{vec_capacity, IsTrue, IfOk, IfSome, IfNone, OnOk, OnErr};
-ghost use Rattle.std.specs.List.{list_any};
-ghost use Rattle.std.specs.List.Sorted.{IsPartitionedBy, IsSearchInRange, IsStrictlyIncreasing};
-ghost use Rattle.std.specs.Ordering.{is_eq};
+ghost use Rattle.std.specs.Prelude.{◌≡◌, ◌<◌, ◌≤◌, ◌==◌, ◌&&◌, ℕ, Bool, List, None, true, false, [], length, find, filter, insert, map, not};
+ghost use Rattle.std.specs.Prelude.{option_map, Err, IsTrue, IfOk, IfSome, IfNone, OnOk, OnErr};
+ghost use Rattle.std.specs.List.{list_any, remove};
+ghost use Rattle.std.specs.List.Sorted.{IsSearchInRange, IsStrictlyIncreasing};
+ghost use Rattle.std.specs.Map.{lookup};
+ghost use Rattle.std.specs.BTreeMap.{is_at};
+ghost use Rattle.std.specs.Ordering.{is_eq, nat_cmp};
 ghost use Rattle.std.specs.Option.{option_copied};
 ghost use Rattle.grid_model.specs.Rows.{IsTable, with_row};
-ghost use Rattle.grid_tables.specs.Indexes.{IsIndex, IsNameIndex, place_cmp, order_at, is_placed, found_order, side_at, IsPlacedOnce};
-ghost use Rattle.grid_tables.specs.Places.{IsPlace, Falls, StartsAt, RowsAtFront, passes};
+ghost use Rattle.tables_laws.proofs.Rows.{IsIn};
+ghost use Rattle.grid_tables.specs.ChildLists.{ids_in, HasRoom, AreKept, IsChangedIn, AreChildren};
+ghost use Rattle.grid_tables.specs.Indexes.{IsIndex, IsNameIndex, place_cmp, order_at, is_placed, found_order, IsPlacedOnce};
+ghost use Rattle.grid_tables.specs.Places.{IsPlace, passes};
 
 use crate::keyed::Keyed;
 use crate::placed::Placed;
 use grid_model::Text;
 use std::alloc::{AllocError, Global};
 use std::cmp::Ordering;
+use std::collections::BTreeMap;
 use std::marker::Model;
 
-/// Rows by their ids, and their ids in the order of parent and name. No two rows have one name in one parent.
+/// Rows by their ids, and the ids in each parent in the order of their names, in a list of their own: where a row is
+/// looked for, put or dropped, no id in another parent is looked at or moved. No two rows have one name in one parent.
 #[derive(Debug, Drop)]
 pub(crate) struct Named<T: Placed> {
     rows: Keyed<T>,
-    by_name: Vec<u64>,
+    by_parent: BTreeMap<u64, Vec<u64>>,
+    alloc: Global,
 }
 
 impl<T: Placed> Model for Named<T> {
     ghost use Rattle.std.specs.Prelude.{List};
-    ghost use Rattle.grid_tables.specs.Indexes.{IsIndex, place_cmp};
+    ghost use Rattle.grid_tables.specs.ChildLists.{AreChildren};
 
     ghost Value = { List T };
 
     ghost view = { λ t. t.rows };
 
-    ghost invariant = { λ t. IsIndex T.number (place_cmp T.parent T.name) t.rows t.by_name.items };
+    ghost invariant = { λ t. AreChildren T.number T.parent T.name t.rows t.by_parent.entries };
 }
 
 // How a place stands to that of the row with this id.
@@ -43,59 +50,190 @@ fn order_at<T: Placed>(rows: &Keyed<T>, id: u64, parent: u64, name: &Text) -> Or
     }
 }
 
-// Where a place belongs among ids in the order of theirs, by a binary search.
-fn seek<T: Placed>(rows: &Keyed<T>, ids: &[u64], parent: u64, name: &Text) -> Result<usize, usize>
-    ensures within { IsSearchInRange result (length ids.now) }
-    ensures place { let place = order_at T.parent T.name parent name.now in (kept : T → Bool)
-        → (index : IsNameIndex T.number T.parent T.name (filter kept rows.now) ids.now) → IsPlace place index.named result }
+// Whether a place is behind that of the last one of ids in the order of theirs.
+fn is_behind<T: Placed>(rows: &Keyed<T>, ids: &[u64], parent: u64, name: &Text) -> bool
+    ensures { let place = order_at T.parent T.name parent name.now in IsTrue result → (some : List T) → ((r : T) → IsIn some r → IsIn rows.now r)
+        → (index : IsNameIndex T.number T.parent T.name some ids.now) → IsPlace place index.named (Err (length ids.now)) }
 {
     let _count = rows.len();
+    match ids.last() {
+        Some(id) => order_at(rows, *id, parent, name).is_gt(),
+        None => false,
+    }
+}
+
+// Where a place belongs among ids in the order of theirs: behind the last one, to which names that are put in order go,
+// or else by a binary search.
+fn seek<T: Placed>(rows: &Keyed<T>, ids: &[u64], parent: u64, name: &Text) -> Result<usize, usize>
+    ensures within { IsSearchInRange result (length ids.now) }
+    ensures place { let place = order_at T.parent T.name parent name.now in (some : List T) → ((r : T) → IsIn some r → IsIn rows.now r)
+        → (index : IsNameIndex T.number T.parent T.name some ids.now) → IsPlace place index.named result }
+{
+    let _count = rows.len();
+    if is_behind(rows, ids, parent, name) {
+        return Err(ids.len());
+    }
     ids.binary_search_by(|id| order_at(rows, *id, parent, name).reverse())
 }
 
-// Takes the id of a row out.
-fn forget<T: Placed>(rows: &Keyed<T>, ids: &mut Vec<u64>, id: u64)
-    ensures index { let is_index = IsNameIndex T.number T.parent T.name in
-        is_index rows.now ids.old.items → is_index (filter (λ r. not (T.number r == id)) rows.now) ids.new.items }
-    ensures unchanged { list_any (λ r. T.number r == id) rows.now ≡ false → ids.new.items ≡ ids.old.items }
-    ensures room { vec_len ids.old < vec_capacity ids.old → vec_len ids.new < vec_capacity ids.new }
+// Where a name that no row has in the parent belongs among ids.
+fn free_place<T: Placed>(rows: &Keyed<T>, ids: &[u64], parent: u64, name: &Text) -> usize
+    ensures within { result ≤ length ids.now }
+    ensures place { let place = order_at T.parent T.name parent name.now in (some : List T) → ((r : T) → IsIn some r → IsIn rows.now r)
+        → list_any (λ r. is_placed T.parent T.name parent name.now r) some ≡ false
+        → (index : IsNameIndex T.number T.parent T.name some ids.now) → IsPlace place index.named (Err result) }
 {
-    let _count = rows.len();
-    match rows.get(id) {
-        Some(row) => match seek(rows, ids.as_slice(), row.parent(), row.name()) {
-            Ok(at) => {
-                ids.remove(at);
-            }
-            Err(_) => {}
-        },
+    match seek(rows, ids, parent, name) {
+        Ok(at) => at,
+        Err(at) => at,
+    }
+}
+
+// The ids in a parent.
+fn list_of(lists: &BTreeMap<u64, Vec<u64>>, parent: u64) -> &[u64]
+    ensures { result.now ≡ ids_in lists.now.entries parent }
+{
+    match lists.get(&parent) {
+        Some(ids) => ids.as_slice(),
+        None => &[],
+    }
+}
+
+// Gives a parent that has no list one with room for an id. Fails for want of memory alone, and then all stays.
+fn begin(alloc: Global, lists: &mut BTreeMap<u64, Vec<u64>>, parent: u64) -> Result<(), AllocError>
+    ensures kept { lookup (is_at (nat_cmp parent)) lists.old.entries ≡ None → AreKept lists.old.entries lists.new.entries }
+    ensures room { OnOk result (HasRoom lists.new.entries parent) }
+{
+    let ids = Vec::with_capacity(alloc, 1)?;
+    match lists.insert(parent, ids) {
+        Ok(_) => Ok(()),
+        Err(_) => Err(AllocError),
+    }
+}
+
+// Makes room for one more id in a parent. Fails for want of memory alone.
+fn make_room(
+    alloc: Global,
+    lists: &mut BTreeMap<u64, Vec<u64>>,
+    parent: u64,
+) -> Result<(), AllocError>
+    ensures kept { AreKept lists.old.entries lists.new.entries }
+    ensures room { OnOk result (HasRoom lists.new.entries parent) }
+{
+    match lists.get_mut(&parent) {
+        Some(ids) => ids.reserve(1),
+        None => begin(alloc, lists, parent),
+    }
+}
+
+// Puts an id at a place among those in a parent, which has room for it. It takes no memory.
+fn put_id(lists: &mut BTreeMap<u64, Vec<u64>>, parent: u64, at: usize, id: u64)
+    requires room { HasRoom lists.old.entries parent }
+    requires within { at ≤ length (ids_in lists.old.entries parent) }
+    ensures { IsChangedIn parent (insert (ids_in lists.old.entries parent) at id) lists.old.entries lists.new.entries }
+{
+    match lists.get_mut(&parent) {
+        Some(ids) => {
+            let _ = ids.insert(at, id);
+        }
         None => {}
     }
 }
 
-// How a parent stands to that of the row with this id.
-fn side_of<T: Placed>(rows: &Keyed<T>, id: u64, parent: u64) -> Ordering
-    ensures { result ≡ side_at T.number T.parent parent rows.now id }
+// Takes the id at a place out of those in a parent.
+fn take_id(lists: &mut BTreeMap<u64, Vec<u64>>, parent: u64, at: usize)
+    requires { at < length (ids_in lists.old.entries parent) }
+    ensures taken { IsChangedIn parent (remove (ids_in lists.old.entries parent) at) lists.old.entries lists.new.entries }
+    ensures room { (above : ℕ) → HasRoom lists.old.entries above → HasRoom lists.new.entries above }
 {
-    match rows.get(id) {
-        Some(row) => parent.cmp(&row.parent()),
-        None => Ordering::Less,
+    match lists.get_mut(&parent) {
+        Some(ids) => {
+            ids.remove(at);
+        }
+        None => {}
     }
 }
 
-// How many ids from the front on stand before those in the parent.
-fn before_parent<T: Placed>(rows: &Keyed<T>, ids: &[u64], parent: u64) -> usize
-    ensures within { result ≤ length ids.now }
-    ensures place { let side = side_at T.number T.parent parent rows.now in Falls side ids.now → StartsAt side ids.now result }
+// Drops the list of a parent in which no id stands.
+fn drop_empty(lists: &mut BTreeMap<u64, Vec<u64>>, parent: u64)
+    ensures { AreKept lists.old.entries lists.new.entries }
 {
-    ids.partition_point(|id| side_of(rows, *id, parent).is_gt())
+    if list_of(lists, parent).is_empty() {
+        lists.remove(&parent);
+    }
 }
 
-// How many ids from the front on are in the parent, where none stands before them.
-fn first_in_parent<T: Placed>(rows: &Keyed<T>, ids: &[u64], parent: u64) -> usize
-    ensures within { result ≤ length ids.now }
-    ensures place { let side = side_at T.number T.parent parent rows.now in IsPartitionedBy (λ id. is_eq (side id)) ids.now → RowsAtFront side ids.now result }
+// Takes the id of a row out of those in its parent, and answers the parent.
+fn forget<T: Placed>(rows: &Keyed<T>, lists: &mut BTreeMap<u64, Vec<u64>>, id: u64) -> Option<u64>
+    ensures left { result ≡ option_map T.parent (find (λ r. T.number r == id) rows.now) }
+    ensures children { let are_children = AreChildren T.number T.parent T.name in
+        are_children rows.now lists.old.entries → are_children (filter (λ r. not (T.number r == id)) rows.now) lists.new.entries }
+    ensures unchanged { list_any (λ r. T.number r == id) rows.now ≡ false → AreKept lists.old.entries lists.new.entries }
+    ensures room { (above : ℕ) → HasRoom lists.old.entries above → HasRoom lists.new.entries above }
 {
-    ids.partition_point(|id| side_of(rows, *id, parent).is_eq())
+    let _count = rows.len();
+    match rows.get(id) {
+        Some(row) => {
+            let parent = row.parent();
+            match seek(rows, list_of(lists, parent), parent, row.name()) {
+                Ok(at) => {
+                    take_id(lists, parent, at);
+                    Some(parent)
+                }
+                Err(_) => Some(parent),
+            }
+        }
+        None => None,
+    }
+}
+
+// Drops the list of a parent that was left, where no id stands in it any more.
+fn drop_left(lists: &mut BTreeMap<u64, Vec<u64>>, left: Option<u64>)
+    ensures { AreKept lists.old.entries lists.new.entries }
+{
+    match left {
+        Some(parent) => drop_empty(lists, parent),
+        None => {}
+    }
+}
+
+// Puts a row whose id stands in no list, where no other row has its name in its parent, which has room for it. Fails for
+// want of memory alone, and then nothing is put, and no row has the id.
+fn put_row<T: Placed + Drop>(
+    rows: &mut Keyed<T>,
+    lists: &mut BTreeMap<u64, Vec<u64>>,
+    row: T,
+) -> Result<(), AllocError>
+    requires fits { IsTrue (T.fits row) }
+    requires free { list_any (λ o. is_placed T.parent T.name (T.parent row) (T.name row) o && not (T.number o == T.number row)) rows.old ≡ false }
+    requires room { HasRoom lists.old.entries (T.parent row) }
+    ensures put { OnOk result (rows.new ≡ with_row T.row_cmp rows.old row) }
+    ensures failed { OnErr result (rows.new ≡ rows.old) }
+    ensures absent { OnErr result (list_any (λ r. T.number r == T.number row) rows.old ≡ false) }
+    ensures children { let are_children = AreChildren T.number T.parent T.name in
+        are_children (filter (λ r. not (T.number r == T.number row)) rows.old) lists.old.entries → OnOk result (are_children rows.new lists.new.entries) }
+    ensures kept { OnErr result (AreKept lists.old.entries lists.new.entries) }
+{
+    let _count = rows.len();
+    let id = row.number();
+    let parent = row.parent();
+    let at = free_place(rows, list_of(lists, parent), parent, row.name());
+    if let Err(refused) = rows.put(row) {
+        drop_empty(lists, parent);
+        return Err(refused);
+    }
+    put_id(lists, parent, at, id);
+    Ok(())
+}
+
+// Whether a row has the name and the parent of another one.
+fn is_in_place<T: Placed>(old: &T, row: &T) -> bool
+    ensures { result ≡ is_eq (place_cmp T.parent T.name old.now row.now) }
+{
+    old.parent()
+        .cmp(&row.parent())
+        .then(old.name().cmp(row.name()))
+        .is_eq()
 }
 
 impl<T: Placed> Named<T> {
@@ -105,7 +243,8 @@ impl<T: Placed> Named<T> {
     {
         Named {
             rows: Keyed::empty(alloc),
-            by_name: Vec::new(alloc),
+            by_parent: BTreeMap::new(alloc),
+            alloc,
         }
     }
 
@@ -115,7 +254,7 @@ impl<T: Placed> Named<T> {
         ensures table { IsTable T.row_cmp T.fits self.now }
         ensures once { IsPlacedOnce T.parent T.name self.now }
     {
-        let _ids = &self.by_name;
+        let _lists = &self.by_parent;
         self.rows.len()
     }
 
@@ -159,8 +298,9 @@ impl<T: Placed> Named<T> {
             → list_any (λ r. placed r && test r) self.now ≡ passes test (option_copied result) }
     {
         let _count = self.rows.len();
-        match seek(&self.rows, self.by_name.as_slice(), parent, name) {
-            Ok(at) => self.rows.get(self.by_name[at]),
+        let ids = list_of(&self.by_parent, parent);
+        match seek(&self.rows, ids, parent, name) {
+            Ok(at) => self.rows.get(ids[at]),
             Err(_) => None,
         }
     }
@@ -171,35 +311,25 @@ impl<T: Placed> Named<T> {
     pub(crate) fn children(&self, parent: u64) -> &[u64]
         ensures { IsIndex T.number (place_cmp T.parent T.name) (filter (λ r. T.parent r == parent) self.now) result.now }
     {
-        let _count = self.rows.len();
-        let ids = self.by_name.as_slice();
-        let start = before_parent(&self.rows, ids, parent);
-        let (_, rest) = ids.split_at(start);
-        let count = first_in_parent(&self.rows, rest, parent);
-        let (children, _) = rest.split_at(count);
-        children
-    }
-}
-
-impl<T: Placed> Named<T> {
-    // Whether the row with this one's id has its name and its parent.
-    fn is_in_place(&self, row: &T) -> bool
-        ensures { result ≡ is_eq (found_order (λ r. place_cmp T.parent T.name r row.now) (find (λ r. T.number r == T.number row.now) self.now)) }
-    {
-        match self.rows.get(row.number()) {
-            Some(old) => old
-                .parent()
-                .cmp(&row.parent())
-                .then(old.name().cmp(row.name()))
-                .is_eq(),
-            None => false,
-        }
+        list_of(&self.by_parent, parent)
     }
 }
 
 impl<T: Placed + Drop> Named<T> {
-    // Takes the id of the row with this one's id out, and puts the row where it belongs. Fails for want of memory alone,
-    // and then nothing is put.
+    // Puts a row whose id no row has. Fails for want of memory alone, and then nothing is put.
+    fn put_new(&mut self, row: T) -> Result<(), AllocError>
+        requires fits { IsTrue (T.fits row) }
+        requires free { list_any (λ o. is_placed T.parent T.name (T.parent row) (T.name row) o && not (T.number o == T.number row)) self.old ≡ false }
+        requires absent { None ≡ find (λ r. T.number r == T.number row) self.old }
+        ensures put { OnOk result (self.new ≡ with_row T.row_cmp self.old row) }
+        ensures failed { OnErr result (self.new ≡ self.old) }
+    {
+        make_room(self.alloc, &mut self.by_parent, row.parent())?;
+        put_row(&mut self.rows, &mut self.by_parent, row)
+    }
+
+    // Puts a row in the place of the one with its id, which has another name or another parent. Fails for want of memory
+    // alone, and then nothing is put.
     fn put_anew(&mut self, row: T) -> Result<(), AllocError>
         requires fits { IsTrue (T.fits row) }
         requires free { list_any (λ o. is_placed T.parent T.name (T.parent row) (T.name row) o && not (T.number o == T.number row)) self.old ≡ false }
@@ -207,22 +337,10 @@ impl<T: Placed + Drop> Named<T> {
         ensures failed { OnErr result (self.new ≡ self.old) }
     {
         let _count = self.rows.len();
-        self.by_name.reserve(1)?;
-        let id = row.number();
-        forget(&self.rows, &mut self.by_name, id);
-        let place = seek(
-            &self.rows,
-            self.by_name.as_slice(),
-            row.parent(),
-            row.name(),
-        );
-        self.rows.put(row)?;
-        match place {
-            Err(at) => {
-                let _ = self.by_name.insert(at, id);
-            }
-            Ok(_) => {}
-        }
+        make_room(self.alloc, &mut self.by_parent, row.parent())?;
+        let left = forget(&self.rows, &mut self.by_parent, row.number());
+        put_row(&mut self.rows, &mut self.by_parent, row)?;
+        drop_left(&mut self.by_parent, left);
         Ok(())
     }
 
@@ -235,17 +353,23 @@ impl<T: Placed + Drop> Named<T> {
         ensures failed { OnErr result (self.new ≡ self.old) }
     {
         let _count = self.rows.len();
-        if self.is_in_place(&row) {
-            return self.rows.put(row);
+        match self.rows.get(row.number()) {
+            Some(old) => {
+                if is_in_place(old, &row) {
+                    return self.rows.put(row);
+                }
+                self.put_anew(row)
+            }
+            None => self.put_new(row),
         }
-        self.put_anew(row)
     }
 
     /// Drops the row with this id, where there is one.
     pub(crate) fn remove(&mut self, id: u64)
         ensures { self.new ≡ filter (λ r. not (T.number r == id)) self.old }
     {
-        forget(&self.rows, &mut self.by_name, id);
+        let left = forget(&self.rows, &mut self.by_parent, id);
+        drop_left(&mut self.by_parent, left);
         self.rows.remove(id);
     }
 }

@@ -142,8 +142,8 @@ impl Tables {
         }
     }
 
-    // The id of the object with this name in a collection.
-    fn object_named(&self, collection: u64, name: &Text) -> Option<u64>
+    /// The id of the object with this name in a collection. It takes no memory.
+    pub fn object_named(&self, collection: u64, name: &Text) -> Option<u64>
         ensures { result ≡ option_map (λ r. r.id) (find (λ r. is_object_named collection name.now r) self.now.objects) }
     {
         match self.objects.find(collection, name) {

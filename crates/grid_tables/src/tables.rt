@@ -4,7 +4,7 @@ ghost use Rattle.grid_model.specs.Rows.{empty_cat};
 ghost use Rattle.grid_tables.specs.declared.error.TableError.TheVariants.{BadDelta, Memory};
 
 use crate::TableError;
-use crate::index_key::{AccessOfUser, GroupOfUser, ItemWithAttribute, NamedId};
+use crate::index_key::{AccessOfUser, BoxedItem, GroupOfUser, NamedId};
 use crate::indexed::Indexed;
 use crate::named::Named;
 use crate::table::Table;
@@ -26,7 +26,7 @@ pub struct Tables {
     pub(crate) collections: Named<CollectionRow>,
     pub(crate) objects: Named<ObjectRow>,
     pub(crate) replicas: Replicas,
-    pub(crate) triples: Indexed<TripleRow, ItemWithAttribute>,
+    pub(crate) triples: Indexed<TripleRow, BoxedItem>,
     pub(crate) entries: Indexed<EntryRow, AccessOfUser>,
     pub(crate) resources: Indexed<ResourceRow, NamedId>,
     pub(crate) rules: Text,

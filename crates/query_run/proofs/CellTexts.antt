@@ -13,7 +13,7 @@ use Rattle.grid_model.specs.declared.queries.Column.TheVariants as column
 use Rattle.query_run.specs.Parts.{combination_of, object_text}
 use Rattle.query_run.specs.declared.parts.Parts.{Parts}
 
-last-push : (p : Path) (n : Text) → last_name (p ++ n ∷ []) ≡ n
+pub last-push : (p : Path) (n : Text) → last_name (p ++ n ∷ []) ≡ n
 last-push [] n = refl
 last-push (a ∷ []) n = refl
 last-push (a ∷ b ∷ p) n = last-push (b ∷ p) n
@@ -22,7 +22,8 @@ module _ (c : Cat) (p : Parts) (o : Bor ObjectRow) (is : p.object ≡ Some o) wh
   abbrev shown_by : (Path × Object → Text) → Option (Bor ObjectRow) → Text
   shown_by f found = option_map_or f (option_map (λ (x : ObjectRow). (p.collection.now ++ x.name ∷ [], object_of c x)) (option_copied found)) []
 
-  pub object-cell : (col : Column) → is_of_replica col ≡ false → is_of_triple col ≡ false → is_of_collection col ≡ false → cell (grid_of c) (combination_of c p) col ≡ object_text o.now col
+  pub object-cell : (col : Column) → is_of_replica col ≡ false → is_of_triple col ≡ false → is_of_collection col ≡ false
+      → cell (grid_of c) (combination_of c p) col ≡ object_text o.now col
   object-cell column.DataName r t k = ap (shown_by (λ e. last_name e.0)) is ∙ last-push p.collection.now o.now.name
   object-cell column.DataModifyTime r t k = ap (shown_by (λ e. decimal e.1.time)) is
   object-cell column.CollName r t k = absurd cc

@@ -6,6 +6,7 @@ pub mod ListLemmas
 pub mod Members
 pub mod Narrowed
 pub mod ObjectsThere
+pub mod Once
 pub mod OwnTriples
 pub mod PrintedPaths
 pub mod Pushed

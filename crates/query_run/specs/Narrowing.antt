@@ -12,7 +12,7 @@ use Rattle.grid_model.specs.declared.queries.Column.{Column}
 use Rattle.grid_model.specs.declared.queries.Cond.{Cond}
 use Rattle.grid_model.specs.declared.queries.Op.TheVariants.{Equal}
 use Rattle.grid_model.specs.declared.queries.Query.{Query}
-use Rattle.grid_tables.specs.declared.index_key.ItemWithAttribute.{ItemWithAttribute}
+use Rattle.grid_tables.specs.declared.index_key.ItemWithValue.{ItemWithValue}
 use Rattle.tables_laws.proofs.Rows.{IsIn}
 use Rattle.query_run.specs.Shown.{shown_collection, shown_object}
 
@@ -27,6 +27,10 @@ pub record WantsText (conds : List Cond) (column : Column) (text : Text) : Type 
 -- the ids of the objects that the user is shown something of are among these
 abbrev pub HasShownObjects : Cat → Text → Query → List ℕ → Type 0
 HasShownObjects c user q ids = (o : ObjectRow) (row : List Text) → IsIn c.objects o → IsIn (shown_object c user q o.id) row → IsIn ids o.id
+
+-- each object that a user is shown something of is in this collection
+abbrev pub ShowsInside : Cat → Query → ℕ → Type 0
+ShowsInside c q id = (user : Text) (o : ObjectRow) (row : List Text) → IsIn c.objects o → IsIn (shown_object c user q o.id) row → o.collection ≡ id
 
 -- the collection whose path is printed so, if there is one
 abbrev pub FindsPrinted : Cat → Text → Option ℕ → Type 0
@@ -44,5 +48,5 @@ is_object kind.Object = true
 is_object other = false
 
 -- the ids of the objects among these items
-abbrev pub object_ids : List ItemWithAttribute → List ℕ
+abbrev pub object_ids : List ItemWithValue → List ℕ
 object_ids keys = map (λ k. k.id) (filter (λ k. is_object k.kind) keys)

@@ -11,7 +11,7 @@ use Rattle.tables_laws.proofs.Rows.{IsIn}
 abbrev pub unsorted_rows : Grid → Text → Query → List (List Text)
 unsorted_rows g user q = map (λ c. map (cell g c) q.columns) (filter (λ c. is_readable g user c && list_all (meets g c) q.conds) (combinations g q))
 
--- the rows are these, in some order and each at least once
-pub record HasMembers (rows these : List (List Text)) : Type 0 where
-  pub to : (row : List Text) → IsIn rows row → IsIn these row
-  pub from : (row : List Text) → IsIn these row → IsIn rows row
+-- they are these, in some order and each at least once
+pub record HasMembers {X : Type 0} (xs these : List X) : Type 0 where
+  pub to : (x : X) → IsIn xs x → IsIn these x
+  pub from : (x : X) → IsIn these x → IsIn xs x

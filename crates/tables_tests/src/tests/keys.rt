@@ -1,9 +1,9 @@
-//! Look-ups by users, leaves, attributes and names at the small grid, and free ids.
+//! Look-ups by users, leaves, attributes, values and names at the small grid, and free ids.
 
-use super::rows::{fill, orphan, replica, triple};
-use grid_model::{Delta, ItemKind, Text};
-use grid_tables::{AccessOfUser, GroupOfUser, ReplicaOnLeaf, Tables};
-use std::alloc::Global;
+use super::rows::{fill, orphan, replica};
+use grid_model::{Delta, ItemKind, Text, TripleRow};
+use grid_tables::{AccessOfUser, BoxedItem, GroupOfUser, ReplicaOnLeaf, TableError, Tables};
+use std::alloc::{AllocError, Global};
 use std::process::Abort;
 use std::test::Fail;
 
@@ -30,26 +30,97 @@ fn keys_of_leaves(rt: &impl Abort, tables: &Tables) {
     assert_eq!(rt; tables.replicas_on(3).len(), 0);
 }
 
-fn shows_items(rt: &impl Abort, tables: &Tables, attribute: &Text, wanted: &[u64]) {
-    let items = tables.items_with(attribute);
+// the changes of what is said of the object 2
+fn says(
+    alloc: Global,
+    tables: &mut Tables,
+    attribute: &[u8],
+    value: &[u8],
+    unit: &[u8],
+) -> Result<(), TableError> {
+    tables.apply(Delta::Triple(said(alloc, attribute, value, unit)?))
+}
+
+fn unsays(
+    alloc: Global,
+    tables: &mut Tables,
+    attribute: &[u8],
+    value: &[u8],
+    unit: &[u8],
+) -> Result<(), TableError> {
+    tables.apply(Delta::NoTriple(said(alloc, attribute, value, unit)?))
+}
+
+fn said(
+    alloc: Global,
+    attribute: &[u8],
+    value: &[u8],
+    unit: &[u8],
+) -> Result<TripleRow, AllocError> {
+    let attribute = Text::copy_of(alloc, attribute)?;
+    let value = Text::copy_of(alloc, value)?;
+    let unit = Text::copy_of(alloc, unit)?;
+    Ok(TripleRow {
+        kind: ItemKind::Object,
+        id: 2,
+        attribute,
+        value,
+        unit,
+    })
+}
+
+fn are_items(rt: &impl Abort, items: &[BoxedItem], wanted: &[u64]) {
     assert_eq!(rt; items.len(), wanted.len());
     for (key, id) in items.iter().zip(wanted.iter()) {
-        assert_eq!(rt; key.id, *id);
+        assert_eq!(rt; key.item().id, *id);
     }
 }
 
-// an attribute is the item's until its last triple goes
-fn keys_of_attributes(rt: &impl Abort, alloc: Global, tables: &mut Tables) -> Result<(), Fail> {
+// the ids of the items with the attribute `a`, with its values `b` and `c`, and with the value `b` of the attribute `d`
+fn shows(
+    rt: &impl Abort,
+    alloc: Global,
+    tables: &Tables,
+    any: &[u64],
+    b: &[u64],
+    c: &[u64],
+    other: &[u64],
+) -> Result<(), AllocError> {
     let attribute = Text::copy_of(alloc, b"a")?;
-    let other = Text::copy_of(alloc, b"b")?;
-    shows_items(rt, tables, &attribute, [2, 5].as_slice());
-    shows_items(rt, tables, &other, [].as_slice());
-    tables.apply(Delta::Triple(triple(alloc, ItemKind::Object, 2, b"c")?))?;
-    shows_items(rt, tables, &attribute, [2, 5].as_slice());
-    tables.apply(Delta::NoTriple(triple(alloc, ItemKind::Object, 2, b"b")?))?;
-    shows_items(rt, tables, &attribute, [2, 5].as_slice());
-    tables.apply(Delta::NoTriple(triple(alloc, ItemKind::Object, 2, b"c")?))?;
-    shows_items(rt, tables, &attribute, [5].as_slice());
+    let first = Text::copy_of(alloc, b"b")?;
+    let second = Text::copy_of(alloc, b"c")?;
+    let another = Text::copy_of(alloc, b"d")?;
+    are_items(rt, tables.items_with(&attribute), any);
+    are_items(rt, tables.items_with_value(&attribute, &first), b);
+    are_items(rt, tables.items_with_value(&attribute, &second), c);
+    are_items(rt, tables.items_with(&another), other);
+    are_items(rt, tables.items_with_value(&another, &first), other);
+    are_items(rt, tables.items_with_value(&another, &second), &[]);
+    Ok(())
+}
+
+// an item stands once for each value of an attribute, and a value once for each attribute that has it
+fn values_come(rt: &impl Abort, alloc: Global, tables: &mut Tables) -> Result<(), Fail> {
+    shows(rt, alloc, tables, &[2, 5], &[2, 5], &[], &[])?;
+    says(alloc, tables, b"a", b"c", b"")?;
+    shows(rt, alloc, tables, &[2, 5, 2], &[2, 5], &[2], &[])?;
+    says(alloc, tables, b"d", b"b", b"")?;
+    shows(rt, alloc, tables, &[2, 5, 2], &[2, 5], &[2], &[2])?;
+    says(alloc, tables, b"a", b"b", b"kg")?;
+    shows(rt, alloc, tables, &[2, 5, 2], &[2, 5], &[2], &[2])?;
+    Ok(())
+}
+
+// a value is the item's until the last triple with it goes, whatever the units
+fn values_go(rt: &impl Abort, alloc: Global, tables: &mut Tables) -> Result<(), Fail> {
+    unsays(alloc, tables, b"a", b"b", b"")?;
+    shows(rt, alloc, tables, &[2, 5, 2], &[2, 5], &[2], &[2])?;
+    unsays(alloc, tables, b"a", b"b", b"kg")?;
+    shows(rt, alloc, tables, &[5, 2], &[5], &[2], &[2])?;
+    unsays(alloc, tables, b"d", b"b", b"")?;
+    shows(rt, alloc, tables, &[5, 2], &[5], &[2], &[])?;
+    unsays(alloc, tables, b"a", b"c", b"")?;
+    shows(rt, alloc, tables, &[5], &[5], &[], &[])?;
     Ok(())
 }
 
@@ -81,7 +152,8 @@ fn all_keys(rt: &impl Abort, alloc: Global, tables: &mut Tables) -> Result<(), F
     keys_of_leaves(rt, tables);
     free_ids(rt, tables);
     empty_collections(rt, tables);
-    keys_of_attributes(rt, alloc, tables)?;
+    values_come(rt, alloc, tables)?;
+    values_go(rt, alloc, tables)?;
     a_replica_that_moves(rt, tables)
 }
 

@@ -25,7 +25,8 @@ returns-in-None-2-clause-shown c = λ user.
     let t = c.args.tables.now in
     let text = c.in-Some.text.now in
     let asks = subst (λ (conds : List Cond). WantsText conds column.CollName text) c.as_slice.ensures c.in-Some.ensures in
-    no_collection_shown t (sound-made c.requires.0 t c.requires.1) user c.args.query.now text asks (subst (FindsPrinted t text) c.in-None-2.is c.in_ok-collection_printed.ensures) c.new.result.items
+    no_collection_shown t (sound-made c.requires.0 t c.requires.1) user c.args.query.now text asks
+    (subst (FindsPrinted t text) c.in-None-2.is c.in_ok-collection_printed.ensures) c.new.result.items
 
 pub returns-in_ok-vec-in-Some-2-clause-shown : goal.returns-in_ok-vec-in-Some-2-clause-shown
 returns-in_ok-vec-in-Some-2-clause-shown c = λ user.

@@ -1,9 +1,0 @@
-use Rattle.std.proofs.Common.{rules, of_calls}
-use Rattle.std.specs.Ordering.{is_eq}
-use Rattle.std.proofs.lemmas.Fn.{always_returns_same}
-use Rattle.grid_tables.specs.Indexes.{side_at}
-use Rattle.grid_tables.proofs.named.first_in_parent.Goals as goal
-
-pub returns-clause-place : goal.returns-clause-place
-returns-clause-place g c =
-    c.partition_point.ensures.partitioned (λ id. is_eq (side_at g.T.Numbered.number g.T.Placed.parent c.args.parent c.args.rows.now id)) (always_returns_same _ _ _ (λ a r f k. search (rules, of_calls)))
