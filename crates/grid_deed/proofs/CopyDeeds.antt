@@ -1,6 +1,6 @@
 -- What the carrying out of a plan leaves whose files are copied from another.
-use Rattle.std.proofs.Common.{◌≡◌, inl, inr, ℕ, List, [], None, Result, Ok, Err, IsTrue, refl, sym, subst}
-use Rattle.std.specs.Prelude.{⊤, ◌≢◌, ◌⊎◌, ◌≤◌, All}
+use Rattle.std.proofs.Common.{◌≡◌, inl, inr, ℕ, List, [], None, Result, Ok, Err, IsTrue, refl, sym, subst, arith}
+use Rattle.std.specs.Prelude.{⊤, ◌≢◌, ◌⊎◌, ◌<◌, ◌≤◌, All, IfOk}
 use Rattle.grid_outside.specs.Device.{EachMember, IsSettled, Leaves}
 use Rattle.grid_outside.specs.Disk.{DiskState}
 use Rattle.grid_outside.specs.Files.{StoreState}
@@ -24,12 +24,13 @@ use Rattle.grid_deed.specs.declared.copying.Copied.TheVariants.{Done, Bad}
 use Rattle.grid_deed.specs.declared.copying.Copied.TheVariants as copied
 use Rattle.grid_deed.specs.Frame.{Goes, Frame}
 use Rattle.grid_deed.specs.Held.{IsCommitted}
-use Rattle.grid_deed.specs.Safe.{KeepWhole}
-use Rattle.grid_deed.specs.Deeds.{IsDone, CopySays, IsCopied}
+use Rattle.grid_deed.specs.Safe.{AreWhole, KeepWhole}
+use Rattle.grid_deed.specs.Deeds.{IsDone, CopySays, IsCopied, TakesAsCopied}
 use Rattle.grid_deed.proofs.Frames.{frame_then, frame_spanned}
 use Rattle.grid_deed.proofs.Keeping.{held_stands}
 use Rattle.grid_deed.proofs.DeedLemmas.{no_more, then_kept}
 use Rattle.grid_deed.proofs.DeedWholes.{keep_files, keep_last}
+use Rattle.grid_deed.proofs.Wholes.{whole_turned}
 
 pub says_same : {B : Type 0} (plugin : B → StoreState) (files : List NewFile) (from : OldFile) (stores_old stores_new : List B) (answer other : Copied) → answer ≡ other → CopySays plugin files from stores_old stores_new answer → CopySays plugin files from stores_old stores_new other
 says_same plugin files from stores_old stores_new answer other is says = let P : Copied → Type 0 = λ a. CopySays plugin files from stores_old stores_new a in subst P is says
@@ -42,13 +43,26 @@ says_of {B} plugin files from stores_old stores_mid stores_new stores_end answer
     let Q : List B → Type 0 = λ l. CopySays plugin files from stores_old l answer in
     subst Q (sym same_end) (subst P same says)
 
+module _ {B : Type 0} (plugin : B → StoreState) (files : List NewFile) (from : OldFile) (stores_old stores_new : List B) where
+  -- each of the files stands with bytes that the rows take for copies
+  pub stand_copied : (before after : Cat) → TakesAsCopied files from before after → CopySays plugin files from stores_old stores_new Done → (body : Text) × Turns files body before after × All (IsStableAt plugin stores_new body) files
+  stand_copied before after takes (inl none) =
+      let P : List NewFile → Type 0 = λ files. All (IsStableAt plugin stores_new []) files in
+      ([], takes [] (λ some. absurd (some none)), subst P (sym none) (all_of (IsStableAt plugin stores_new []) [] (λ i file is. absurd cc)))
+  stand_copied before after takes (inr copies) = (copies.bytes, takes copies.bytes (λ some. copies.says), copies.stable refl)
+
+  -- so all is whole by them too
+  pub taken_as_copied : {E : Type 0} (result : Result Copied E) → result ≡ Ok Done → IfOk result (CopySays plugin files from stores_old stores_new) → (before after : Cat) → TakesAsCopied files from before after
+      → (to : ℕ) → EachMember (λ k store. (plugin store).last ≤ to) stores_new → (t : ℕ) → to < t → AreWhole plugin t before stores_new → AreWhole plugin t after stores_new
+  taken_as_copied {E} result is says before after takes to lasts t late w =
+      let P : Result Copied E → Type 0 = λ r. IfOk r (CopySays plugin files from stores_old stores_new) in
+      let made = stand_copied before after takes (subst P is says) in
+      whole_turned plugin t files made.0 before after stores_new made.1 (λ slot store at. omega (arith, lasts slot store at, late)) made.2 w
+
 module _ {B : Type 0} (plugin : B → StoreState) {kept cat : Cat} {stores : ℕ} {plan : Plan} {from : OldFile} (p : IsCopyPlan kept cat stores plan from) (stores_old stores_new : List B) where
   -- the last changes are in order, and each of the files stands
   pub copies_made : CopySays plugin plan.files from stores_old stores_new Done → (body : Text) × Turns plan.files body p.mid p.end × All (IsStableAt plugin stores_new body) plan.files
-  copies_made (inl none) =
-      let P : List NewFile → Type 0 = λ files. All (IsStableAt plugin stores_new []) files in
-      ([], p.ends [] (λ some. absurd (some none)), subst P (sym none) (all_of (IsStableAt plugin stores_new []) [] (λ i file is. absurd cc)))
-  copies_made (inr copies) = (copies.bytes, p.ends copies.bytes (λ some. copies.says), copies.stable refl)
+  copies_made = stand_copied plugin plan.files from stores_old stores_new p.mid p.end p.ends
 
 module _ {D A P : Type 0} (disk : D → DiskState) (plugin : P → StoreState) {kept cat : Cat} {stores : ℕ} {plan : Plan} {from : OldFile} (p : IsCopyPlan kept cat stores plan from) (o n : Outside D A P) where
   -- what the first commit leaves where it failed

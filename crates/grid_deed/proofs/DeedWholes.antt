@@ -14,10 +14,16 @@ use Rattle.grid_journal.specs.declared.error.JournalError.{JournalError}
 use Rattle.grid_deed.specs.Frame.{Goes}
 use Rattle.grid_deed.specs.Held.{IsCommitted}
 use Rattle.file_laws.specs.Plans.{Turns}
-use Rattle.grid_deed.specs.Safe.{KeepWhole}
+use Rattle.grid_deed.specs.Safe.{KeepWhole, KeepBothWhole}
 use Rattle.grid_deed.proofs.Frames.{goes_nowhere, stores_as, stores_went}
 use Rattle.grid_deed.proofs.Wholes.{whole_turned, whole_turned_none, keep_commit, keep_more}
 use Rattle.grid_deed.proofs.Touched.{keep_touched}
+
+-- changes that lead on from the rows in memory were kept, or how far that came
+pub keep_staged : {B : Type 0} (state : B → StoreState) (kept cat after : Cat) → Turns [] [] cat after → (from : ℕ) (old new : Journal) (main_old main_new : DiskState) (stores_old stores_new : List B) → stores_new ≡ stores_old
+    → (result : Result ⊤ JournalError) → IsCommitted kept after from old main_old main_new result new → KeepBothWhole state from kept cat main_old main_new stores_old stores_new
+keep_staged state kept cat after turns from old new main_old main_new stores_old stores_new same result c by_memory =
+    keep_commit state from kept after old new main_old main_new result stores_old stores_new same c (λ t late w. whole_turned_none state t cat after stores_old turns (by_memory t late))
 
 module _ {B : Type 0} (state : B → StoreState) (kept mid : Cat) (begins : Turns [] [] kept mid) (from : ℕ) (old middle : Journal) (main_old main_mid : DiskState) (stores_old stores_mid : List B) (same : stores_mid ≡ stores_old) where
   -- the first changes were kept, or how far that came

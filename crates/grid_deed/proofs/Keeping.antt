@@ -16,13 +16,13 @@ use Rattle.grid_model.specs.Applying.{IsMade, apply_all}
 use Rattle.grid_model.specs.declared.deltas.Delta.{Delta}
 use Rattle.grid_model.specs.declared.grid.Side.{Side}
 use Rattle.grid_journal.specs.Journal.{Journal, Keeps, ClosesAt}
-use Rattle.grid_journal.specs.Store.{Commits}
+use Rattle.grid_journal.specs.Store.{Commits, Stages}
 use Rattle.grid_journal.specs.Stands.{StandsEither, StandsFor}
 use Rattle.grid_journal.proofs.KeepingLemmas.{keeps_stands as journal_stands}
 use Rattle.grid_journal.proofs.DeltaLemmas.{apply_all_after}
 use Rattle.grid_journal.specs.declared.error.JournalError.{JournalError}
 use Rattle.grid_journal.specs.declared.error.JournalError.TheVariants as journal
-use Rattle.grid_deed.specs.Held.{IsHeld, IsKept, CommitLeaves, IsCommitted}
+use Rattle.grid_deed.specs.Held.{IsHeld, IsKept, IsStaged, CommitLeaves, IsCommitted}
 
 -- ---- what main stands for
 
@@ -114,3 +114,18 @@ commit_room disk kept deltas old new a b (Err e) held commits added worn same ok
 -- an error of one result, as that of another
 pub err_as : {T U : Type 0} (s e : JournalError) → IsErrOf {T = T} {E = JournalError} (Err s) e → IsErrOf {T = U} {E = JournalError} (Err s) e
 err_as s e is = let same : s ≡ e = cc in ap Err same
+
+-- ---- changes that are left to the next commit
+
+pub staged_so : (kept after : Cat) (deltas : List Delta) (main : DiskState) (old new : Journal) → IsHeld kept main old → apply_all old.cat deltas ≡ Ok after → {E : Type 0} (result : Result ⊤ E) → OnOk result (Stages deltas old new)
+    → OnOk result ((c : Cat) (main : Text) → Keeps c old main → Keeps c new main) → OnOk result (IsStaged kept after main new)
+staged_so kept after deltas main old new held applied (Err e) stages keeps = tt
+staged_so kept after deltas main old new held applied (Ok done) stages keeps = record {
+  held = record {
+    sound = stages.sound;
+    staged = ap (apply_all kept) stages.staged ∙ apply_all_after old.staged deltas kept old.cat held.staged ∙ stages.applied;
+    keeps = λ told. keeps kept main.holds (held.keeps told);
+    made = held.made;
+  };
+  cat = (let both : Ok new.cat ≡ Ok after = sym stages.applied ∙ applied in cc);
+}

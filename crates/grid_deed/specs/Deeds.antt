@@ -6,6 +6,7 @@ use Rattle.grid_outside.specs.Files.{StoreState}
 use Rattle.grid_outside.specs.declared.outside.Outside.{Outside}
 use Rattle.grid_outside.specs.declared.outside.Wear.TheVariants.{Log}
 use Rattle.grid_model.specs.DataLines.{parts}
+use Rattle.grid_model.specs.Digests.{HasDigest}
 use Rattle.grid_model.specs.Names.{Text}
 use Rattle.grid_model.specs.Rows.{Cat}
 use Rattle.grid_model.specs.Applying.{apply_all}
@@ -74,6 +75,10 @@ CopySays plugin files from stores_old stores_new Done = (files ≡ []) ⊎ Copie
 CopySays plugin files from stores_old stores_new (copied.Fault fault) =
     (files ≢ []) × (HasSlot files fault.slot ⊎ (fault.slot ≡ from.slot)) × RoseAt plugin fault.slot stores_old stores_new
 CopySays plugin files from stores_old stores_new (Bad found) = (files ≢ []) × Copies plugin from files stores_old stores_new (Some found)
+
+-- the rows take these files for copies of that one, where there are any
+abbrev pub TakesAsCopied : List NewFile → OldFile → Cat → Cat → Type 0
+TakesAsCopied files from before after = (body : Text) → (files ≢ [] → HasDigest from.size from.digest body) → Turns files body before after
 
 -- what a stop leaves of main: nothing of the last changes, unless the files were made
 abbrev pub CopyLeaves : Cat → Cat → Cat → Result Copied JournalError → Text → Type 0

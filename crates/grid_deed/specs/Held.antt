@@ -45,3 +45,8 @@ pub record IsCommitted (kept after : Cat) (from : ℕ) (old : Journal) (main_old
     : Type 0 where
   pub ends : CommitEnds kept after old main_old main_new result new
   pub leaves : IsTrue main_old.tells → IsSettled main_old → Leaves from (CommitLeaves kept after result) main_new
+
+-- Main has the one catalogue still, and memory the other.
+pub record IsStaged (kept after : Cat) (main : DiskState) (new : Journal) : Type 0 where
+  pub held : IsHeld kept main new
+  pub cat : new.cat ≡ after

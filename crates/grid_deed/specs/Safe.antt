@@ -23,3 +23,8 @@ module _ {B : Type 0} (state : B → StoreState) where
   abbrev pub KeepWhole : ℕ → Cat → DiskState → DiskState → List B → List B → Type 0
   KeepWhole from c main_old main_new stores_old stores_new =
       IsTrue main_old.tells → IsSettled main_old → ((t : ℕ) → from < t → AreWhole t c stores_old) → StayWhole from main_new stores_new
+
+  -- The same where the rows in memory lead to what comes next, and all was whole by these too.
+  abbrev pub KeepBothWhole : ℕ → Cat → Cat → DiskState → DiskState → List B → List B → Type 0
+  KeepBothWhole from kept cat main_old main_new stores_old stores_new =
+      ((t : ℕ) → from < t → AreWhole t cat stores_old) → KeepWhole from kept main_old main_new stores_old stores_new

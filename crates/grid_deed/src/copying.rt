@@ -1,14 +1,16 @@
-ghost use Rattle.std.specs.Prelude.{◌≡◌, ◌+◌, ◌*◌, ◌^◌, ◌<◌, ◌≤◌, [], All, length, IfOk, IsErrOf, vec_len};
+ghost use Rattle.std.specs.Prelude.{◌≡◌, ℕ, ◌+◌, ◌*◌, ◌^◌, ◌<◌, ◌≤◌, [], All, length, IfOk, IsErrOf, Ok, vec_len};
 ghost use Rattle.grid_outside.specs.Device.{EachMember};
 ghost use Rattle.grid_model.specs.DataLines.{parts};
 ghost use Rattle.grid_model.specs.Rows.{Cat};
+ghost use Rattle.grid_model.specs.Whole.{IsNamed};
+ghost use Rattle.grid_journal.specs.Journal.{Journal};
 ghost use Rattle.grid_vault.specs.Copying.{AreNamedApart, CopiesOnly};
 ghost use Rattle.grid_vault.specs.Vault.{IsAmong};
 ghost use Rattle.file_laws.specs.Plans.{IsCopyPlan};
 ghost use Rattle.grid_deed.specs.Frame.{IsReady, Frame};
 ghost use Rattle.grid_deed.specs.Held.{IsHeld};
-ghost use Rattle.grid_deed.specs.Safe.{KeepWhole};
-ghost use Rattle.grid_deed.specs.Deeds.{moments_of, CopySays, IsCopied};
+ghost use Rattle.grid_deed.specs.Safe.{AreWhole, KeepWhole};
+ghost use Rattle.grid_deed.specs.Deeds.{moments_of, CopySays, IsCopied, TakesAsCopied};
 
 use crate::performing::commit;
 use grid_journal::{JournalError, Store};
@@ -76,6 +78,40 @@ pub fn perform_copy<D: Disk, A: Ambient, P: Plugin>(
         Ok(()) => Ok(Copied::Done),
         Err(error) => Err(error),
     }
+}
+
+/// Copies the file to each of these, between two commits, and asks nothing of a store where there are none. Main is not called. Each
+/// of the files is to be named before: then all stays whole while they are made, and once they are made by the rows that take them
+/// for copies too. Fails for want of memory alone.
+pub fn copy_file<D: Disk, A: Ambient, P: Plugin>(
+    alloc: Global,
+    outside: &mut Outside<D, A, P>,
+    from: &OldFile,
+    files: &NewFiles,
+) -> Result<Copied, AllocError>
+    requires source { from.now.slot < vec_len outside.old.stores }
+    requires other { ¬ IsAmong files.now from.now.slot from.now.name }
+    requires slots { All (λ file. file.slot < vec_len outside.old.stores) files.now }
+    requires apart { AreNamedApart files.now }
+    requires ready { IsReady D.disk P.plugin (length files.now * (2 + parts from.now.size)) outside.old }
+    ensures says { IfOk result (CopySays P.plugin files.now from.now outside.old.stores.items outside.new.stores.items) }
+    ensures stores_still { files.now ≡ [] → outside.new.stores ≡ outside.old.stores }
+    ensures main { outside.new.main ≡ outside.old.main }
+    ensures frame { Frame D.disk P.plugin ⊥ outside.old outside.new }
+    ensures whole { (kept : Cat) (store : Journal) → IsHeld kept (D.disk outside.old.main) store →
+        ((slot name : ℕ) → IsAmong files.now slot name → IsNamed kept slot name) → KeepWhole P.plugin outside.old.moments kept
+        (D.disk outside.old.main) (D.disk outside.new.main) outside.old.stores.items outside.new.stores.items }
+    ensures made { result ≡ Ok Copied.Done → (before after : Cat) → TakesAsCopied files.now from.now before after →
+        (t : ℕ) → outside.new.moments < t → AreWhole P.plugin t before outside.new.stores.items → AreWhole P.plugin t after outside.new.stores.items }
+    ensures drawn { outside.new.moments ≤ outside.old.moments + length files.now * (2 + parts from.now.size) }
+{
+    copy_each(
+        alloc,
+        &mut outside.stores,
+        &mut outside.moments,
+        from,
+        files,
+    )
 }
 
 // Copies the file to each of these, and asks nothing of a store where there are none. Fails for want of memory alone.

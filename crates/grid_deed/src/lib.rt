@@ -4,9 +4,11 @@
 mod copying;
 mod discarding;
 mod performing;
+mod staging;
 mod touching;
 
-pub use copying::{Copied, perform_copy};
+pub use copying::{Copied, copy_file, perform_copy};
 pub use discarding::{discard, discard_all};
 pub use performing::{commit, perform};
+pub use staging::stage;
 pub use touching::check_file;

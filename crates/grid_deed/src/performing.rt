@@ -5,7 +5,7 @@ ghost use Rattle.grid_model.specs.Applying.{apply_all};
 ghost use Rattle.grid_journal.specs.Journal.{can_be_kept};
 ghost use Rattle.grid_deed.specs.Frame.{IsReady, Frame};
 ghost use Rattle.grid_deed.specs.Held.{IsHeld, IsCommitted};
-ghost use Rattle.grid_deed.specs.Safe.{KeepWhole};
+ghost use Rattle.grid_deed.specs.Safe.{KeepWhole, KeepBothWhole};
 ghost use Rattle.file_laws.specs.Plans.{Turns, IsPlan};
 ghost use Rattle.grid_deed.specs.Deeds.{moments_for, IsDone};
 
@@ -57,7 +57,8 @@ pub fn perform<D: Disk, A: Ambient, P: Plugin>(
     }
 }
 
-/// Applies changes to the rows and keeps them on main, behind the staged ones, in one commit. No store is called.
+/// Applies changes to the rows and keeps them on main, behind the staged ones, in one commit. No store is called. All stays whole
+/// where the changes lead on from what main has, and also where they lead on from the rows in memory, by which all was whole.
 pub fn commit<D: Disk, A: Ambient, P: Plugin>(
     alloc: Global,
     store: &mut Store,
@@ -73,6 +74,9 @@ pub fn commit<D: Disk, A: Ambient, P: Plugin>(
     ensures frame { Frame D.disk P.plugin (IsErrOf result JournalError.DiskFault) outside.old outside.new }
     ensures whole { (kept after : Cat) → IsHeld kept (D.disk outside.old.main) store.old → apply_all store.old.cat deltas ≡ Ok after → Turns [] [] kept after →
         KeepWhole P.plugin outside.old.moments kept (D.disk outside.old.main) (D.disk outside.new.main) outside.old.stores.items outside.new.stores.items }
+    ensures whole_staged { (kept after : Cat) → IsHeld kept (D.disk outside.old.main) store.old → apply_all store.old.cat deltas ≡ Ok after →
+        Turns [] [] store.old.cat after → KeepBothWhole P.plugin outside.old.moments kept store.old.cat (D.disk outside.old.main)
+        (D.disk outside.new.main) outside.old.stores.items outside.new.stores.items }
     ensures stores { outside.new.stores ≡ outside.old.stores }
     ensures drawn { outside.new.moments ≤ outside.old.moments + 4 }
 {

@@ -3,7 +3,7 @@ use Rattle.std.specs.Prelude.{IsErrOf}
 use Rattle.grid_journal.specs.declared.error.JournalError.TheVariants.{DiskFault}
 use Rattle.grid_deed.proofs.Frames.{frame_main, goes_between}
 use Rattle.grid_deed.proofs.Keeping.{committed_so, rests_where, commit_room}
-use Rattle.grid_deed.proofs.DeedWholes.{keep_first}
+use Rattle.grid_deed.proofs.DeedWholes.{keep_first, keep_staged}
 use Rattle.grid_deed.proofs.performing.commit.Goals as goal
 
 pub returns-clause-committed : goal.returns-clause-committed
@@ -28,4 +28,9 @@ returns-clause-frame g c =
 pub returns-clause-whole : goal.returns-clause-whole
 returns-clause-whole g c kept after held applied turns =
     keep_first g.P.Plugin.plugin kept after turns c.args.outside.now.moments c.args.store.now c.commit.new.self (g.D.Disk.disk c.args.outside.now.main) (g.D.Disk.disk c.commit.new.main) c.args.outside.now.stores.items c.args.outside.now.stores.items refl
+    c.commit.result (returns-clause-committed g c kept after held applied)
+
+pub returns-clause-whole_staged : goal.returns-clause-whole_staged
+returns-clause-whole_staged g c kept after held applied turns =
+    keep_staged g.P.Plugin.plugin kept c.args.store.now.cat after turns c.args.outside.now.moments c.args.store.now c.commit.new.self (g.D.Disk.disk c.args.outside.now.main) (g.D.Disk.disk c.commit.new.main) c.args.outside.now.stores.items c.args.outside.now.stores.items refl
     c.commit.result (returns-clause-committed g c kept after held applied)
