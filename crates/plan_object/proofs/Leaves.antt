@@ -1,6 +1,6 @@
--- The leaves of a put, each once, with their slots and names.
-use Rattle.std.proofs.Common.{◌≡◌, ◌==◌, ◌⊎◌, ℕ, suc, ◌+◌, ◌<◌, Bool, true, false, List, [], ◌∷◌, ◌++◌, length, map, Some, inl, inr, IsTrue, refl, sym, ap, ◌∙◌, subst, eqb-true, eq-eqb}
-use Rattle.std.specs.Prelude.{◌&&◌, nat_lt, option_map}
+-- The leaves of a put, each once, with their slots, names and files.
+use Rattle.std.proofs.Common.{◌≡◌, ◌==◌, ◌⊎◌, ℕ, zero, suc, ◌+◌, ◌<◌, ◌≤◌, Bool, true, false, List, [], ◌∷◌, ◌++◌, length, map, Some, inl, inr, IsTrue, refl, sym, ap, ◌∙◌, subst, arith, eqb-true, eq-eqb}
+use Rattle.std.specs.Prelude.{◌&&◌, nat_lt, option_map, slice_get}
 use Rattle.std.specs.List.{AllByRecursion, list_any}
 use Rattle.std.proofs.lemmas.Bool.{and_parts, ltb-true}
 use Rattle.std.proofs.lemmas.List.{append-nil, append_assoc}
@@ -9,12 +9,16 @@ use Rattle.grid_model.specs.Applying.{is_leaf, is_storage, slot_fits}
 use Rattle.grid_model.specs.Whole.{leaf_slot}
 use Rattle.grid_model.specs.declared.deltas.ReplicaRow.{ReplicaRow}
 use Rattle.grid_model.specs.declared.deltas.ResourceRow.{ResourceRow}
+use Rattle.grid_model.specs.declared.plans.NewFile.{NewFile}
+use Rattle.grid_vault.specs.Copying.{AreNamedApart}
+use Rattle.grid_vault.specs.Vault.{IsAmong}
 use Rattle.tables_laws.proofs.Rows.{IsIn, any_from_in, in_from_all, in_from_any}
 use Rattle.tables_laws.proofs.Numbered.{found_in}
 use Rattle.tables_laws.proofs.Resources.{leaf_there}
 use Rattle.tables_laws.proofs.Standing.{ReplicaStands, ResourceStands}
 use Rattle.tables_laws.proofs.Sound.{IsSound}
 use Rattle.file_laws.specs.Puts.{Target, files_from}
+use Rattle.file_laws.specs.Rewriting.{NumberedTarget, targets_of}
 use Rattle.grid_access.proofs.MapEntries.{map_from_in}
 use Rattle.grid_tree.proofs.StepLemmas.{all_push}
 use Rattle.plan_base.proofs.Sizes.{Apart}
@@ -102,6 +106,23 @@ all_small c s (t ∷ ts) leaves slots = (slot_small c s t.leaf t.slot leaves.0 s
 pub length-files : (ts : List Target) (v : ℕ) → length (files_from v ts) ≡ length ts
 length-files [] v = refl
 length-files (t ∷ ts) v = ap suc (length-files ts (v + 1))
+
+-- a file's name is that of its place
+name_at : (ts : List Target) (v i : ℕ) (f : NewFile) → slice_get (files_from v ts) i ≡ Some f → f.name ≡ v + i
+name_at [] v i f is = absurd cc
+name_at (t ∷ ts) v zero f is = let same : record { slot = t.slot; name = v } ≡ f = cc in omega (arith, ap (λ (x : NewFile). x.name) same)
+name_at (t ∷ ts) v (suc i) f is = omega (arith, name_at ts (v + 1) i f is)
+
+pub files_apart : (v : ℕ) (ts : List Target) → AreNamedApart (files_from v ts)
+files_apart v ts i j f g at_i at_j same = omega (arith, name_at ts v i f at_i, name_at ts v j g at_j, same)
+
+pub not_below : (v : ℕ) (ts : List Target) (slot name : ℕ) → IsAmong (files_from v ts) slot name → v ≤ name
+not_below v ts slot name a = omega (arith, name_at ts v a.place a.file a.is, a.name_is)
+
+-- no file, no target
+pub no_targets : (ts : List NumberedTarget) (v : ℕ) → files_from v (targets_of ts) ≡ [] → ts ≡ []
+no_targets [] v none = refl
+no_targets (t ∷ ts) v none = absurd cc
 
 -- ---- those that were none before
 

@@ -24,4 +24,7 @@ pub mod PutLemmas
 pub mod PutDeeds
 pub mod ChksumRows
 pub mod BadMarks
+pub mod CopyMarks
 pub mod ReplDeeds
+pub mod CopyRows
+pub mod CopyDeeds

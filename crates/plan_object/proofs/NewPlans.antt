@@ -1,8 +1,8 @@
--- The plan of a put that makes an object may be carried out, and makes of the grid what the put is.
-use Rattle.std.proofs.Common.{◌≡◌, ◌==◌, ◌⊎◌, ℕ, ◌<◌, true, false, List, [], ◌∷◌, ◌++◌, length, map, Option, Some, None, Result, Ok, Err, inl, inr, IsTrue, refl, sym, ap, ◌∙◌, subst, arith}
-use Rattle.std.specs.Prelude.{◌≢◌, not, ◌&&◌, filter, is_some, nat_lt}
-use Rattle.std.specs.List.{AllByRecursion, Contains, list_all}
-use Rattle.std.proofs.lemmas.List.{append-nil, length-map}
+-- The plan of an object that is put or copied to where none is may be carried out, and makes the grid that has it.
+use Rattle.std.proofs.Common.{◌≡◌, ◌==◌, ℕ, ◌<◌, true, false, List, [], ◌∷◌, ◌++◌, length, map, Option, Some, None, Result, Ok, Err, inl, inr, IsTrue, refl, sym, ap, ◌∙◌, subst, arith}
+use Rattle.std.specs.Prelude.{◌≢◌, not, ◌&&◌, All, filter, is_some, nat_lt}
+use Rattle.std.specs.List.{AllByRecursion, list_all}
+use Rattle.std.proofs.lemmas.List.{length-map}
 use Rattle.std.proofs.lemmas.List.Folds.{list_all-append}
 use Rattle.grid_model.specs.Digests.{HasDigest}
 use Rattle.grid_model.specs.Maps.{empty, get, has, put}
@@ -12,28 +12,33 @@ use Rattle.grid_model.specs.Rows.{Cat, has_object, has_resource}
 use Rattle.grid_model.specs.RowPaths.{object_at}
 use Rattle.grid_model.specs.RowGrids.{grid_of, object_place, resource_name, user_name}
 use Rattle.grid_model.specs.Applying.{IsMade, apply_all, is_leaf, is_user}
-use Rattle.grid_model.specs.Whole.{Naming, by_orphan, by_replica, Names}
+use Rattle.grid_model.specs.Whole.{IsNamed, Naming, by_orphan, by_replica, Names}
 use Rattle.grid_model.specs.Operations.Common.{is_taken, with_new_item}
-use Rattle.grid_model.specs.Operations.Objects.{good_on_all, gone_stale, replicas_there, with_object, written}
+use Rattle.grid_model.specs.Operations.Objects.{good_on_all, with_object, written}
 use Rattle.grid_model.specs.declared.deltas.Delta.{Delta}
 use Rattle.grid_model.specs.declared.deltas.Delta.TheVariants as delta
 use Rattle.grid_model.specs.declared.deltas.EntryRow.{EntryRow}
 use Rattle.grid_model.specs.declared.deltas.ObjectRow.{ObjectRow}
 use Rattle.grid_model.specs.declared.deltas.ReplicaRow.{ReplicaRow}
 use Rattle.grid_model.specs.declared.grid.ItemKind.TheVariants as kind
+use Rattle.grid_model.specs.declared.plans.NewFile.{NewFile}
+use Rattle.grid_model.specs.declared.plans.OldFile.{OldFile}
 use Rattle.grid_model.specs.declared.plans.Plan.{Plan}
 use Rattle.grid_model.proofs.Below.{parent-push}
-use Rattle.tables_laws.proofs.Rows.{IsIn, all_from_in, in_from_all}
+use Rattle.grid_vault.specs.Copying.{AreNamedApart}
+use Rattle.grid_vault.specs.Vault.{IsAmong}
+use Rattle.tables_laws.proofs.Rows.{IsIn, in_from_all}
 use Rattle.tables_laws.proofs.Grids.{paths_same}
 use Rattle.tables_laws.proofs.Places.{resource_names_apart}
 use Rattle.tables_laws.proofs.Standing.{ReplicaStands}
-use Rattle.tables_laws.proofs.Sound.{IsSound, ok-same, sound-apply_all}
-use Rattle.file_laws.specs.Plans.{IsPlan, names_no_file}
-use Rattle.file_laws.specs.Puts.{Target, files_from, put_before}
-use Rattle.file_laws.specs.Rewriting.{IsDropped, IsRewriting, LeavesNoneGood, MayRewrite, NumberedTarget, Rewriting, replicas_placed, targets_of}
+use Rattle.tables_laws.proofs.Sound.{IsSound, sound-apply_all}
+use Rattle.file_laws.specs.Plans.{IsCopyPlan, Turns, names_no_file}
+use Rattle.file_laws.specs.Puts.{Target, files_from}
+use Rattle.file_laws.specs.Rewriting.{NumberedTarget, replicas_placed, targets_of}
 use Rattle.file_laws.proofs.Members.{contains_of, in_of}
-use Rattle.file_laws.proofs.Puts.{AreThere}
-use Rattle.file_laws.proofs.Rewritten.{written_over}
+use Rattle.file_laws.proofs.Placing.{numbered_as, place_all}
+use Rattle.file_laws.proofs.Puts.{AreThere, made_all, put_begins, put_named, put_slots}
+use Rattle.file_laws.proofs.Turning.{turns_apply_all, turns_new_object, turns_then}
 use Rattle.plan_base.specs.Found.{LiesIn}
 use Rattle.plan_base.specs.NewItems.{handed_rows, handed_to, new_entries}
 use Rattle.plan_base.proofs.AtPaths.{above_some, free-not_taken, sound_of}
@@ -42,11 +47,12 @@ use Rattle.plan_base.proofs.PutEntries.{with_entries}
 use Rattle.plan_base.proofs.Sizes.{Apart}
 use Rattle.plan_object.specs.LeafNumbers.{with_numbers}
 use Rattle.plan_object.specs.PutPlans.{AreTargets, IsNewPlan, IsObjectFor}
-use Rattle.plan_object.specs.Writing.{Draws, PlansWriting, Recorded}
+use Rattle.plan_object.specs.ReplPlans.{CopiesGrid}
+use Rattle.plan_object.specs.Writing.{Draws, MakesGrid, PlansWriting, Recorded}
 use Rattle.plan_object.specs.declared.placing.Target as rust
 use Rattle.plan_object.proofs.Filing.{Filed, Ready, filed_all}
 use Rattle.plan_object.proofs.GoodOn.{good_all, none_stand, puts}
-use Rattle.plan_object.proofs.Leaves.{all_known, all_lts, apart_lts, leaf_ids, length-files, lts, slots_lts, small, with_leaves-is}
+use Rattle.plan_object.proofs.Leaves.{all_known, all_lts, apart_lts, files_apart, leaf_ids, length-files, lts, no_targets, not_below, slots_lts, small, with_leaves-is}
 use Rattle.plan_object.proofs.NewObjects.{applied_one, given, grid_one, object_found, one, one_place, one_sound}
 use Rattle.plan_object.proofs.ObjectGrids.{HasIt}
 use Rattle.plan_object.proofs.Orphans.{applied_begun, apply-append, begun, begun_draws, begun_grid, begun_made, in_orphans, some_vault, there_now}
@@ -63,6 +69,29 @@ entries_named : (c : Cat) (user cid id : ℕ) → list_all names_no_file (new_en
 entries_named c user cid id =
     list_all-append names_no_file (handed_to kind.Object id (filter (λ e. not (e.user == user)) (handed_rows c cid))) _
     ∙ ap (λ b. b && true) (handed_named id (filter (λ e. not (e.user == user)) (handed_rows c cid)))
+
+-- ---- of a file and of a body
+
+-- a plan that copies a file writes each body that is recorded so
+pub makes_grid : (c : Cat) (g : Grid) (from : OldFile) (plan : Plan) (body : Text) → HasDigest from.size from.digest body → CopiesGrid c g from plan → MakesGrid c g body plan
+makes_grid c g from plan body has copies = record {
+  is_plan = record {
+    mid = copies.is_plan.mid;
+    end = copies.is_plan.end;
+    first = copies.is_plan.first;
+    then = copies.is_plan.then;
+    spelled_first = copies.is_plan.spelled_first;
+    spelled_then = copies.is_plan.spelled_then;
+    slots = copies.is_plan.slots;
+    begins = copies.is_plan.begins;
+    named = copies.is_plan.named;
+    ends = copies.is_plan.ends body (λ some. has);
+  };
+  before = copies.before;
+  ran = copies.ran;
+  drawn_first = copies.drawn_first;
+  drawn = copies.drawn;
+}
 
 -- ---- the plan
 
@@ -164,22 +193,19 @@ module _ (c : Cat) (made : IsMade c) (user : ℕ) (its_user : is_user c user ≡
 
   -- ---- the law on files
 
-  abbrev rewriting : Rewriting
-  rewriting = record { dropped = []; staled = []; targets = places; early = []; between = entries; late = [] }
+  abbrev files : List NewFile
+  files = files_from v (targets_of places)
 
-  may : MayRewrite c o rewriting
-  may = record {
-    dropped = tt;
-    staled = tt;
-    targets = are_numbered c tgs [] none_own (apart_lts c s leaves all ts are) (slots_lts c s leaves all ts are);
-    free = all_from_in (λ (r : ReplicaRow). r.object ≡ o.id → IsDropped rewriting r ⊎ AllByRecursion (λ (t : NumberedTarget). t.number ≢ r.number) places) c.replicas (λ r here is. absurd (not_yet r here is));
-    early = refl;
-    between = entries_named c user o.collection o.id;
-    late = refl;
-  }
-
-  none_good : LeavesNoneGood c o rewriting
-  none_good = all_from_in (λ (r : ReplicaRow). r.object ≡ o.id → IsTrue r.good → IsDropped rewriting r ⊎ Contains [] r) c.replicas (λ r here is good. absurd (not_yet r here is))
+  -- once the files are made of a body that is recorded so, if there are any
+  turns : (body : Text) → (places ≢ [] → HasDigest o.size o.digest body) → Turns files body mid end
+  turns body has =
+      turns_then files body mid row end
+      (turns_new_object files body mid (sound_of mid (begun_made c made tgs fits)) o is_row.fresh)
+      (turns_then files body row listed end
+      (turns_apply_all files body entries row listed (entries_named c user o.collection o.id) gives.applied)
+      (place_all files body o places has v listed end listed_sound ready.orphans (made_all (targets_of places) v)
+      (numbered_as c listed refl places (are_numbered c tgs [] none_own (apart_lts c s leaves all ts are) (slots_lts c s leaves all ts are)))
+      ready.found (λ y here is. absurd (not_yet y here is)) filed.applied))
 
   -- ---- the grid
 
@@ -212,15 +238,14 @@ module _ (c : Cat) (made : IsMade c) (user : ℕ) (its_user : is_user c user ≡
         (grid_one c made p o.collection inside none o is_row.fresh refl path_is is_row.named mid.orphans mid.numbers (begun_made c made tgs fits) (begun_grid c made tgs fits));
   }
 
-  replicas_are : puts o.size o.digest (resource_name c) empty places ≡ good_on_all rec.size rec.digest (gone_stale (replicas_there (get g.objects p))) (map (resource_name c) leaves)
+  replicas_are : puts o.size o.digest (resource_name c) empty places ≡ good_on_all rec.size rec.digest empty (map (resource_name c) leaves)
   replicas_are =
       (λ i. puts (is_row.size i) (is_row.digest i) (resource_name c) empty places)
       ∙ sym (good_all rec.size rec.digest (resource_name c) (λ id. has_resource c id ≡ true) (resource_names_apart c s) leaves empty [] tgs
       (none_stand rec.size rec.digest (resource_name c) (λ id. has_resource c id ≡ true) (resource_names_apart c s)) (all_known c s leaves all ts are leaves all)
       (leaf_ids c s leaves all ts are ∙ with_leaves-is [] leaves))
-      ∙ sym (ap (λ f. good_on_all rec.size rec.digest (gone_stale (replicas_there f)) (map (resource_name c) leaves)) get_none)
 
-  ran : (above : Path) → parent p ≡ Some above → grid_of end ≡ with_object g (user_name c user) above p (written (get g.objects p) rec.size rec.digest rec.now (map (resource_name c) leaves))
+  ran : (above : Path) → parent p ≡ Some above → grid_of end ≡ with_object g (user_name c user) above p (written None rec.size rec.digest rec.now (map (resource_name c) leaves))
   ran above is = (filed.grid access p empty has_listed).grid ∙ (λ i. record g {
     objects = put g.objects p (record { size = is_row.size i; digest = is_row.digest i; time = is_row.time i; replicas = replicas_are i });
     access = given_access i;
@@ -248,42 +273,59 @@ module _ (c : Cat) (made : IsMade c) (user : ℕ) (its_user : is_user c user ≡
 
   -- ---- all of it
 
-  module _ (plan : Plan) (is : IsNewPlan c user o ts plan) (body : Text) (has_it : HasDigest rec.size rec.digest body) where
-    its_digest : HasDigest o.size o.digest body
-    its_digest = record { size = has_it.size ∙ sym is_row.size; digest = has_it.digest ∙ sym is_row.digest }
-
+  module _ (plan : Plan) (is : IsNewPlan c user o ts plan) where
     first : apply_all c plan.before ≡ Ok mid
     first = ap (apply_all c) is.before ∙ applied_begun c made tgs fits
 
     last : apply_all mid plan.after ≡ Ok end
     last = ap (apply_all mid) is.after ∙ applied_after
 
-    is_rewriting : IsRewriting c o (delta.Object o ∷ []) rewriting plan
-    is_rewriting = record {
-      before = is.before ∙ ap (put_before c) (sym same_targets) ∙ sym (append-nil (put_before c (targets_of places)));
-      files = is.files ∙ ap (files_from v) (sym same_targets);
-      after = is.after ∙ ap (λ (ds : List Delta). delta.Object o ∷ (entries ++ ds)) (sym (append-nil reps));
-      spelled_first = is.spelled_first;
-      spelled_then = is.spelled_then;
-    }
-
-    is_plan : IsPlan c c c.stores plan body
-    is_plan = written_over c s o rewriting may none_good body its_digest mid end plan is_rewriting first last
-
-    mid_is : mid ≡ is_plan.mid
-    mid_is = ok-same mid is_plan.mid (apply_all c plan.before) first is_plan.first
-
-    end_is : end ≡ is_plan.end
-    end_is = ok-same end is_plan.end (apply_all mid plan.after) last (ap (λ (x : Cat). apply_all x plan.after) mid_is ∙ is_plan.then)
+    files_are : plan.files ≡ files
+    files_are = is.files ∙ ap (files_from v) (sym same_targets)
 
     count : length tgs ≡ length plan.files
     count = sym (ap length is.files ∙ length-files tgs v)
 
+    -- its files may be copied from an older one of what is recorded
+    module _ (from : OldFile) (size : from.size ≡ rec.size) (digest : from.digest ≡ rec.digest) (low : from.name < v) where
+      its_digest : (body : Text) → HasDigest from.size from.digest body → HasDigest o.size o.digest body
+      its_digest body has = record { size = has.size ∙ size ∙ sym is_row.size; digest = has.digest ∙ digest ∙ sym is_row.digest }
+
+      some_files : places ≢ [] → plan.files ≢ []
+      some_files some none = some (no_targets places v (sym files_are ∙ none))
+
+      abbrev is_plan : IsCopyPlan c c c.stores plan from
+      is_plan = record {
+        mid = mid;
+        end = end;
+        first = first;
+        then = last;
+        spelled_first = is.spelled_first;
+        spelled_then = is.spelled_then;
+        slots = subst (λ (fs : List NewFile). All (λ f. f.slot < c.stores) fs) (sym is.files) (put_slots c tgs mid (applied_begun c made tgs fits) s c.stores refl);
+        apart = subst AreNamedApart (sym is.files) (files_apart v tgs);
+        other = λ a. omega (arith, not_below v tgs from.slot from.name (subst (λ (fs : List NewFile). IsAmong fs from.slot from.name) is.files a), low);
+        begins = put_begins c tgs mid (applied_begun c made tgs fits);
+        named = subst (λ (fs : List NewFile). (slot name : ℕ) → IsAmong fs slot name → IsNamed mid slot name) (sym is.files) (put_named c tgs mid (applied_begun c made tgs fits));
+        ends = λ body has. subst (λ (fs : List NewFile). Turns fs body mid end) (sym files_are) (turns body (λ some. its_digest body (has (some_files some))));
+      }
+
+      pub copies_new : (above : Path) → parent p ≡ Some above
+          → CopiesGrid c (with_object g (user_name c user) above p (written None rec.size rec.digest rec.now (map (resource_name c) leaves))) from plan
+      copies_new above above_is = record {
+        is_plan = is_plan;
+        before = begun_grid c made tgs fits;
+        ran = ran above above_is;
+        drawn_first = subst (λ n. Draws c n mid) count (begun_draws c made tgs fits);
+        drawn = subst (λ n. Draws c n end) count end_draws;
+      }
+
+  -- a file of what is recorded, older than all
+  abbrev oldest : OldFile
+  oldest = record { slot = 0; name = 0; number = 0; size = rec.size; digest = rec.digest }
+
   pub plans_new : (plan : Plan) → IsNewPlan c user o ts plan → PlansWriting c (user_name c user) p leaves rec plan
-  plans_new plan is above body above_is has_it = record {
-    is_plan = is_plan plan is body has_it;
-    before = ap (λ (x : Cat). grid_of x) (sym (mid_is plan is body has_it)) ∙ begun_grid c made tgs fits;
-    ran = ap (λ (x : Cat). grid_of x) (sym (end_is plan is body has_it)) ∙ ran above above_is;
-    drawn_first = subst (λ (x : Cat). Draws c (length plan.files) x) (mid_is plan is body has_it) (subst (λ n. Draws c n mid) (count plan is body has_it) (begun_draws c made tgs fits));
-    drawn = subst (λ (x : Cat). Draws c (length plan.files) x) (end_is plan is body has_it) (subst (λ n. Draws c n end) (count plan is body has_it) end_draws);
-  }
+  plans_new plan is above body above_is has =
+      subst (λ (f : Option Object). MakesGrid c (with_object g (user_name c user) above p (written f rec.size rec.digest rec.now (map (resource_name c) leaves))) body plan) (sym get_none)
+      (makes_grid c (with_object g (user_name c user) above p (written None rec.size rec.digest rec.now (map (resource_name c) leaves))) oldest plan body has
+      (copies_new plan is oldest refl refl (some_vault c made) above above_is))

@@ -35,14 +35,15 @@ slot_is c s id slot = by (resource c id) refl
         ap (λ (x : Option Resource). option_map_or (λ (y : Resource). y.slot) x 0) (get-named c s id r found)
         ∙ ap (λ (x : Option ℕ). option_map_or (λ (n : ℕ). n) x 0) is
 
-module _ (c : Cat) (made : IsMade c) (user : Text) (w : Wanted) (word : ℕ) (leaves : List ℕ) (goes : GoesTo c user w word leaves) (digest : Digest) (now : ℕ) (plan : Plan) where
+module _ (c : Cat) (made : IsMade c) (user : Text) (w : Wanted) (word : ℕ) (leaves : List ℕ) (goes : GoesTo c user w word leaves) where
   abbrev g : Grid
   g = grid_of c
 
   abbrev tree : Resources
   tree = g.resources
 
-  among : (slot : ℕ) → IsSlotOf c leaves slot → is_among (slots_of tree (possible tree w.resource)) slot ≡ true
+  -- the slots of its leaves are those of leaves that new data of its resource may go to
+  pub among : (slot : ℕ) → IsSlotOf c leaves slot → is_among (slots_of tree (possible tree w.resource)) slot ≡ true
   among slot at =
       let name = resource_name c at.leaf in
       let named : IsIn (map (resource_name c) leaves) name = map_from_in (resource_name c) leaves at.leaf (in_of leaves at.leaf at.there) in
@@ -50,7 +51,7 @@ module _ (c : Cat) (made : IsMade c) (user : Text) (w : Wanted) (word : ℕ) (le
       any_from_in (λ s. s == slot) (slots_of tree (possible tree w.resource)) (slot_of tree name) (map_from_in (slot_of tree) (possible tree w.resource) name may)
       (eq-eqb (slot_of tree name) slot (slot_is c (sound_of c made) at.leaf slot at.slot_is))
 
-  module _ (body : Text) (has : HasDigest w.size digest body) where
+  module _ (digest : Digest) (now : ℕ) (plan : Plan) (body : Text) (has : HasDigest w.size digest body) where
     -- the deed of writing a body of this size and digest
     abbrev written_so : ℕ → Digest → Deed
     written_so size d = record {

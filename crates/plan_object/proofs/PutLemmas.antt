@@ -5,7 +5,11 @@ use Rattle.std.specs.Option.{option_map_or}
 use Rattle.std.specs.List.{list_any}
 use Rattle.std.proofs.lemmas.List.{length-append, length-map}
 use Rattle.grid_model.specs.Maps.{has}
-use Rattle.grid_model.specs.Names.{Text, Path}
+use Rattle.grid_model.specs.Names.{Text, Path, parent}
+use Rattle.grid_model.specs.Grid.{Grid}
+use Rattle.grid_model.specs.Refusing.{◌>>=◌, there, unless}
+use Rattle.grid_model.specs.Operations.Common.{collection_above}
+use Rattle.grid_model.specs.declared.refusal.Refusal.TheVariants.{NoCollection, Exists}
 use Rattle.grid_model.specs.Rows.{Cat, has_object, object}
 use Rattle.grid_model.specs.RowPaths.{object_at}
 use Rattle.grid_model.specs.RowGrids.{grid_of, user_name}
@@ -23,7 +27,7 @@ use Rattle.tables_laws.proofs.Places.{row_there}
 use Rattle.grid_tree.proofs.Reachable.{in_from_append}
 use Rattle.plan_base.proofs.AtPaths.{placed}
 use Rattle.plan_object.specs.OverPlans.{WritesOver}
-use Rattle.plan_object.specs.PutPlans.{AreTargets, IsNewPlan, IsObjectFor, law_target, with_leaf, with_leaves}
+use Rattle.plan_object.specs.PutPlans.{AreTargets, WritesNew, law_target, with_leaf, with_leaves}
 use Rattle.plan_object.specs.Writing.{GoesOnlyTo, MayWrite, PlansWriting, Recorded}
 use Rattle.plan_object.specs.declared.placing.Target.{Target}
 use Rattle.plan_object.proofs.NewPlans.{plans_new}
@@ -38,15 +42,19 @@ fewer kept (id ∷ ids) = omega (arith, fewer (with_leaf kept id) ids, by (list_
     by true = omega arith
     by false = omega (arith, length-append kept (id ∷ []))
 
+-- the collection above is found
+pub above_is : (g : Grid) (p above : Path) → parent p ≡ Some above → has g.collections above ≡ true → collection_above g p ≡ Ok above
+above_is g p above parent_is is = (λ i. there (parent_is i) Exists >>= (λ c. unless (has g.collections c) NoCollection >>= (λ _. Ok c))) ∙ ap (λ b. unless b NoCollection >>= (λ _. Ok above)) is
+
 -- a leaf is written once
 pub few_targets : (c : Cat) (leaves : List ℕ) (ts : List Target) → AreTargets c leaves ts → length ts ≤ length leaves
 few_targets c leaves ts are = omega (arith, fewer [] leaves, ap length are.leaves_are, length-map ts (λ (t : Target). t.leaf))
 
-pub planned : {E : Type 0} (c : Cat) → IsMade c → (user : ℕ) → IsTrue (is_user c user) → (p : Path) (leaves : List ℕ) → MayWrite c p leaves → object_at c p ≡ None → (rec : Recorded) (o : ObjectRow) → IsObjectFor c p rec o → (ts : List Target) → AreTargets c leaves ts
-    → (r : Result Plan E) → IfOk r (IsNewPlan c user o ts) → IfOk r (PlansWriting c (user_name c user) p leaves rec)
-planned c made user its_user p leaves may none rec o is_row ts are (Err e) is = tt
-planned c made user its_user p leaves may none rec o is_row ts are (Ok plan) is =
-    plans_new c made user its_user p (ap (λ b. b || has (grid_of c).objects p) may.free ∙ object_is c made p None (sym none)) rec o is_row leaves may.all ts are plan is
+pub planned : {E : Type 0} (c : Cat) → IsMade c → (user : ℕ) → IsTrue (is_user c user) → (p : Path) (leaves : List ℕ) → MayWrite c p leaves → object_at c p ≡ None → (rec : Recorded) (ts : List Target) → AreTargets c leaves ts
+    → (r : Result Plan E) → IfOk r (WritesNew c user p rec ts) → IfOk r (PlansWriting c (user_name c user) p leaves rec)
+planned c made user its_user p leaves may none rec ts are (Err e) is = tt
+planned c made user its_user p leaves may none rec ts are (Ok plan) is =
+    plans_new c made user its_user p (ap (λ b. b || has (grid_of c).objects p) may.free ∙ object_is c made p None (sym none)) rec is.row is.is_row leaves may.all ts are plan is.is_new
 
 pub planned_over : {E : Type 0} (c : Cat) → IsMade c → (user : Text) (p : Path) (leaves : List ℕ) → MayWrite c p leaves → (id : ℕ) → object_at c p ≡ Some id → (rec : Recorded) (ts : List Target) → AreTargets c leaves ts
     → (r : Result Plan E) → IfOk r (WritesOver c id rec ts) → IfOk r (PlansWriting c user p leaves rec)
@@ -93,9 +101,9 @@ goes_only c leaves ts are plan files slot has =
       slot_is = in_from_all (λ (x : Target). leaf_slot c x.leaf ≡ Some x.slot) ts are.slots t.0 t.1 ∙ ap (λ n. Some n) (t.2 ∙ has.slot_is);
     }
 
-pub only_to : {E : Type 0} (c : Cat) (user : ℕ) (o : ObjectRow) (leaves : List ℕ) (ts : List Target) → AreTargets c leaves ts → (r : Result Plan E) → IfOk r (IsNewPlan c user o ts) → IfOk r (GoesOnlyTo c leaves)
-only_to c user o leaves ts are (Err e) is = tt
-only_to c user o leaves ts are (Ok plan) is = goes_only c leaves ts are plan is.files
+pub only_to : {E : Type 0} (c : Cat) (user : ℕ) (p : Path) (rec : Recorded) (leaves : List ℕ) (ts : List Target) → AreTargets c leaves ts → (r : Result Plan E) → IfOk r (WritesNew c user p rec ts) → IfOk r (GoesOnlyTo c leaves)
+only_to c user p rec leaves ts are (Err e) is = tt
+only_to c user p rec leaves ts are (Ok plan) is = goes_only c leaves ts are plan is.is_new.files
 
 pub only_over : {E : Type 0} (c : Cat) (id : ℕ) (rec : Recorded) (leaves : List ℕ) (ts : List Target) → AreTargets c leaves ts → (r : Result Plan E) → IfOk r (WritesOver c id rec ts) → IfOk r (GoesOnlyTo c leaves)
 only_over c id rec leaves ts are (Err e) is = tt

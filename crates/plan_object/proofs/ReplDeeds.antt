@@ -1,8 +1,7 @@
 -- A plan of a repl is that of the deed of the repl.
-use Rattle.std.proofs.Common.{◌≡◌, ◌==◌, ℕ, ◌<◌, suc, Bool, true, false, List, [], ◌∷◌, length, map, Some, None, Result, Ok, Err, IsTrue, refl, sym, ap, ◌∙◌, subst, arith, eq-eqb}
-use Rattle.std.specs.Prelude.{◌≢◌, ◌||◌, IfOk, not, nat_lt, slice_get}
+use Rattle.std.proofs.Common.{◌≡◌, ◌==◌, ℕ, ◌<◌, true, List, [], ◌∷◌, map, Some, None, Result, Ok, Err, IsTrue, refl, sym, ap, ◌∙◌, subst, arith, eq-eqb}
+use Rattle.std.specs.Prelude.{IfOk, not, slice_get}
 use Rattle.std.specs.List.{AllByRecursion}
-use Rattle.std.proofs.lemmas.Bool.{and_from, lt-ltb}
 use Rattle.grid_model.specs.Names.{Text, Path}
 use Rattle.grid_model.specs.Grid.{Grid, Object}
 use Rattle.grid_model.specs.Rows.{Cat, object, replicas_of}
@@ -31,6 +30,7 @@ use Rattle.plan_object.specs.ReplPlans.{CopiesFile, CopiesGrid, IsIdle, IsReplPl
 use Rattle.plan_object.specs.Writing.{GoesOnlyTo, IsSlotOf}
 use Rattle.plan_object.specs.declared.placing.Target.{Target}
 use Rattle.plan_object.proofs.CopyGrids.{copies_grid}
+use Rattle.plan_object.proofs.CopyMarks.{bad_fits_so, slot_fits, source_fits}
 use Rattle.plan_object.proofs.LackingLeaves.{lacking_all, lacking_named}
 use Rattle.plan_object.proofs.PutDeeds.{slot_is}
 use Rattle.plan_object.proofs.PutLemmas.{goes_only}
@@ -49,10 +49,10 @@ idle_so : (c : Cat) (o : ObjectRow) (ts : List Target) (plan : Plan) → IsReplP
 idle_so c o [] plan idle none = idle
 idle_so c o (t ∷ ts) plan is none = absurd (no_files _ _ (sym none ∙ is.files))
 
--- where there are files one of them has a slot
-some_slot : (files : List NewFile) → files ≢ [] → (slot : ℕ) × HasSlot files slot
-some_slot [] some = absurd (some refl)
-some_slot (f ∷ files) some = (f.slot, record { place = 0; file = f; is = refl; slot_is = refl })
+-- the same of what the steps of planning find
+pub planned_idle : {E : Type 0} (c : Cat) (o : ObjectRow) (ts : List Target) (r : Result Plan E) → IfOk r (IsReplPlan c o ts) → IfOk r (λ plan. plan.files ≡ [] → IsIdle plan)
+planned_idle c o ts (Err e) is = tt
+planned_idle c o ts (Ok plan) is = idle_so c o ts plan is
 
 module _ (c : Cat) (made : IsMade c) (user : Text) (p : Path) (r : Text) (from : OldFile) (may : MayRepl c user p r from) (word now : ℕ)
     (ids : List ℕ) (named : AreNamed c ids (targets (grid_of c).resources r word)) (all : AllByRecursion (λ id. IsTrue (is_leaf c id)) ids) where
@@ -89,27 +89,9 @@ module _ (c : Cat) (made : IsMade c) (user : Text) (p : Path) (r : Text) (from :
       any_from_in (λ n. n == slot) slots (slot_of tree name) (map_from_in (slot_of tree) (lacking o.replicas (possible tree r)) name its)
       (eq-eqb (slot_of tree name) slot (slot_is c (sound_of c made) at.leaf slot at.slot_is))
 
-  some_slots : (slot : ℕ) → is_among slots slot ≡ true → nat_lt 0 (length slots) ≡ true
-  some_slots slot here = by slots here
-    where
-      by : (xs : List ℕ) → is_among xs slot ≡ true → nat_lt 0 (length xs) ≡ true
-      by [] wrong = absurd cc
-      by (x ∷ xs) any = lt-ltb 0 (suc (length xs)) (omega arith)
-
-  or_right : (a b : Bool) → b ≡ true → (a || b) ≡ true
-  or_right true b e = refl
-  or_right false b e = e
-
-  or_left : (a b : Bool) → a ≡ true → (a || b) ≡ true
-  or_left true b e = refl
-  or_left false b e = absurd cc
-
   module _ (ts : List Target) (are : AreTargets c leaves ts) (plan : Plan) (is : IsReplPlan c may.object_row ts plan) where
     its_slot : (slot : ℕ) → HasSlot plan.files slot → is_among slots slot ≡ true
     its_slot slot has = among slot (goes c may.object_row leaves ts are plan is slot has)
-
-    any_slots : plan.files ≢ [] → nat_lt 0 (length slots) ≡ true
-    any_slots some = let has = some_slot plan.files some in some_slots has.0 (its_slot has.0 has.1)
 
     low : from.name < c.numbers.next_vault
     low = omega (arith, (in_from_all (ReplicaStands c) c.replicas (sound_of c made).tied.replicas may.reads.row (in_of c.replicas may.reads.row may.reads.there)).3, may.reads.vault_is)
@@ -128,10 +110,9 @@ module _ (c : Cat) (made : IsMade c) (user : Text) (p : Path) (r : Text) (from :
       digest = sym may.reads.digest;
       makes = makes;
       ran = refl;
-      slots = λ slot has. and_from _ _ (and_from _ _ (some_slots slot (its_slot slot has)) (or_right (from.slot == slot) (is_among slots slot) (its_slot slot has))) refl;
-      source = λ some. and_from _ _ (and_from _ _ (any_slots some) (or_left (from.slot == from.slot) (is_among slots from.slot) (eq-eqb from.slot from.slot refl))) refl;
-      bad = λ some len found other. and_from _ _ (and_from _ _ (and_from _ _ (any_slots some) (eq-eqb from.slot from.slot refl)) other) refl;
-      idle = λ none. idle_so c may.object_row ts plan is none;
+      slots = slot_fits from.slot o.size o.digest slots plan.files its_slot;
+      source = source_fits from.slot o.size o.digest slots plan.files its_slot;
+      bad = bad_fits_so from.slot o.size o.digest slots plan.files its_slot;
     }
 
 -- the same of what the steps of planning find

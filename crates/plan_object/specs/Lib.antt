@@ -1,5 +1,6 @@
 pub mod Allowing
 pub mod ChksumPlans
+pub mod CopyPlans
 pub mod LeafNumbers
 pub mod OverPlans
 pub mod PutPlans

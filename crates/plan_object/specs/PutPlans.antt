@@ -62,3 +62,9 @@ pub record IsNewPlan (c : Cat) (user : ℕ) (o : ObjectRow) (ts : List Target) (
       ≡ delta.Object o ∷ (new_entries c user o.collection kind.Object o.id ++ replicas_placed o c.numbers.next_vault (with_numbers [] (map law_target ts)))
   pub spelled_first : IsTrue (list_all can_be_kept plan.before)
   pub spelled_then : IsTrue (list_all can_be_kept plan.after)
+
+-- the plan writes a new object of the user at the path to these leaves
+pub record WritesNew (c : Cat) (user : ℕ) (p : Path) (r : Recorded) (ts : List Target) (plan : Plan) : Type 0 where
+  pub row : ObjectRow
+  pub is_row : IsObjectFor c p r row
+  pub is_new : IsNewPlan c user row ts plan

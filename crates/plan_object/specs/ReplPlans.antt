@@ -93,7 +93,7 @@ pub record CopiesGrid (c : Cat) (g : Grid) (from : OldFile) (plan : Plan) : Type
   pub drawn : Draws c (length plan.files) is_plan.end
 
 -- A plan of a deed that copies a file: what it makes of the rows is what the row says of the grid, and what its calls of the stores may
--- come to fits. Where it makes no file it does nothing.
+-- come to fits.
 pub record CopiesFile (c : Cat) (row : Or Act) (word now : ℕ) (from : OldFile) (plan : Plan) : Type 0 where
   pub of : Deed
   pub row_is : row ≡ Ok (deed of)
@@ -105,4 +105,3 @@ pub record CopiesFile (c : Cat) (row : Or Act) (word now : ℕ) (from : OldFile)
   pub source : plan.files ≢ [] → IsTrue (fault_fits of.touch of.size from.slot 0)
   pub bad : plan.files ≢ [] → (len : ℕ) (found : Digest) → IsTrue (differs len found of.size of.digest)
       → IsTrue (bad_fits of.touch of.size of.digest from.slot len found 0)
-  pub idle : plan.files ≡ [] → IsIdle plan

@@ -5,6 +5,7 @@ mod allowing;
 mod changes;
 mod checking;
 mod checking_sums;
+mod copying;
 mod getting;
 mod laws;
 mod making;
@@ -16,6 +17,7 @@ mod rewriting;
 mod room;
 
 pub use checking_sums::{chksum_files, plan_chksum};
+pub use copying::{copy_source, plan_copy};
 pub use getting::plan_get;
 pub use laws::a_put_is_written;
 pub use putting::{plan_put, put_targets};

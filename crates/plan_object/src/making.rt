@@ -1,19 +1,52 @@
-ghost use Rattle.std.specs.Prelude.{◌≡◌, ◌≢◌, ◌+◌, ◌<◌, ◌^◌, [], false, length, Some, IsTrue, IfOk};
+ghost use Rattle.std.specs.Prelude.{◌≡◌, ◌+◌, ◌<◌, ◌^◌, length, Ok, Some, IsTrue, IfOk};
 ghost use Rattle.grid_model.specs.Applying.{IsMade};
 ghost use Rattle.grid_model.specs.Deltas.{text};
+ghost use Rattle.grid_model.specs.Names.{Path};
+ghost use Rattle.grid_model.specs.Operations.Common.{collection_above};
+ghost use Rattle.grid_model.specs.RowGrids.{grid_of};
 ghost use Rattle.plan_base.specs.Found.{LiesIn};
-ghost use Rattle.plan_object.specs.PutPlans.{IsNewPlan, IsObjectFor};
+ghost use Rattle.plan_object.specs.PutPlans.{IsNewPlan, IsObjectFor, WritesNew};
 ghost use Rattle.plan_object.specs.Writing.{Recorded};
 
 use crate::changes::{files_of, object, push_replicas, put_before};
 use crate::placing::Target;
-use grid_model::{Deltas, Digest, ItemKind, NewFiles, ObjectRow, OldFiles, Path, Plan, Text};
+use grid_model::{
+    Deltas, Digest, ItemKind, NewFiles, ObjectRow, OldFiles, Path, Plan, PlanError, Text,
+};
 use grid_tables::Tables;
-use plan_base::{name_is_text, next_object_id, push_new_entries};
+use plan_base::{collection_above, name_is_text, next_object_id, push_new_entries};
 use std::alloc::{AllocError, Global};
 
-/// The row of a new object at the path in this collection. Fails for want of memory alone.
-pub(crate) fn new_row(
+/// The plan that makes a new object of the user at the path on the targets: these are the size in bytes and the SHA-256 of its data.
+/// Fails for want of memory alone.
+pub(crate) fn new_object(
+    alloc: Global,
+    tables: &Tables,
+    user: u32,
+    path: &Path,
+    targets: &[Target],
+    size: u64,
+    digest: Digest,
+    now: u64,
+) -> Result<Plan, AllocError>
+    requires made { IsMade tables.now }
+    requires inside { (above : Path) × (collection_above (grid_of tables.now) path.now ≡ Ok above) }
+    requires few { length targets.now < 2 ^ 32 }
+    requires vault { tables.now.numbers.next_vault + length targets.now < 2 ^ 64 }
+    ensures { let r : Recorded = record { size = size; digest = digest; now = now } in
+        IfOk result (WritesNew tables.now user path.now r targets.now) }
+{
+    let parent = match collection_above(alloc, tables, path) {
+        Err(PlanError::Memory) => return Err(AllocError),
+        Err(PlanError::Refused(_)) => unreachable!(),
+        Ok(parent) => parent,
+    };
+    let row = new_row(alloc, tables, parent, path, size, digest, now)?;
+    new_plan(alloc, tables, user, row, targets)
+}
+
+// The row of a new object at the path in this collection. Fails for want of memory alone.
+fn new_row(
     alloc: Global,
     tables: &Tables,
     parent: u64,
@@ -44,8 +77,8 @@ pub(crate) fn new_row(
     }
 }
 
-/// The plan that puts this object of the user on the targets. Fails for want of memory alone.
-pub(crate) fn new_plan(
+// The plan that puts this object of the user on the targets. Fails for want of memory alone.
+fn new_plan(
     alloc: Global,
     tables: &Tables,
     user: u32,

@@ -4,13 +4,12 @@ ghost use Rattle.grid_model.specs.RowGrids.{user_name};
 ghost use Rattle.plan_object.specs.Writing.{FindsTargets, GoesOnlyTo, MayWrite, PlansWriting, Recorded, Wanted};
 
 use crate::checking::check_put;
-use crate::making::{new_plan, new_row};
+use crate::making::new_object;
 use crate::placing::targets_of;
 use crate::rewriting::plan_over;
 use grid_model::{Digest, Mode, Path, Plan, PlanError, Text};
 use grid_tables::Tables;
 use grid_tree::{Leaves, targets};
-use plan_base::collection_above;
 use std::alloc::{AllocError, Global};
 
 /// The leaves that a put of `size` bytes at the path goes to for this word, or why the put is refused.
@@ -67,14 +66,15 @@ pub fn plan_put(
     }
     match tables.object_at(path) {
         Some(id) => plan_over(alloc, tables, id, targets.as_slice(), size, digest, now),
-        None => {
-            let parent = match collection_above(alloc, tables, path) {
-                Err(PlanError::Memory) => return Err(AllocError),
-                Err(PlanError::Refused(_)) => unreachable!(),
-                Ok(parent) => parent,
-            };
-            let row = new_row(alloc, tables, parent, path, size, digest, now)?;
-            new_plan(alloc, tables, user, row, targets.as_slice())
-        }
+        None => new_object(
+            alloc,
+            tables,
+            user,
+            path,
+            targets.as_slice(),
+            size,
+            digest,
+            now,
+        ),
     }
 }

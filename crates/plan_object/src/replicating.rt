@@ -1,4 +1,4 @@
-ghost use Rattle.std.specs.Prelude.{◌≡◌, ℕ, ◌+◌, ◌<◌, ◌≤◌, ◌^◌, length, IsTrue, IfOk};
+ghost use Rattle.std.specs.Prelude.{◌≡◌, ℕ, [], ◌+◌, ◌<◌, ◌≤◌, ◌^◌, length, IsTrue, IfOk};
 ghost use Rattle.grid_model.specs.Applying.{IsMade, is_user};
 ghost use Rattle.grid_model.specs.Names.{Text};
 ghost use Rattle.grid_model.specs.Operations.Replicas.{repl_row};
@@ -70,8 +70,9 @@ pub fn plan_repl(
     requires made { IsMade tables.now }
     requires may { (user : Text) × (from : OldFile) × MayRepl tables.now user path.now resource.now from }
     requires vault { tables.now.numbers.next_vault + 2 ^ 32 ≤ 2 ^ 64 }
-    ensures { (user : Text) (from : OldFile) (now : ℕ) → MayRepl tables.now user path.now resource.now from →
+    ensures copies { (user : Text) (from : OldFile) (now : ℕ) → MayRepl tables.now user path.now resource.now from →
         IfOk result (CopiesFile tables.now (repl_row (grid_of tables.now) user path.now resource.now) word now from) }
+    ensures idle { IfOk result (λ plan. plan.files ≡ [] → IsIdle plan) }
 {
     let id = match tables.object_at(path) {
         None => unreachable!(),

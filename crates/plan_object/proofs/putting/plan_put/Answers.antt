@@ -1,6 +1,7 @@
 use Rattle.std.proofs.Common.{arith, sym}
+use Rattle.grid_model.specs.RowGrids.{grid_of}
 use Rattle.plan_object.specs.Writing.{Recorded}
-use Rattle.plan_object.proofs.PutLemmas.{few_targets, id_there, only_over, only_to, planned, planned_over, targets_as}
+use Rattle.plan_object.proofs.PutLemmas.{above_is, few_targets, id_there, only_over, only_to, planned, planned_over, targets_as}
 use Rattle.plan_object.proofs.putting.plan_put.Goals as goal
 
 pub plan_over-requires-clause-there : goal.plan_over-requires-clause-there
@@ -22,17 +23,23 @@ returns-in-Some-clause-slots c =
     only_over c.args.tables.now c.in-Some.id r c.args.leaves.now c.as_slice-in-Some.result.now
     (targets_as c.args.tables.now c.args.leaves.now _ _ _ c.in_ok-targets.ensures c.as_slice.ensures c.as_slice-in-Some.ensures.value) c.plan_over.result c.plan_over.ensures
 
-pub new_plan-requires-clause-vault : goal.new_plan-requires-clause-vault
-new_plan-requires-clause-vault c =
+pub new_object-requires-clause-inside : goal.new_object-requires-clause-inside
+new_object-requires-clause-inside c =
+    let may = c.requires.may in
+    (may.above, above_is (grid_of c.args.tables.now) c.args.path.now may.above may.parent_is may.there)
+
+pub new_object-requires-clause-vault : goal.new_object-requires-clause-vault
+new_object-requires-clause-vault c =
     omega (arith, c.requires.vault, few_targets c.args.tables.now c.args.leaves.now c.as_slice-in-None.result.now (targets_as c.args.tables.now c.args.leaves.now _ _ _ c.in_ok-targets.ensures c.as_slice.ensures c.as_slice-in-None.ensures.value))
 
 pub returns-clause-plan : goal.returns-clause-plan
 returns-clause-plan c =
     let r : Recorded = record { size = c.args.size; digest = c.args.digest; now = c.args.now } in
-    planned c.args.tables.now c.requires.made c.args.user c.requires.user c.args.path.now c.args.leaves.now c.requires.may (sym c.in-None.ensures) r c.in_ok-row-in-None.row c.in_ok-row-in-None.ensures c.as_slice-in-None.result.now
-    (targets_as c.args.tables.now c.args.leaves.now _ _ _ c.in_ok-targets.ensures c.as_slice.ensures c.as_slice-in-None.ensures.value) c.new_plan.result c.new_plan.ensures
+    planned c.args.tables.now c.requires.made c.args.user c.requires.user c.args.path.now c.args.leaves.now c.requires.may (sym c.in-None.ensures) r c.as_slice-in-None.result.now
+    (targets_as c.args.tables.now c.args.leaves.now _ _ _ c.in_ok-targets.ensures c.as_slice.ensures c.as_slice-in-None.ensures.value) c.new_object.result c.new_object.ensures
 
 pub returns-clause-slots : goal.returns-clause-slots
 returns-clause-slots c =
-    only_to c.args.tables.now c.args.user c.in_ok-row-in-None.row c.args.leaves.now c.as_slice-in-None.result.now
-    (targets_as c.args.tables.now c.args.leaves.now _ _ _ c.in_ok-targets.ensures c.as_slice.ensures c.as_slice-in-None.ensures.value) c.new_plan.result c.new_plan.ensures
+    let r : Recorded = record { size = c.args.size; digest = c.args.digest; now = c.args.now } in
+    only_to c.args.tables.now c.args.user c.args.path.now r c.args.leaves.now c.as_slice-in-None.result.now
+    (targets_as c.args.tables.now c.args.leaves.now _ _ _ c.in_ok-targets.ensures c.as_slice.ensures c.as_slice-in-None.ensures.value) c.new_object.result c.new_object.ensures

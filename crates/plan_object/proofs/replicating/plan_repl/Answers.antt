@@ -8,7 +8,7 @@ use Rattle.plan_object.specs.ReplPlans.{lacking_leaves}
 use Rattle.plan_object.proofs.GotFiles.{known_named}
 use Rattle.plan_object.proofs.LackingLeaves.{left_all}
 use Rattle.plan_object.proofs.PutLemmas.{targets_as}
-use Rattle.plan_object.proofs.ReplDeeds.{planned_repl}
+use Rattle.plan_object.proofs.ReplDeeds.{planned_idle, planned_repl}
 use Rattle.plan_object.proofs.ReplRows.{resource_missing}
 use Rattle.plan_object.proofs.replicating.plan_repl.Goals as goal
 
@@ -25,8 +25,8 @@ targets_of-requires c =
     left_all (λ id. IsTrue (is_leaf c.args.tables.now id)) c.replicas_of.result.now c.in_ok-leaves.leaves c.as_slice.result.now c.in_ok-lacking.lacking.items c.as_slice-2.result.now
     c.in_ok-leaves.ensures.leaves c.as_slice.ensures c.in_ok-lacking.ensures c.as_slice-2.ensures.value
 
-pub returns : goal.returns
-returns c = λ user from now may.
+pub returns-clause-copies : goal.returns-clause-copies
+returns-clause-copies c = λ user from now may.
     let cat = c.args.tables.now in
     let its = known_named cat c.args.resource.now (sound_of cat c.requires.made) c.in-Some-resource_named.resource c.in-Some-resource_named.ensures in
     planned_repl cat c.requires.made user c.args.path.now c.args.resource.now from may c.args.word now c.in_ok-leaves.leaves
@@ -34,3 +34,6 @@ returns c = λ user from now may.
     c.in_ok-leaves.ensures.leaves c.in-Some.id c.in-Some.ensures c.in-Some-object.row.now c.in-Some-object.ensures.row c.as_slice-in-Some-object.result.now
     (targets_as cat _ c.as_slice-2.result.now _ _ c.in_ok-targets.ensures (c.as_slice-2.ensures.value ∙ c.in_ok-lacking.ensures ∙ (λ i. lacking_leaves (c.replicas_of.ensures i) (c.as_slice.ensures i))) c.as_slice-in-Some-object.ensures.value)
     c.replicas_plan.result c.replicas_plan.ensures
+
+pub returns-clause-idle : goal.returns-clause-idle
+returns-clause-idle c = planned_idle c.args.tables.now c.in-Some-object.row.now c.as_slice-in-Some-object.result.now c.replicas_plan.result c.replicas_plan.ensures
