@@ -22,7 +22,7 @@ use Rattle.run_laws.specs.Went.{Rests}
 use Rattle.sess.specs.Places.{Places}
 use Rattle.cmd_run.specs.declared.server.Server.{Server}
 use Rattle.cmd_run.specs.declared.server.Ending.{Ending}
-use Rattle.cmd_run.specs.Around.{around}
+use Rattle.run_laws.specs.Around.{around}
 use Rattle.cmd_run.specs.Answers.{IsTextPut, PutEnds}
 use Rattle.cmd_run.specs.Fits.{state_by, state_of, FitsMain, AreUsers}
 use Rattle.cmd_run.specs.Keeps.{named, ChangesOrNone, IsChange, IsKeptSo}

@@ -111,11 +111,13 @@ module _ {B : Type 0} (old new : World B) (at : State) (c : Cat) (number : ℕ) 
     does_so = s.does_so;
     all = s.all;
     marks_are = marks_none;
+    taken = [];
+    first = record { rest = []; are = refl };
     told_of = tt;
     by_rows = λ clean. subst EndsByRows (sym (ap (λ (r : Reply). r.end) s.reply_is)) tt;
     pieces = [];
     pieces_are = (let Q : List Mark → Type 0 = λ ms. ArePieces (IsKnown old c) number s.d.sent 0 ms [] in subst Q (sym marks_none) tt);
-    shown = shown;
+    shown = λ told. record { part = shown told; few = omega arith };
     caused = caused;
     gave = gave;
     images = λ told sink_told settled sink_settled t main sink late main_left sink_left. image_of main sink (images told sink_told settled sink_settled t main sink late main_left sink_left);
@@ -149,6 +151,7 @@ module _ {B : Type 0} (old new : World B) (at : State) (c : Cat) (number : ℕ) 
       whole differs end state grid all = record {
         state = state;
         grid = grid;
+        all_taken = refl;
         follows = kept behind;
         stands = stands;
         text = λ told. all told ∙ ap (λ (t : Text). old.sink.holds ++ t) (sym text_is);

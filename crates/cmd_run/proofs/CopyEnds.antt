@@ -46,7 +46,7 @@ use Rattle.run_laws.specs.Steps.{IsLeftBehind}
 use Rattle.cmd_run.specs.declared.server.Server.{Server}
 use Rattle.cmd_run.specs.declared.server.Ending.{Ending}
 use Rattle.cmd_run.specs.declared.server.Ending.TheVariants as ending
-use Rattle.cmd_run.specs.Around.{around}
+use Rattle.run_laws.specs.Around.{around}
 use Rattle.cmd_run.specs.Answers.{IsTextPut, PutEnds}
 use Rattle.cmd_run.specs.Copies.{PlansRepl, IsCarriedOut, Backs, copied_mark, copied_end, copied_text, kept_behind}
 use Rattle.cmd_run.specs.Fits.{state_of, FitsMain}

@@ -38,12 +38,12 @@ use Rattle.sess.specs.Places.{Places, sessions_of}
 use Rattle.cmd_run.specs.declared.server.Server.{Server}
 use Rattle.cmd_run.specs.declared.server.Ending.{Ending}
 use Rattle.cmd_run.specs.declared.server.Ending.TheVariants as ending
-use Rattle.cmd_run.specs.Around.{around}
+use Rattle.run_laws.specs.Around.{around}
 use Rattle.cmd_run.specs.Answers.{IsTextPut, PutEnds}
 use Rattle.cmd_run.specs.Fits.{state_by, state_of, FitsMain, AreUsers}
 use Rattle.cmd_run.specs.Gets.{Drawn, Drew}
 use Rattle.cmd_run.specs.Obeys.{Obeys, SaysOnly, IsWorn, IsWornAt, AsksForFile, handled, quiet}
-use Rattle.cmd_run.specs.Passes.{CallsPass}
+use Rattle.run_laws.specs.Passes.{CallsPass}
 use Rattle.cmd_run.specs.Puts.{AsksToDo}
 use Rattle.cmd_run.specs.Writes.{WriteEnds}
 use Rattle.cmd_run.proofs.ChangeEnds.{rests_self, fits_on}

@@ -32,7 +32,7 @@ use Rattle.grid_headline.specs.Files.{IsKnown}
 use Rattle.grid_headline.specs.Worlds.{World}
 use Rattle.run_laws.specs.Steps.{IsToldOf}
 use Rattle.cmd_run.specs.declared.server.Server.{Server}
-use Rattle.cmd_run.specs.Around.{around}
+use Rattle.run_laws.specs.Around.{around}
 use Rattle.cmd_run.specs.Fits.{state_of}
 use Rattle.cmd_run.specs.Gets.{Drawn, Drew}
 use Rattle.cmd_run.specs.Puts.{AsksToDo}

@@ -32,13 +32,13 @@ use Rattle.sess.specs.Places.{Places}
 use Rattle.cmd_run.specs.declared.server.Server.{Server}
 use Rattle.cmd_run.specs.declared.server.Ending.{Ending}
 use Rattle.cmd_run.specs.declared.server.Ending.TheVariants as ending
-use Rattle.cmd_run.specs.Around.{around}
+use Rattle.run_laws.specs.Around.{around}
 use Rattle.cmd_run.specs.Answers.{IsTextPut, PutEnds}
 use Rattle.cmd_run.specs.Fits.{state_by, state_of, FitsMain, AreUsers}
 use Rattle.cmd_run.specs.Gets.{AsksToGet, Drew, Fetches, FetchEnds, IsSent, IsCut, text_behind}
 use Rattle.cmd_run.specs.Keeps.{named, IsKeptSo}
 use Rattle.cmd_run.specs.Obeys.{Obeys, handled, quiet}
-use Rattle.cmd_run.specs.Passes.{Seen, AreReady}
+use Rattle.run_laws.specs.Passes.{Seen, AreReady}
 use Rattle.cmd_run.proofs.ChangeEnds.{fits_on}
 use Rattle.cmd_run.proofs.ChangeLemmas.{state_last, users_last}
 use Rattle.cmd_run.proofs.GetSteps.{has_lines, leaves_since, cut_short, said, whole}

@@ -23,6 +23,7 @@ use Rattle.grid_journal.specs.Stands.{StandsFor, StandsEither}
 use Rattle.grid_deed.specs.Frame.{Goes}
 use Rattle.grid_headline.specs.Worlds.{World}
 use Rattle.run_laws.specs.Steps.{RequestStep, IsHandledWhole, IsLeftBehind, OneOf, not_kept, kept_so, kept}
+use Rattle.run_laws.proofs.Texts.{whole-most}
 use Rattle.cmd_run.specs.declared.server.Server.{Server}
 use Rattle.cmd_run.specs.Answers.{IsTextPut}
 use Rattle.cmd_run.specs.Fits.{state_of}
@@ -146,11 +147,13 @@ module _ {B : Type 0} (old new : World B) (server : Server) (n : ℕ) (request :
     does_so = t.does_so;
     all = refl;
     marks_are = refl;
+    taken = t.m ∷ [];
+    first = record { rest = []; are = refl };
     told_of = (t.told_of, tt);
     by_rows = t.by_rows;
     pieces = piece ∷ [];
     pieces_are = ((bytes, t.sends, refl), tt);
-    shown = λ told. part_of_reply new.sink.holds (shown told);
+    shown = λ told. (let part = part_of_reply new.sink.holds (shown told) in record { part = part; few = whole-most (piece ∷ []) part.count });
     caused = t.caused;
     gave = t.gave;
     images = λ told sink_told settled sink_settled at main sink late main_left sink_left. image_of main sink (images told sink_told settled sink_settled at main sink late main_left sink_left);
@@ -188,6 +191,7 @@ module _ {B : Type 0} (old new : World B) (server : Server) (n : ℕ) (request :
       whole end state grid put_all = record {
         state = state;
         grid = grid;
+        all_taken = refl;
         follows = kept behind;
         stands = stands;
         text = λ told. put_all (mid_tells told) ∙ ap (λ (x : Text). x ++ text) (all.all told) ∙ append_assoc old.sink.holds lines text ∙ ap (λ (x : Text). old.sink.holds ++ x) (sym reply_is);

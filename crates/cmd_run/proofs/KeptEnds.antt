@@ -16,7 +16,7 @@ use Rattle.cmd_run.specs.declared.server.Ending.{Ending}
 use Rattle.cmd_run.specs.declared.server.Ending.TheVariants.{Disk, Sink, Memory, Worn}
 use Rattle.cmd_run.specs.Keeps.{KeepEnds}
 use Rattle.cmd_run.specs.Obeys.{IsWorn, IsWornAt}
-use Rattle.cmd_run.specs.Passes.{Seen, CallsPass}
+use Rattle.run_laws.specs.Passes.{Seen, CallsPass}
 
 -- keeping does not fail by the sink
 pub not_sink : (kept after : Cat) (main_old main_new : DiskState) (s : Server) (e : Ending) → KeepEnds kept after main_old main_new (Err e) s → IsErrOf {T = ⊤} {E = Ending} (Err e) Sink → ⊥

@@ -26,7 +26,7 @@ use Rattle.plan_base.proofs.AtPaths.{sound_of}
 use Rattle.grid_deed.proofs.ManyDiscards.{all_gone}
 use Rattle.grid_headline.specs.Ends.{HasFewOrphans}
 use Rattle.grid_headline.specs.Numbers.{orphan_count}
-use Rattle.cmd_run.specs.Around.{around}
+use Rattle.run_laws.specs.Around.{around}
 use Rattle.cmd_run.specs.Sweeping.{orphan_files}
 
 -- ---- lists that are filtered

@@ -166,6 +166,7 @@ module _ (s : Server) (request : Request) (id : ℕ) (op : Operation) (asks : As
       waits_there = with_login at asks.session (works op asks.count) [] asks.of asks.logged_in ∙ not_too_much at asks.of op asks.count (begun at.grid []) asks.small
           ∙ waited_so at refl asks.of.user op of (ap (λ (u : Text). row at.grid u op) asks.user ∙ row_is);
     };
+    grid = refl;
     is = notes_it.is;
   })
 

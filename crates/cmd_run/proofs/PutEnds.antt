@@ -44,7 +44,7 @@ use Rattle.cmd_run.specs.declared.server.Server.{Server}
 use Rattle.cmd_run.specs.declared.server.Ending.{Ending}
 use Rattle.cmd_run.specs.declared.server.Ending.TheVariants as ending
 use Rattle.cmd_run.specs.declared.putting.Putting.{Putting}
-use Rattle.cmd_run.specs.Around.{around}
+use Rattle.run_laws.specs.Around.{around}
 use Rattle.cmd_run.specs.Answers.{IsTextPut, PutEnds}
 use Rattle.cmd_run.specs.Fits.{state_by, state_of, FitsMain, AreUsers}
 use Rattle.cmd_run.specs.Gets.{Drawn, Drew}
@@ -52,7 +52,7 @@ use Rattle.cmd_run.specs.Noting.{ended}
 use Rattle.cmd_run.specs.Obeys.{Obeys, SaysOnly, IsWorn, IsWornAt, AsksForFile, handled, quiet}
 use Rattle.file_laws.specs.Plans.{IsPlan, Turns}
 use Rattle.grid_headline.specs.Numbers.{last_vault}
-use Rattle.cmd_run.specs.Passes.{CallsPass}
+use Rattle.run_laws.specs.Passes.{CallsPass}
 use Rattle.plan_object.specs.Writing.{FindsTargets}
 use Rattle.cmd_run.proofs.OfGrid.{OfGrid, put_of}
 use Rattle.cmd_run.specs.Puts.{wanted, AsksToPut, PlansPut, operation_of}

@@ -24,8 +24,10 @@ use Rattle.grid_deed.specs.Deeds.{StandsOne}
 use Rattle.grid_headline.specs.Worlds.{World}
 use Rattle.grid_headline.specs.Files.{IsKnown}
 use Rattle.grid_headline.specs.Causes.{AreCaused}
-use Rattle.run_laws.specs.Steps.{RequestStep, IsHandledWhole, IsLike, IsLeftBehind, Gave, IsToldOf, WaitsIn, with_deed, OneOf, not_kept, in_first_deed, kept_so, kept}
+use Rattle.run_laws.specs.Steps.{RequestStep, IsHandledWhole, IsLike, IsLeftBehind, Gave, IsToldOf, WaitsIn, with_deed, OneOf, not_kept, kept_so, kept}
 use Rattle.run_laws.specs.Went.{Rests}
+use Rattle.run_laws.proofs.FirstDeeds.{in_first_deed}
+use Rattle.run_laws.proofs.Texts.{whole-most}
 use Rattle.cmd_run.specs.Answers.{IsTextPut}
 use Rattle.cmd_run.proofs.GetSteps.{line_has_bytes}
 use Rattle.cmd_run.proofs.Resting.{like_self, none_of}
@@ -60,6 +62,7 @@ pub record IsPendingIn (at : State) (c : Cat) (n : ℕ) (request : Request) (mid
   pub call : Call
   pub like : IsLike c rows
   pub waits_in : WaitsIn at request rows user call
+  pub grid : grid_of c ≡ at.grid
   pub is : mid ≡ with_deed rows n user line call
 
 -- or nothing is seen of it
@@ -92,7 +95,8 @@ module _ {B : Type 0} (old new : World B) (at : State) (c mid fin : Cat) (n : �
   image_of main sink (inl (inl stands, is)) = not_kept_of c (like_self c) main sink stands is
   image_of main sink (inl (inr stands, is)) = elim middle [
     | inl like ↦ not_kept_of mid like main sink stands is
-    | inr w ↦ in_first_deed w.rows w.user w.line w.call w.like w.waits_in (subst (StandsFor main) w.is stands) is
+    | inr w ↦ in_first_deed at c n request d pieces old.sink.holds main sink w.rows w.user w.line w.call w.like w.waits_in w.grid
+        (line_has_bytes n (codes "mark" ∷ mark_words m), tt) (subst (StandsFor main) w.is stands) is
   ]
   image_of main sink (inr (stands, part)) = kept_so fin (kept behind) stands part
 
@@ -110,11 +114,13 @@ module _ {B : Type 0} (old new : World B) (at : State) (c mid fin : Cat) (n : �
     does_so = t.does_so;
     all = refl;
     marks_are = refl;
+    taken = m ∷ [];
+    first = record { rest = []; are = refl };
     told_of = (t.told_of, tt);
     by_rows = t.by_rows;
     pieces = pieces;
     pieces_are = (refl, tt);
-    shown = shown;
+    shown = λ told. (let part = shown told in record { part = part; few = whole-most pieces part.count });
     caused = t.caused;
     gave = t.gave;
     images = λ told sink_told settled sink_settled moment main sink late main_left sink_left. image_of main sink (images told sink_told settled sink_settled moment main sink late main_left sink_left);
@@ -148,6 +154,7 @@ module _ {B : Type 0} (old new : World B) (at : State) (c mid fin : Cat) (n : �
       whole end state grid all = record {
         state = state;
         grid = grid;
+        all_taken = refl;
         follows = kept behind;
         stands = stands;
         text = λ told. all told ∙ ap (λ (x : Text). old.sink.holds ++ x) (sym text_is);

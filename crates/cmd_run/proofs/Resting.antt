@@ -14,7 +14,7 @@ use Rattle.grid_headline.specs.Worlds.{World, faults_of}
 use Rattle.grid_headline.specs.Causes.{AreCaused}
 use Rattle.grid_headline.specs.Draws.{none as no_words}
 use Rattle.run_laws.specs.Steps.{Gave, IsLike}
-use Rattle.cmd_run.specs.Around.{around}
+use Rattle.run_laws.specs.Around.{around}
 
 -- nothing of a catalogue is other than it was
 pub like_self : (c : Cat) → IsLike c c

@@ -26,7 +26,7 @@ use Rattle.run_laws.specs.Steps.{RequestStep, IsHandledWhole, IsLike, OneOf, kep
 use Rattle.cmd_run.specs.declared.server.Server.{Server}
 use Rattle.cmd_run.specs.declared.server.Ending.{Ending}
 use Rattle.cmd_run.specs.declared.server.Ending.TheVariants as ending
-use Rattle.cmd_run.specs.Around.{around}
+use Rattle.run_laws.specs.Around.{around}
 use Rattle.cmd_run.specs.Answers.{IsTextPut, PutEnds, shown_lines}
 use Rattle.cmd_run.specs.Fits.{state_of, FitsMain}
 use Rattle.cmd_run.specs.Obeys.{Obeys, SaysRows, handled, quiet}
@@ -88,11 +88,13 @@ module _ {D A P : Type 0} (disk : D → DiskState) (ambient : A → AmbientState
           does_so = s.does_so;
           all = s.all;
           marks_are = marks_none;
+          taken = [];
+          first = record { rest = []; are = refl };
           told_of = tt;
           by_rows = λ clean. by_rows;
           pieces = [];
           pieces_are = pieces_are;
-          shown = λ told. put.acts.holds told;
+          shown = λ told. record { part = put.acts.holds told; few = omega arith };
           caused = caused_same disk ambient plugin source o n from to stores_same;
           gave = gave_same disk ambient plugin source o n ambient_same;
           images = λ told sink_told settled sink_settled t main sink late main_left sink_left.
@@ -106,6 +108,7 @@ module _ {D A P : Type 0} (disk : D → DiskState) (ambient : A → AmbientState
     whole_of put all = record {
       state = s.state;
       grid = refl;
+      all_taken = refl;
       follows = unseen (let L : Cat → Type 0 = λ x. IsLike before.store.cat x in subst L (ap (λ x. x.cat) store_same) (like_self before.store.cat)) marks_none s.grid;
       stands = λ told. (let S : D → Type 0 = λ m. StandsFor (disk m).holds after.store.cat in subst S (sym main_same) (held_stands after.store.cat (disk o.main) after.store fits.held told));
       text = λ told. all told ∙ ap (λ (t : Text). from.holds ++ t) (sym text_is);

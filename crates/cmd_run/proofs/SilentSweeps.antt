@@ -22,7 +22,7 @@ use Rattle.grid_headline.specs.Worlds.{World}
 use Rattle.run_laws.specs.Silent.{IsSwept, Sweeps}
 use Rattle.run_laws.specs.Steps.{IsQuiet}
 use Rattle.run_laws.specs.Went.{AreInOrder, Rests, Went}
-use Rattle.cmd_run.specs.Around.{around}
+use Rattle.run_laws.specs.Around.{around}
 use Rattle.cmd_run.specs.Sweeping.{LeavesLike, StandsAsBefore, orphan_files}
 use Rattle.cmd_run.specs.declared.server.Server.{Server}
 use Rattle.cmd_run.proofs.LeftOrphans.{few_orphans}

@@ -31,7 +31,7 @@ use Rattle.cmd_run.specs.declared.server.Server.{Server}
 use Rattle.cmd_run.specs.declared.server.Ending.{Ending}
 use Rattle.cmd_run.specs.declared.summing.Looked.{Looked}
 use Rattle.cmd_run.specs.declared.summing.Looked.TheVariants as looked
-use Rattle.cmd_run.specs.Around.{around}
+use Rattle.run_laws.specs.Around.{around}
 use Rattle.cmd_run.specs.Answers.{IsTextPut, PutEnds}
 use Rattle.cmd_run.specs.Fits.{state_of, FitsMain}
 use Rattle.cmd_run.specs.Gets.{Drawn, Drew}

@@ -35,7 +35,7 @@ use Rattle.grid_deed.proofs.Wholes.{one_cat}
 use Rattle.cmd_run.specs.declared.server.Server.{Server}
 use Rattle.cmd_run.specs.declared.server.Ending.{Ending}
 use Rattle.cmd_run.specs.declared.server.Ending.TheVariants.{Sink, Worn}
-use Rattle.cmd_run.specs.Around.{around}
+use Rattle.run_laws.specs.Around.{around}
 use Rattle.cmd_run.specs.Answers.{IsTextPut, PutEnds}
 use Rattle.cmd_run.specs.Fits.{state_by, state_of, FitsMain, AreUsers}
 use Rattle.cmd_run.specs.Obeys.{HasNoneWaiting, IsWorn, IsWornAt, Obeys, SaysOnly, handled}
@@ -140,11 +140,13 @@ module _ {D A P : Type 0} (disk : D → DiskState) (ambient : A → AmbientState
     does_so = s.does_so;
     all = s.all;
     marks_are = marks_none;
+    taken = [];
+    first = record { rest = []; are = refl };
     told_of = tt;
     by_rows = λ clean. subst EndsByRows (sym (ap (λ (r : Reply). r.end) s.reply_is)) tt;
     pieces = [];
     pieces_are = (let Q : List Mark → Type 0 = λ ms. ArePieces (IsKnown old c) number s.d.sent 0 ms [] in subst Q (sym marks_none) tt);
-    shown = shown;
+    shown = λ told. record { part = shown told; few = omega arith };
     caused = caused_none old (new to) go.count later [] (λ slot. refl);
     gave = gave_same disk ambient plugin source o n ambient_same;
     images = images;
@@ -174,6 +176,7 @@ module _ {D A P : Type 0} (disk : D → DiskState) (ambient : A → AmbientState
     whole_after all = record {
       state = s.state ∙ sym its.state;
       grid = refl;
+      all_taken = refl;
       follows = unseen its.like marks_none s.grid;
       stands = λ told. held_stands after_server.store.cat (disk n.main) after_server.store its.fits.held (subst IsTrue (sym tells) told);
       text = λ told. all told ∙ ap (λ (t : Text). from.holds ++ t) (sym text_is);

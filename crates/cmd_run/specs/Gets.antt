@@ -24,7 +24,7 @@ use Rattle.cmd_run.specs.declared.server.Server.{Server}
 use Rattle.cmd_run.specs.declared.server.Ending.{Ending}
 use Rattle.cmd_run.specs.declared.server.Ending.TheVariants.{Sink, Memory}
 use Rattle.cmd_run.specs.Fits.{state_of}
-use Rattle.cmd_run.specs.Passes.{Seen}
+use Rattle.run_laws.specs.Passes.{Seen}
 
 -- the line of a session asks for the object at the path, from the asked resource
 abbrev pub get_request : ℕ → Path → Option Text → Request

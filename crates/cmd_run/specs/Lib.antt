@@ -1,4 +1,3 @@
-pub mod Around
 pub mod Answers
 pub mod Asking
 pub mod Copies
@@ -10,7 +9,6 @@ pub mod Logins
 pub mod Noting
 pub mod Obeys
 pub mod Operating
-pub mod Passes
 pub mod Puts
 pub mod Sums
 pub mod Sweeping

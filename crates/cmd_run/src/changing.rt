@@ -3,9 +3,9 @@ ghost use Rattle.grid_outside.specs.Source.{SourceState};
 ghost use Rattle.grid_model.specs.Rows.{Cat};
 ghost use Rattle.grid_model.specs.Runs.{Request};
 ghost use Rattle.grid_deed.specs.Safe.{KeepWhole};
-ghost use Rattle.cmd_run.specs.Around.{around};
+ghost use Rattle.run_laws.specs.Around.{around};
 ghost use Rattle.cmd_run.specs.Keeps.{ChangesOrNone, IsChange};
-ghost use Rattle.cmd_run.specs.Passes.{AreReady, CallsPass};
+ghost use Rattle.run_laws.specs.Passes.{AreReady, CallsPass};
 
 use crate::answers::{end_text, put_text, well};
 use crate::{Ending, Server};

@@ -6,9 +6,9 @@ ghost use Rattle.grid_model.specs.DataLines.{parts};
 ghost use Rattle.grid_model.specs.Runs.{Request};
 ghost use Rattle.grid_model.specs.Writable.{is_word};
 ghost use Rattle.grid_deed.specs.Safe.{KeepWhole};
-ghost use Rattle.cmd_run.specs.Around.{around};
+ghost use Rattle.run_laws.specs.Around.{around};
 ghost use Rattle.cmd_run.specs.Gets.{Drawn, Fetches, whole_text, damaged_text, text_behind};
-ghost use Rattle.cmd_run.specs.Passes.{AreReady, CallsPass};
+ghost use Rattle.run_laws.specs.Passes.{AreReady, CallsPass};
 
 use crate::answers::{mark_and_end, put_text};
 use crate::{Ending, Server};

@@ -6,9 +6,9 @@ ghost use Rattle.grid_model.specs.Runs.{Request as RequestOf};
 ghost use Rattle.grid_model.specs.Writable.{is_word};
 ghost use Rattle.grid_deed.specs.Safe.{KeepWhole};
 ghost use Rattle.run_laws.specs.Steps.{RemovesNoFile};
-ghost use Rattle.cmd_run.specs.Around.{around};
+ghost use Rattle.run_laws.specs.Around.{around};
 ghost use Rattle.cmd_run.specs.Asking.{AsksForRequest, IsForm, IsLineOf};
-ghost use Rattle.cmd_run.specs.Passes.{AreReady, CallsPass};
+ghost use Rattle.run_laws.specs.Passes.{AreReady, CallsPass};
 ghost use Rattle.cmd_run.specs.Sweeping.{SweepLeavesFew};
 
 use crate::answers::well;

@@ -8,10 +8,10 @@ ghost use Rattle.grid_model.specs.Runs.{Request};
 ghost use Rattle.grid_deed.specs.Safe.{KeepWhole};
 ghost use Rattle.plan_base.specs.Plans.{PlansChange};
 ghost use Rattle.grid_journal.specs.Journal.{AreSpelled};
-ghost use Rattle.cmd_run.specs.Around.{around};
+ghost use Rattle.run_laws.specs.Around.{around};
 ghost use Rattle.cmd_run.specs.Asking.{HasGoodWords};
 ghost use Rattle.cmd_run.specs.Operating.{operation_by, PlansBy};
-ghost use Rattle.cmd_run.specs.Passes.{AreReady, CallsPass};
+ghost use Rattle.run_laws.specs.Passes.{AreReady, CallsPass};
 
 use crate::{Ending, Server};
 use grid_model::{Deltas, End, PlanError, Refusal, ResourceKind, Verb};

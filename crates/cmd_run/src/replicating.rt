@@ -9,9 +9,9 @@ ghost use Rattle.grid_model.specs.declared.plans.OldFile.{OldFile as FileOf};
 ghost use Rattle.grid_deed.specs.Deeds.{moments_of};
 ghost use Rattle.grid_deed.specs.Safe.{KeepWhole};
 ghost use Rattle.plan_object.specs.ReplPlans.{MayRepl};
-ghost use Rattle.cmd_run.specs.Around.{around};
+ghost use Rattle.run_laws.specs.Around.{around};
 ghost use Rattle.cmd_run.specs.Copies.{PlansRepl, repl_request};
-ghost use Rattle.cmd_run.specs.Passes.{AreReady, CallsPass};
+ghost use Rattle.run_laws.specs.Passes.{AreReady, CallsPass};
 ghost use Rattle.cmd_run.specs.Puts.{AsksToDo};
 
 use crate::answers::put_text;

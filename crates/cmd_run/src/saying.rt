@@ -5,8 +5,8 @@ ghost use Rattle.std.specs.List.{list_all};
 ghost use Rattle.grid_model.specs.Working.{well};
 ghost use Rattle.grid_model.specs.Writable.{is_word, is_writable_end};
 ghost use Rattle.grid_deed.specs.Safe.{KeepWhole};
-ghost use Rattle.cmd_run.specs.Around.{around};
-ghost use Rattle.cmd_run.specs.Passes.{AreReady, CallsPass};
+ghost use Rattle.run_laws.specs.Around.{around};
+ghost use Rattle.run_laws.specs.Passes.{AreReady, CallsPass};
 
 use crate::answers::{end_text, put_text, rows_text};
 use crate::{Ending, Server};

@@ -15,9 +15,9 @@ ghost use Rattle.grid_deed.specs.Frame.{Frame, IsReady};
 ghost use Rattle.grid_deed.specs.Safe.{KeepWhole};
 ghost use Rattle.grid_vault.specs.Vault.{RoseAt};
 ghost use Rattle.plan_object.specs.ChksumPlans.{MarksBad, MayChksum};
-ghost use Rattle.cmd_run.specs.Around.{around};
+ghost use Rattle.run_laws.specs.Around.{around};
 ghost use Rattle.cmd_run.specs.Gets.{Drawn};
-ghost use Rattle.cmd_run.specs.Passes.{AreReady, CallsPass};
+ghost use Rattle.run_laws.specs.Passes.{AreReady, CallsPass};
 ghost use Rattle.cmd_run.specs.Puts.{AsksToDo};
 ghost use Rattle.cmd_run.specs.Sums.{LooksSay, SawFile, looked_grid, looked_text, sum_request};
 

@@ -9,8 +9,8 @@ ghost use Rattle.grid_deed.specs.Frame.{IsReady, Frame};
 ghost use Rattle.grid_deed.specs.Safe.{KeepWhole};
 ghost use Rattle.grid_headline.specs.Ends.{HasFewOrphans};
 ghost use Rattle.run_laws.specs.Steps.{RemovesNoFile};
-ghost use Rattle.cmd_run.specs.Around.{around};
-ghost use Rattle.cmd_run.specs.Passes.{AreReady, CallsPass};
+ghost use Rattle.run_laws.specs.Around.{around};
+ghost use Rattle.run_laws.specs.Passes.{AreReady, CallsPass};
 ghost use Rattle.cmd_run.specs.Sweeping.{ForgetsOrphans, LeavesLike, StandsAsBefore, SweepLeavesFew, orphan_files};
 
 use crate::answers::{end_text, put_text, well};

@@ -7,9 +7,9 @@ ghost use Rattle.grid_model.specs.Runs.{Request};
 ghost use Rattle.grid_deed.specs.Safe.{KeepWhole};
 ghost use Rattle.plan_base.specs.Plans.{PlansChange};
 ghost use Rattle.plan_meta.specs.Things.{thing_by};
-ghost use Rattle.cmd_run.specs.Around.{around};
+ghost use Rattle.run_laws.specs.Around.{around};
 ghost use Rattle.cmd_run.specs.Asking.{FitsTag, NamesSome, ShowOf, TagOf, said_of, tagging};
-ghost use Rattle.cmd_run.specs.Passes.{AreReady, CallsPass};
+ghost use Rattle.run_laws.specs.Passes.{AreReady, CallsPass};
 
 use crate::{Ending, Server};
 use grid_model::{Deltas, End, ItemKind, PathError, PlanError, Refusal, Text};

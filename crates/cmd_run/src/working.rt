@@ -4,8 +4,8 @@ ghost use Rattle.grid_model.specs.Limits.{object_size};
 ghost use Rattle.grid_model.specs.Runs.{Request as RequestOf};
 ghost use Rattle.grid_model.specs.Writable.{is_word};
 ghost use Rattle.grid_deed.specs.Safe.{KeepWhole};
-ghost use Rattle.cmd_run.specs.Around.{around};
-ghost use Rattle.cmd_run.specs.Passes.{AreReady, CallsPass};
+ghost use Rattle.run_laws.specs.Around.{around};
+ghost use Rattle.run_laws.specs.Passes.{AreReady, CallsPass};
 
 use crate::putting::Putting;
 use crate::{Ending, Server};

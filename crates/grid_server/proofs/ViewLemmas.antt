@@ -5,7 +5,7 @@ use Rattle.grid_deed.specs.Frame.{Goes, AddsInRoom}
 use Rattle.grid_deed.proofs.Frames.{frame_none, frame_then, frame_as, frame_main, room_same, goes_nowhere, goes_more}
 use Rattle.run_laws.specs.declared.around.Around.{Around}
 use Rattle.run_laws.specs.Went.{Went, AreInOrder}
-use Rattle.cmd_run.specs.Passes.{CallsPass}
+use Rattle.run_laws.specs.Passes.{CallsPass}
 use Rattle.grid_server.specs.Serving.{SinkWent}
 use Rattle.grid_server.specs.Views.{Views, WasRead, world_of, PassesOn}
 use Rattle.grid_server.proofs.RestLemmas.{rests_where}

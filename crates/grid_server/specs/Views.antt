@@ -8,7 +8,7 @@ use Rattle.grid_outside.specs.Source.{SourceState}
 use Rattle.grid_headline.specs.Worlds.{World}
 use Rattle.run_laws.specs.declared.around.Around.{Around}
 use Rattle.run_laws.specs.Surrounding.{world}
-use Rattle.cmd_run.specs.Passes.{CallsPass, Seen}
+use Rattle.run_laws.specs.Passes.{CallsPass, Seen}
 
 -- what each device of it is
 pub record Views (D S K A P : Type 0) : Type 1 where

@@ -16,7 +16,7 @@ ghost use Rattle.grid_headline.specs.Headline.{Serves};
 ghost use Rattle.grid_headline.specs.Seen.{seen};
 ghost use Rattle.run_laws.specs.Sofar.{BeginsPlainly};
 ghost use Rattle.run_laws.specs.Went.{AreInOrder, Rests};
-ghost use Rattle.cmd_run.specs.Passes.{AreReady, CallsPass};
+ghost use Rattle.run_laws.specs.Passes.{AreReady, CallsPass};
 ghost use Rattle.grid_server.specs.Files.{HaveNoFiles};
 ghost use Rattle.grid_server.specs.Opening.{HasRoom, IsPlain};
 ghost use Rattle.grid_server.specs.RunEnds.{run_end_of};

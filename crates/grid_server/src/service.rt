@@ -3,10 +3,10 @@ ghost use Rattle.grid_outside.specs.Fault.{Rose};
 ghost use Rattle.grid_outside.specs.Source.{SourceState};
 ghost use Rattle.grid_model.specs.Limits.{object_size};
 ghost use Rattle.grid_model.specs.Writable.{is_word};
-ghost use Rattle.cmd_run.specs.Around.{around};
+ghost use Rattle.run_laws.specs.Around.{around};
 ghost use Rattle.cmd_run.specs.Asking.{IsForm};
 ghost use Rattle.cmd_run.specs.Fits.{FitsMain};
-ghost use Rattle.cmd_run.specs.Passes.{AreReady, CallsPass};
+ghost use Rattle.run_laws.specs.Passes.{AreReady, CallsPass};
 ghost use Rattle.grid_server.specs.Turning.{Commanded, after, is_last, status_of};
 ghost use Rattle.grid_server.specs.Views.{WasRead};
 

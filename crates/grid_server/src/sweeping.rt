@@ -7,7 +7,7 @@ ghost use Rattle.grid_headline.specs.Ends.{ReadsMost, RunEnd};
 ghost use Rattle.grid_headline.specs.Headline.{Serves};
 ghost use Rattle.run_laws.specs.Sofar.{run_begun};
 ghost use Rattle.cmd_run.specs.Fits.{FitsMain};
-ghost use Rattle.cmd_run.specs.Passes.{AreReady, CallsPass};
+ghost use Rattle.run_laws.specs.Passes.{AreReady, CallsPass};
 ghost use Rattle.grid_server.specs.RunEnds.{run_end_of};
 ghost use Rattle.grid_server.specs.Serving.{EndsBegun, WasOpened, TookFew, before};
 ghost use Rattle.run_laws.specs.declared.around.Around.{Around};

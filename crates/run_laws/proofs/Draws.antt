@@ -1,17 +1,20 @@
 -- What marks tell of the ambient, one after another, and the first of them.
-use Rattle.std.proofs.Common.{◌≡◌, ℕ, zero, suc, List, [], ◌∷◌, ◌++◌, take, slice_get, Option, Some, None, IsTrue, refl, sym, ap, ◌∙◌, subst, append_assoc, take-append-drop}
+use Rattle.std.proofs.Common.{◌≡◌, ℕ, zero, suc, ◌-◌, List, [], ◌∷◌, ◌++◌, length, take, slice_get, Option, Some, None, IsTrue, refl, sym, ap, ◌∙◌, subst, append_assoc, take-append-drop}
 use Rattle.std.specs.Prelude.{drop, flat_map}
 use Rattle.std.proofs.lemmas.List.{append-nil}
 use Rattle.std.proofs.lemmas.Grind.{flat_map-append}
 use Rattle.grid_outside.specs.Ambient.{AmbientState}
+use Rattle.grid_model.specs.Names.{Text}
 use Rattle.grid_model.specs.Sessions.{State}
 use Rattle.grid_model.specs.Uploads.{is_well}
 use Rattle.grid_model.specs.Working.{Done}
 use Rattle.grid_model.specs.Runs.{Request, Marked, After, none as nothing_done, next as next_done}
 use Rattle.grid_model.specs.declared.marks.Mark.{Mark}
 use Rattle.grid_headline.specs.Reads.{MeansRequest}
-use Rattle.grid_headline.specs.Served.{marks_of}
+use Rattle.grid_headline.specs.Served.{joined_texts, marks_of, whole_in}
+use Rattle.grid_headline.specs.Stops.{AreFirst}
 use Rattle.grid_headline.specs.Draws.{AreSomeOf, none, skip, keep, word_of, time_of, told_words, with_marks, Words, no_words, HaveWords, none_left, next, request_words}
+use Rattle.run_laws.specs.Handled.{Handled, marks_shown, marks_within, replies_of, told_within}
 use Rattle.run_laws.specs.Steps.{Gave}
 use Rattle.run_laws.proofs.BuiltOrders.{words_in}
 
@@ -98,6 +101,20 @@ front-shown (m ∷ ms) told (suc n) first =
       rest = more.rest;
       is = ap (λ (t : List Mark). m.marks ++ t) more.is ∙ sym (append_assoc m.marks (marks_of (shown ms told n)) more.rest);
     }
+
+within_first : (m : Option Marked) (ts : Option (List Text)) (count : ℕ) → AreFirstAt (marks_within m ts count) m
+within_first None None count = tt
+within_first None (Some ts) count = tt
+within_first (Some m) None count = (0, refl)
+within_first (Some m) (Some ts) count = (whole_in ts count, refl)
+
+-- those that are shown of what was handled
+pub shown-first : (h : Handled) (count : ℕ) → AreFirst (marks_shown h count) (marks_of h.begun)
+shown-first h count =
+    let n = whole_in (replies_of h) count in
+    let front = front-shown h.begun (told_within h n count) n
+    (within_first (slice_get h.begun n) (slice_get h.pieces n) (count - length (joined_texts (take n (replies_of h))))) in
+    record { rest = front.rest; are = front.is }
 
 -- and what a front tells is some of what all tell
 pub some-front : (f : Mark → List ℕ) (front all : List Mark) → IsFront front all → AreSomeOf (flat_map f front) (flat_map f all)

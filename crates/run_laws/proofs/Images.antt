@@ -2,7 +2,7 @@
 use Rattle.std.proofs.Common.{◌≡◌, ◌⊎◌, inl, inr, ℕ, zero, suc, ◌+◌, ◌-◌, ◌<◌, ◌≤◌, List, [], ◌∷◌, ◌++◌, length, take, drop, slice_get, Option, Some, None, refl, sym, ap, ◌∙◌, subst, append_assoc, take-append-drop, length-append, arith}
 use Rattle.std.specs.Prelude.{max, Bool, true, false, ◌==◌, codes, decimal, flat_map}
 use Rattle.std.specs.Bool.{MatchBool}
-use Rattle.std.proofs.lemmas.List.{append-nil, take-append-le, take_at, length-take-le}
+use Rattle.std.proofs.lemmas.List.{append-nil, take-append-le, take_at, take_all, length-take-le, nil_from_length}
 use Rattle.std.proofs.lemmas.Option.{slice_get_past, slice_get_within, same_Some}
 use Rattle.std.proofs.lemmas.Bool.{cases_lt}
 use Rattle.grid_outside.specs.Sink.{AddsPart}
@@ -17,16 +17,18 @@ use Rattle.grid_model.specs.DataLines.{data_lines}
 use Rattle.grid_model.specs.Replies.{mark_words, mark_line, passed_line, row_line, end_words, end_line, rest_lines}
 use Rattle.grid_model.specs.Runs.{Marked, Request}
 use Rattle.grid_model.specs.ReplyTexts.{SendsBytes, IsPiece, ArePieces, reply_text}
-use Rattle.grid_model.specs.declared.calls.Call.{Call}
+use Rattle.grid_model.specs.declared.deltas.Pending.{Pending}
 use Rattle.grid_model.specs.declared.replies.Reply.{Reply}
 use Rattle.grid_model.specs.declared.marks.Mark.{Mark}
 use Rattle.grid_journal.specs.Stands.{StandsFor}
-use Rattle.grid_headline.specs.Served.{joined_texts, whole_in}
+use Rattle.grid_headline.specs.Draws.{with_marks}
+use Rattle.grid_headline.specs.Served.{joined_texts, marks_of, whole_in}
 use Rattle.grid_headline.specs.Numbers.{KeepsNumbers}
 use Rattle.grid_headline.specs.Reads.{MeansRequest}
-use Rattle.run_laws.specs.Handled.{Handled, with_one, replies_of, marks_within, told_within, reached_by, state_behind, IsOfRun, IsBehindSome, WaitsBehind, OneOfRun, not_begun, in_run, in_deed_of_run, ShowsMost, whole_report}
-use Rattle.run_laws.specs.Steps.{IsLike, IsLeftBehind, ComesAfter, kept, unseen, WaitsIn, with_deed, HasLine, IsUntold, OneOf, not_kept, in_first_deed, kept_so}
-use Rattle.run_laws.proofs.Lists.{get-front, get-last, state-more, state-last}
+use Rattle.grid_headline.specs.Stops.{AreFirst}
+use Rattle.run_laws.specs.Handled.{Handled, with_one, replies_of, marks_within, marks_shown, told_within, reached_by, state_behind, IsAmidRun, IsAmidSome, IsOfRun, IsBehindSome, OneOfRun, not_begun, in_run, in_deed_of_run, ShowsMost, whole_report}
+use Rattle.run_laws.specs.Steps.{IsLike, IsLeftBehind, IsAmid, ComesAfter, kept, unseen, WaitsInDeed, HasLine, IsUntold, TellsFew, OneOf, not_kept, in_deed_so, kept_so}
+use Rattle.run_laws.proofs.Lists.{get-front, get-last, marks-push, state-more, state-last}
 use Rattle.run_laws.proofs.Texts.{HaveBytes, joined-push, whole-none, whole-behind, whole-more, whole-most, whole-all, whole-less}
 
 pub keeps-then : (a b c : Cat) → KeepsNumbers a b → KeepsNumbers b c → KeepsNumbers a c
@@ -55,6 +57,21 @@ like-of found c e its like = record {
   none = like.pending ∙ its.none;
   keeps = keeps-then found c e its.keeps like.keeps;
   stores = like.stores ∙ its.stores;
+}
+
+pub amid-of : (found c e : Cat) → IsOfRun found c → IsAmid c e → IsAmidRun found e
+amid-of found c e its amid = record {
+  number = amid.run ∙ its.number;
+  rules = amid.rules ∙ its.rules;
+  keeps = keeps-then found c e its.keeps amid.keeps;
+  stores = amid.stores ∙ its.stores;
+}
+
+-- the first of some marks, where these are the first of all and as many at least
+first-kept : (all some : List Mark) (k : ℕ) → AreFirst some all → k ≤ length some → AreFirst (take k all) some
+first-kept all some k first few = record {
+  rest = drop k some;
+  are = sym (take-append-drop k some) ∙ ap (λ (x : List Mark). x ++ drop k some) (sym (ap (take k) first.are ∙ take-append-le k some first.rest few));
 }
 
 pub behind-of : (found c : Cat) (n : ℕ) (d : Done) (e : Cat) → IsOfRun found c → IsLeftBehind c n d e → IsOfRun found e
@@ -96,17 +113,20 @@ module _ (found : Cat) (h : Handled) (m : Marked) (d : Done) (ts : List Text) (t
     same_whole : whole_in (replies_of more) count ≡ whole_in (replies_of h) count
     same_whole = ap (λ (l : List Text). whole_in l count) one.texts_are ∙ whole-more (replies_of h) (t ∷ []) count (one.has_bytes, tt) within
 
+    told_less : (n : ℕ) → n < size → told_within more n count ≡ told_within h n count
+    told_less n less =
+        let b : slice_get more.begun n ≡ slice_get h.begun n = get-front h.begun (m ∷ []) n (omega (arith, less, one.begun_length)) in
+        let p : slice_get more.pieces n ≡ slice_get h.pieces n = get-front h.pieces (ts ∷ []) n (omega (arith, less, one.pieces_length)) in
+        let f : take n (replies_of more) ≡ take n (replies_of h) = ap (take n) one.texts_are ∙ take-append-le n (replies_of h) (t ∷ []) (omega (arith, less)) in
+        ap (λ (x : Option Marked). marks_within x (slice_get more.pieces n) (count - length (joined_texts (take n (replies_of more))))) b
+        ∙ ap (λ (x : Option (List Text)). marks_within (slice_get h.begun n) x (count - length (joined_texts (take n (replies_of more))))) p
+        ∙ ap (λ (l : List Text). marks_within (slice_get h.begun n) (slice_get h.pieces n) (count - length (joined_texts l))) f
+
     no_more_told : (n : ℕ) → n ≤ size → told_within h n count ≡ [] → told_within more n count ≡ []
     no_more_told n most told = by (cases_lt n size)
       where
         by : (n < size) ⊎ (size ≤ n) → told_within more n count ≡ []
-        by (inl less) =
-            let b : slice_get more.begun n ≡ slice_get h.begun n = get-front h.begun (m ∷ []) n (omega (arith, less, one.begun_length)) in
-            let p : slice_get more.pieces n ≡ slice_get h.pieces n = get-front h.pieces (ts ∷ []) n (omega (arith, less, one.pieces_length)) in
-            let f : take n (replies_of more) ≡ take n (replies_of h) = ap (take n) one.texts_are ∙ take-append-le n (replies_of h) (t ∷ []) (omega (arith, less)) in
-            ap (λ (x : Option Marked). marks_within x (slice_get more.pieces n) (count - length (joined_texts (take n (replies_of more))))) b
-            ∙ ap (λ (x : Option (List Text)). marks_within (slice_get h.begun n) x (count - length (joined_texts (take n (replies_of more))))) p
-            ∙ ap (λ (l : List Text). marks_within (slice_get h.begun n) (slice_get h.pieces n) (count - length (joined_texts l))) f ∙ told
+        by (inl less) = told_less n less ∙ told
         by (inr same) =
             let e : size ≡ n = omega (arith, same, most) in
             let f : take n (replies_of more) ≡ replies_of h = ap (take n) one.texts_are ∙ take_at (replies_of h) (t ∷ []) n e in
@@ -131,25 +151,32 @@ module _ (found : Cat) (h : Handled) (m : Marked) (d : Done) (ts : List Text) (t
               ∙ no_more_told (whole_in (replies_of h) count) (whole-most (replies_of h) count) (b.untold (omega (arith, less, same_whole)));
         }
 
-    -- as many are done
-    reached-more : (c : Cat) → reached_by found more c count ≡ reached_by found h c count
-    reached-more c = ap (λ k. max k c.numbers.last) same_whole
-
-  -- what waits in its first deed does so still
-  waits-more : (rows : Cat) (n user : ℕ) (text : Text) (call : Call) → WaitsBehind found h rows n user text call
-      → WaitsBehind found more rows n user text call
-  waits-more rows n user text call waits =
-      let less : n < length h.begun = slice_get_within h.begun n waits.next waits.is_next in
-      let same : state_behind found h n ≡ state_behind found more n =
-      sym (state-more (begins (grid_of found) []) h.done d n (omega (arith, less, one.begun_length, one.done_length))) in
-      record {
-        next = waits.next;
-        is_next = get-front h.begun (m ∷ []) n less ∙ waits.is_next;
-        line_is = waits.line_is;
-        request = waits.request;
-        means = subst (λ (x : State). MeansRequest x waits.next.asked waits.request) same waits.means;
-        waits_in = subst (λ (x : State). WaitsIn x waits.request rows user call) same waits.waits_in;
-      }
+    -- a request that is pending is so still
+    amid-more : (c : Cat) (p : Pending) (n : ℕ) → IsAmidSome found h c p n count → IsAmidSome found more c p n count
+    amid-more c p n a =
+        let w = a.waits_behind in
+        let less : n < length h.begun = slice_get_within h.begun n w.next w.is_next in
+        let same : state_behind found h n ≡ state_behind found more n =
+        sym (state-more (begins (grid_of found) []) h.done d n (omega (arith, less, one.begun_length, one.done_length))) in
+        let reached : reached_by found more c count ≡ n = ap (λ k. max k c.numbers.last) same_whole ∙ a.reached in
+        record {
+          of_run = a.of_run;
+          reached = reached;
+          near = omega (arith, a.near, same_whole);
+          no_rules = ap (λ (x : State). x.rules) (sym same) ∙ a.no_rules;
+          waits_behind = record {
+            next = w.next;
+            is_next = get-front h.begun (m ∷ []) n less ∙ w.is_next;
+            line_is = w.line_is;
+            request = w.request;
+            means = subst (λ (x : State). MeansRequest x w.next.asked w.request) same w.means;
+            waits = subst (λ (x : State). WaitsInDeed x (n + 1) w.request w.next.marks c p) same w.waits;
+          };
+          told =
+              let told_same : told_within h (whole_in (replies_of h) count) count ≡ told_within more (whole_in (replies_of more) count) count =
+              sym (ap (λ k. told_within more k count) same_whole ∙ told_less (whole_in (replies_of h) count) (omega (arith, less, one.begun_length, a.reached))) in
+              subst (λ (x : List Mark). AreFirst x p.marks) told_same a.told;
+        }
 
   -- a front of what was to be written is a front of what is now
   split-more : (part left : Text) → report ++ joined_texts (replies_of h) ≡ part ++ left → report ++ joined_texts (replies_of more) ≡ part ++ (left ++ t)
@@ -166,10 +193,8 @@ module _ (found : Cat) (h : Handled) (m : Marked) (d : Done) (ts : List Text) (t
   image-more old_sink main sink (not_begun stands adds) = not_begun stands adds
   image-more old_sink main sink (in_run c part left stands is split behind) =
       in_run c part (left ++ t) stands is (split-more part left split) (behind-more (length part - length report) (within-front part left split) c behind)
-  image-more old_sink main sink (in_deed_of_run rows n user text call part left stands is split behind reached waits) =
-      let within = within-front part left split in
-      in_deed_of_run rows n user text call part (left ++ t) stands is (split-more part left split) (behind-more (length part - length report) within rows behind)
-      (reached-more (length part - length report) within rows ∙ reached) (waits-more rows n user text call waits)
+  image-more old_sink main sink (in_deed_of_run c p n part left stands is split amid) =
+      in_deed_of_run c p n part (left ++ t) stands is (split-more part left split) (amid-more (length part - length report) (within-front part left split) c p n amid)
 
   -- ---- so many bytes of its own text
 
@@ -200,6 +225,28 @@ module _ (found : Cat) (h : Handled) (m : Marked) (d : Done) (ts : List Text) (t
         let b : slice_get more.begun (suc size) ≡ None = slice_get_past more.begun (suc size) (omega (arith, length-append h.begun (m ∷ []), one.begun_length)) in
         ap (λ (x : Option Marked). marks_within x (slice_get more.pieces (suc size)) (bytes + k - length (joined_texts (take (suc size) (replies_of more))))) b
 
+  -- ---- the marks that are shown
+
+  marks_cut : (k : ℕ) → k < length t → marks_shown more (bytes + k) ≡ marks_of h.begun ++ take (whole_in ts k) m.marks
+  marks_cut k less =
+      let whole : whole_in (replies_of more) (bytes + k) ≡ size = whole_cut k less in
+      let those : take size more.begun ≡ h.begun = take_at h.begun (m ∷ []) size one.begun_length in
+      let this : slice_get more.begun size ≡ Some m = ap (slice_get more.begun) (sym one.begun_length) ∙ get-last h.begun m in
+      ap (λ n. marks_of (take n more.begun ++ with_marks (told_within more n (bytes + k)) (slice_get more.begun n))) whole
+      ∙ ap (λ (x : List Marked). marks_of (x ++ with_marks (told_within more size (bytes + k)) (slice_get more.begun size))) those
+      ∙ ap (λ (x : Option Marked). marks_of (h.begun ++ with_marks (told_within more size (bytes + k)) x)) this
+      ∙ marks-push h.begun (record m { marks = told_within more size (bytes + k) }) ∙ ap (λ (x : List Mark). marks_of h.begun ++ x) (told_next k)
+
+  marks_full : (k : ℕ) → length t ≡ k → marks_shown more (bytes + k) ≡ marks_of h.begun ++ m.marks
+  marks_full k all =
+      let whole : whole_in (replies_of more) (bytes + k) ≡ suc size = whole_full k all in
+      let those : take (suc size) more.begun ≡ more.begun = take_all (suc size) more.begun (omega (arith, length-append h.begun (m ∷ []), one.begun_length)) in
+      let none : slice_get more.begun (suc size) ≡ None = slice_get_past more.begun (suc size) (omega (arith, length-append h.begun (m ∷ []), one.begun_length)) in
+      ap (λ n. marks_of (take n more.begun ++ with_marks (told_within more n (bytes + k)) (slice_get more.begun n))) whole
+      ∙ ap (λ (x : List Marked). marks_of (x ++ with_marks (told_within more (suc size) (bytes + k)) (slice_get more.begun (suc size)))) those
+      ∙ ap (λ (x : Option Marked). marks_of (more.begun ++ with_marks (told_within more (suc size) (bytes + k)) x)) none
+      ∙ ap marks_of (append-nil more.begun) ∙ marks-push h.begun m
+
   -- ---- what is left of it
 
   module _ (at : State) (at_is : state_behind found h size ≡ at) (none_at : at.rules ≡ []) (none_next : d.state.rules ≡ []) where
@@ -208,18 +255,6 @@ module _ (found : Cat) (h : Handled) (m : Marked) (d : Done) (ts : List Text) (t
 
     at_next : state_behind found more (suc size) ≡ d.state
     at_next = ap (λ k. state_behind found more (suc k)) (sym one.done_length) ∙ state-last (begins (grid_of found) []) h.done d
-
-    -- it waits in its first deed
-    waits_here : (rows : Cat) (user : ℕ) (text : Text) (call : Call) (request : Request) → MeansRequest at m.asked request → text ≡ m.asked.line
-        → WaitsIn at request rows user call → WaitsBehind found more rows size user text call
-    waits_here rows user text call request means same waits = record {
-      next = m;
-      is_next = ap (slice_get more.begun) (sym one.begun_length) ∙ get-last h.begun m;
-      line_is = same;
-      request = request;
-      means = subst (λ (x : State). MeansRequest x m.asked request) (sym at_size) means;
-      waits_in = subst (λ (x : State). WaitsIn x request rows user call) (sym at_size) waits;
-    }
 
     -- a catalogue with so many bytes shown, where that many requests are shown whole, and that many done
     made : (c : Cat) (k w n : ℕ) → IsOfRun found c → whole_in (replies_of more) (bytes + k) ≡ w → max w c.numbers.last ≡ n → n ≤ suc size
@@ -246,9 +281,28 @@ module _ (found : Cat) (h : Handled) (m : Marked) (d : Done) (ts : List Text) (t
           made e k size size (like-of found c e its like) (whole_cut k less) (omega (arith, last, like.last)) (omega arith) (omega (arith, last, like.last)) at at_size none_at
           (like.grid ∙ grid) (λ l. told_next k ∙ ap (λ i. take i m.marks) none)
 
-      -- where nothing is shown of it, those before it are done
-      reached_here : (e : Cat) → IsLike c e → reached_by found more e (bytes + 0) ≡ size
-      reached_here e like = ap (λ k. max k e.numbers.last) (whole_cut 0 one.has_bytes) ∙ omega (arith, last, like.last)
+      -- it is pending, and no more marks are told than are kept
+      waiting : (e : Cat) (p : Pending) (k : ℕ) (request : Request) → MeansRequest at m.asked request → IsAmid c e → p.line ≡ m.asked.line
+          → WaitsInDeed at n request d.reply.marks e p → TellsFew ts (length t) (length p.marks) k → IsAmidSome found more e p size (bytes + k)
+      waiting e p k request means amid line waits tells =
+          let whole : whole_in (replies_of more) (bytes + k) ≡ size = whole_cut k tells.cut in
+          let first : AreFirst (take (whole_in ts k) m.marks) p.marks = first-kept m.marks p.marks (whole_in ts k) (subst (λ (x : List Mark). AreFirst p.marks x) marks_are waits.kept) tells.few in
+          record {
+            of_run = amid-of found c e its amid;
+            reached = ap (λ j. max j e.numbers.last) whole ∙ omega (arith, last, amid.last);
+            near = omega (arith, whole, last, amid.last);
+            no_rules = ap (λ (x : State). x.rules) at_size ∙ none_at;
+            waits_behind = record {
+              next = m;
+              is_next = ap (slice_get more.begun) (sym one.begun_length) ∙ get-last h.begun m;
+              line_is = line;
+              request = request;
+              means = subst (λ (x : State). MeansRequest x m.asked request) (sym at_size) means;
+              waits = subst (λ (x : State). WaitsInDeed x (size + 1) request m.marks e p) (sym at_size)
+                  (subst (λ j. WaitsInDeed at j request m.marks e p) n_is (subst (λ (x : List Mark). WaitsInDeed at n request x e p) marks_are waits));
+            };
+            told = subst (λ (x : List Mark). AreFirst x p.marks) (sym (ap (λ j. told_within more j (bytes + k)) whole ∙ told_next k)) first;
+          }
 
       -- it was kept
       changed : (e : Cat) (k : ℕ) → IsLeftBehind c n d e → (k < length t) ⊎ (length t ≡ k) → IsBehindSome found more e (bytes + k)
@@ -304,13 +358,11 @@ module _ (found : Cat) (h : Handled) (m : Marked) (d : Done) (ts : List Text) (t
     image_by : (main : Text) (c : Cat) → StandsFor main c → IsBehindSome found more c (bytes + adds.count) → OneOfRun found more old_sink main sink
     image_by main c stands behind = in_run c part (drop adds.count t) stands sink_is split (subst (IsBehindSome found more c) (sym behind_report) behind)
 
-    -- it waits in its first deed
-    image_waiting : (main : Text) (rows : Cat) (user : ℕ) (text : Text) (call : Call) → StandsFor main (with_deed rows (size + 1) user text call)
-        → IsBehindSome found more rows (bytes + adds.count) → reached_by found more rows (bytes + adds.count) ≡ size
-        → WaitsBehind found more rows size user text call → OneOfRun found more old_sink main sink
-    image_waiting main rows user text call stands behind reached waits =
-        in_deed_of_run rows size user text call part (drop adds.count t) stands sink_is split (subst (IsBehindSome found more rows) (sym behind_report) behind)
-        (ap (reached_by found more rows) behind_report ∙ reached) waits
+    -- it is pending
+    image_waiting : (main : Text) (c : Cat) (p : Pending) → StandsFor main c → IsAmidSome found more c p size (bytes + adds.count)
+        → OneOfRun found more old_sink main sink
+    image_waiting main c p stands amid =
+        in_deed_of_run c p size part (drop adds.count t) stands sink_is split (subst (IsAmidSome found more c p size) (sym behind_report) amid)
 
     pub shows-one : ShowsMost report more old_sink sink
     shows-one = record {
@@ -323,6 +375,36 @@ module _ (found : Cat) (h : Handled) (m : Marked) (d : Done) (ts : List Text) (t
           let w : whole_in (replies_of more) (length part - length report) ≡ size + whole_in (t ∷ []) adds.count = ap (whole_in (replies_of more)) behind_report ∙ whole_with adds.count in
           omega (arith, w, length-append h.begun (m ∷ []), one.begun_length);
     }
+
+    -- the marks that are shown are the first of those that were come to
+    pub shown-taken : (taken : List Mark) → AreFirst taken m.marks → length ts ≡ length m.marks → whole_in ts adds.count ≤ length taken
+        → AreFirst (marks_shown more (length shows-one.part - length report)) (marks_of h.begun ++ taken)
+    unfolding shows-one
+    shown-taken taken first many few =
+        subst (λ j. AreFirst (marks_shown more j) (marks_of h.begun ++ taken)) (sym behind_report) (by cut_or_full)
+      where
+        by : (adds.count < length t) ⊎ (length t ≡ adds.count) → AreFirst (marks_shown more (bytes + adds.count)) (marks_of h.begun ++ taken)
+        by (inl less) =
+            let j = whole_in ts adds.count in
+            let own : take j m.marks ≡ take j taken = ap (take j) first.are ∙ take-append-le j taken first.rest few in
+            record {
+              rest = drop j taken;
+              are = ap (λ (x : List Mark). marks_of h.begun ++ x) (sym (take-append-drop j taken)) ∙ sym (append_assoc (marks_of h.begun) (take j taken) (drop j taken))
+                  ∙ ap (λ (x : List Mark). x ++ drop j taken) (sym (marks_cut adds.count less ∙ ap (λ (x : List Mark). marks_of h.begun ++ x) own));
+            }
+        by (inr all) =
+            let none : first.rest ≡ [] = nil_from_length first.rest (omega (arith, all_whole, few, many, ap length first.are, length-append taken first.rest)) in
+            let same : m.marks ≡ taken = first.are ∙ ap (λ (x : List Mark). taken ++ x) none ∙ append-nil taken in
+            record {
+              rest = [];
+              are = ap (λ (x : List Mark). marks_of h.begun ++ x) (sym same) ∙ sym (marks_full adds.count all) ∙ sym (append-nil (marks_shown more (bytes + adds.count)));
+            }
+          where
+            all_whole : whole_in ts adds.count ≡ length ts
+            all_whole =
+                let e : adds.count ≡ length (joined_texts ts) + length one.rest = sym all ∙ ap length one.pieces_first ∙ length-append (joined_texts ts) one.rest in
+                ap (whole_in ts) e ∙ ap (λ (x : List Text). whole_in x (length (joined_texts ts) + length one.rest)) (sym (append-nil ts)) ∙ whole-behind ts [] (length one.rest)
+                ∙ omega arith
 
 -- all that was handled is shown
 pub shows-all : (report : Text) (h : Handled) (old_sink sink : Text) → length h.begun ≡ length (replies_of h)
@@ -348,7 +430,7 @@ untold_cut [] t rest k some e untold = (omega (arith, some, untold), refl)
 untold_cut (u ∷ ts) t rest k some e untold =
     (omega (arith, untold, ap length e, length-append (u ++ joined_texts ts) rest, length-append u (joined_texts ts)), whole-less u ts k untold)
 
--- while a request is handled a stop leaves that nothing is seen of it, that it waits in its first deed, or that it is kept
+-- while a request is handled a stop leaves that nothing is seen of it, that it is pending, or that it is kept
 pub image-one : (found c : Cat) (h : Handled) (m : Marked) (d : Done) (ts : List Text) (n : ℕ) → IsOneMore h m d ts (reply_text n d.reply ts) → (at : State) (request : Request)
     → MeansRequest at m.asked request → state_behind found h (length (replies_of h)) ≡ at → at.rules ≡ [] → d.state.rules ≡ [] → IsOfRun found c → c.numbers.last ≤ length (replies_of h)
     → grid_of c ≡ at.grid
@@ -359,13 +441,10 @@ image-one found c h m d ts n one at request means at_is none_at none_next its la
     let cut = untold_cut ts (reply_text n d.reply ts) one.rest adds.count one.has_bytes one.pieces_first untold in
     image_by found h m d ts (reply_text n d.reply ts) one old_sink shown sink shown_is adds main e stands
     (not_changed found h m d ts (reply_text n d.reply ts) one at at_is none_at none_next c its last grid marks_are n n_is e adds.count like cut.0 cut.1)
-image-one found c h m d ts n one at request means at_is none_at none_next its last grid marks_are n_is old_sink shown main sink shown_is noted (in_first_deed rows user text call like waits stands is) =
-    let t = reply_text n d.reply ts in
-    let adds : AddsPart t shown sink = record { count = 0; within = omega arith; is = is ∙ sym (append-nil shown) } in
-    image_waiting found h m d ts t one old_sink shown sink shown_is adds main rows user text call (subst (λ k. StandsFor main (with_deed rows k user text call)) n_is stands)
-    (not_changed found h m d ts t one at at_is none_at none_next c its last grid marks_are n n_is rows 0 like one.has_bytes (whole-none ts one.pieces_have))
-    (reached_here found h m d ts t one at at_is none_at none_next c its last grid marks_are n n_is rows like)
-    (waits_here found h m d ts t one at at_is none_at none_next rows user text call request means (noted (with_deed rows n user text call) stands) waits)
+image-one found c h m d ts n one at request means at_is none_at none_next its last grid marks_are n_is old_sink shown main sink shown_is noted (in_deed_so e p amid waits stands adds tells) =
+    image_waiting found h m d ts (reply_text n d.reply ts) one old_sink shown sink shown_is adds main e p stands
+    (waiting found h m d ts (reply_text n d.reply ts) one at at_is none_at none_next c its last grid marks_are n n_is e p adds.count request means amid
+    (subst (HasLine m.asked.line) waits.is (noted e stands)) waits tells)
 image-one found c h m d ts n one at request means at_is none_at none_next its last grid marks_are n_is old_sink shown main sink shown_is noted (kept_so e after stands adds) =
     image_by found h m d ts (reply_text n d.reply ts) one old_sink shown sink shown_is adds main e stands
     (follows found h m d ts (reply_text n d.reply ts) one at at_is none_at none_next c its last grid marks_are n n_is e adds.count after

@@ -6,6 +6,7 @@ pub mod Causes
 pub mod BuiltOrders
 pub mod Draws
 pub mod Images
+pub mod FirstDeeds
 pub mod Orphans
 pub mod More
 pub mod Opening
@@ -13,3 +14,5 @@ pub mod Silent
 pub mod Quiet
 pub mod Runs
 pub mod RunLaws
+pub mod OneMark
+pub mod Users

@@ -1,5 +1,5 @@
 -- Requests that were handled, one more.
-use Rattle.std.proofs.Common.{◌≡◌, ℕ, zero, suc, ◌+◌, ◌<◌, ◌≤◌, List, [], ◌∷◌, ◌++◌, length, slice_get, Some, refl, ap, ◌∙◌, subst, arith}
+use Rattle.std.proofs.Common.{◌≡◌, ℕ, zero, suc, ◌+◌, ◌<◌, ◌≤◌, List, [], ◌∷◌, ◌++◌, length, slice_get, Option, Some, refl, ap, ◌∙◌, subst, arith}
 use Rattle.std.specs.List.{AllByRecursion}
 use Rattle.std.proofs.lemmas.List.{append-nil}
 use Rattle.std.proofs.lemmas.Grind.{flat_map-append}
@@ -8,7 +8,7 @@ use Rattle.grid_model.specs.Names.{Text}
 use Rattle.grid_model.specs.Inputs.{Asked}
 use Rattle.grid_model.specs.Meanings.{gives}
 use Rattle.grid_model.specs.Sessions.{State}
-use Rattle.grid_model.specs.Working.{Done}
+use Rattle.grid_model.specs.Working.{Done, Sent}
 use Rattle.grid_model.specs.ReplyTexts.{ArePieces, reply_text}
 use Rattle.grid_model.specs.Runs.{Request, Marked, After, none, next, does, state_after}
 use Rattle.grid_model.specs.Completing.{AreClean, EndsByRows}
@@ -107,6 +107,14 @@ pieces-length known n [] [] all = refl
 pieces-length known n (d ∷ ds) (ts ∷ tss) all = ap suc (pieces-length known (n + 1) ds tss all.1)
 pieces-length known n [] (ts ∷ tss) all = absurd all
 pieces-length known n (d ∷ ds) [] all = absurd all
+
+-- each mark has a text
+pub pieces-many : (known : ℕ → Type 0) (n place : ℕ) (sent : Option Sent) (marks : List Mark) (ts : List Text) → ArePieces known n sent place marks ts
+    → length ts ≡ length marks
+pieces-many known n place sent [] [] are = refl
+pieces-many known n place sent (m ∷ ms) (t ∷ ts) are = ap suc (pieces-many known n (place + 1) sent ms ts are.1)
+pieces-many known n place sent [] (t ∷ ts) are = absurd are
+pieces-many known n place sent (m ∷ ms) [] are = absurd are
 
 pub pieces-push : (known : ℕ → Type 0) (n k : ℕ) (ds : List Done) (tss : List (List Text)) (d : Done) (ts : List Text) → k ≡ n + length ds
     → AllPieces known n ds tss

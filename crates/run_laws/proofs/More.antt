@@ -1,5 +1,5 @@
 -- One more request, behind those that were handled.
-use Rattle.std.proofs.Common.{◌≡◌, ◌⊎◌, inl, inr, ℕ, ◌+◌, ◌<◌, ◌≤◌, List, [], ◌∷◌, ◌++◌, length, IsTrue, refl, sym, ap, ◌∙◌, subst, append_assoc, length-append, arith}
+use Rattle.std.proofs.Common.{◌≡◌, ◌⊎◌, inl, inr, ℕ, ◌+◌, ◌-◌, ◌<◌, ◌≤◌, List, [], ◌∷◌, ◌++◌, length, IsTrue, refl, sym, ap, ◌∙◌, subst, append_assoc, length-append, arith}
 use Rattle.std.specs.List.{AllByRecursion}
 use Rattle.std.proofs.lemmas.Bool.{cases_lt}
 use Rattle.grid_outside.specs.Device.{IsSettled}
@@ -20,22 +20,23 @@ use Rattle.grid_headline.specs.Served.{NoneSweeps, joined_texts, marks_of}
 use Rattle.grid_headline.specs.Files.{IsKnown, AreSettled, DisksAreSettled, KeepsReplicas, WereWhole, AllStayWhole, ReplicasStayNamed}
 use Rattle.grid_headline.specs.Causes.{AreCaused}
 use Rattle.grid_headline.specs.Ends.{AllStill, HasOneMore, HasFewOrphans, EndsSwept}
+use Rattle.grid_headline.specs.Stops.{AreFirst}
 use Rattle.grid_headline.specs.Headline.{BeginsOn}
 use Rattle.grid_headline.proofs.OneMeaning.{quits-alone}
 use Rattle.grid_headline.proofs.PutStops.{the_catalogue}
-use Rattle.run_laws.specs.Handled.{Handled, with_one, replies_of, IsOfRun, state_behind, OneOfRun, whole_report}
-use Rattle.run_laws.specs.Steps.{Gave, IsToldOf, ComesAfter, kept, unseen, NotesLine, RequestStep, IsHandledWhole}
+use Rattle.run_laws.specs.Handled.{Handled, with_one, replies_of, marks_shown, IsOfRun, state_behind, OneOfRun, ShowsMost, whole_report}
+use Rattle.run_laws.specs.Steps.{IsToldOf, ComesAfter, kept, unseen, NotesLine, RequestStep, IsHandledWhole}
 use Rattle.run_laws.specs.Silent.{LeavesFew}
 use Rattle.run_laws.specs.Sofar.{Ran, Sofar, KeepsWhole, KeepsNames}
 use Rattle.run_laws.specs.Went.{Went, AreInOrder}
 use Rattle.run_laws.proofs.Texts.{joined-push}
-use Rattle.run_laws.proofs.Lists.{all-append, all-map, marks-push, asked-push, asked-length, after-length, after-push, by_rows-push, state-all, pieces-length, pieces-push, replies-length, replies-push, still-split}
+use Rattle.run_laws.proofs.Lists.{all-append, all-map, marks-push, asked-push, asked-length, after-length, after-push, by_rows-push, state-all, pieces-length, pieces-many, pieces-push, replies-length, replies-push, still-split}
 use Rattle.run_laws.proofs.Known.{pieces-less, told-less}
 use Rattle.run_laws.proofs.Goings.{disks-settled, whole-now, known-now, went-then, whole-then}
 use Rattle.run_laws.proofs.Causes.{caused-then}
 use Rattle.run_laws.proofs.Draws.{gave-then}
 use Rattle.run_laws.proofs.BuiltOrders.{built, does-rules, removes_nothing}
-use Rattle.run_laws.proofs.Images.{IsOneMore, behind-of, like-of, image-more, image-one, shows-one, pieces-have, reply_has}
+use Rattle.run_laws.proofs.Images.{IsOneMore, behind-of, like-of, image-more, image-one, shows-one, shown-taken, pieces-have, reply_has}
 use Rattle.run_laws.proofs.Orphans.{LastOne, swept_last, quit_last, few-before, few-behind, few-swept, last-one, quits-leave, quits-remove}
 
 -- ---- what was handled so far
@@ -157,6 +158,14 @@ module _ {B : Type 0} (old mid new : World B) (found c : Cat) (at : State) (aske
             image-more found h m step.d step.pieces (reply_text (length asked + 1) step.d.reply step.pieces) one-more old.sink.holds main sink
             (so.ran.images tells settled t main sink late (then.main.earlier t main early main_left) (then.sink.earlier t sink early sink_left))
 
+  -- each of its marks has a text
+  pub many_pieces : length step.pieces ≡ length m.marks
+  many_pieces = pieces-many (IsKnown mid c) (length asked + 1) 0 step.d.sent step.d.reply.marks step.pieces step.pieces_are ∙ ap length step.marks_are
+
+  abbrev shown-part : IsTrue old.sink.tells → ShowsMost (whole_report found) more old.sink.holds new.sink.holds
+  shown-part tells = shows-one found h m step.d step.pieces (reply_text (length asked + 1) step.d.reply step.pieces) one-more old.sink.holds mid.sink.holds new.sink.holds (so.text tells)
+      (step.shown (sink-mid tells)).part
+
   -- it was begun, and maybe not handled whole
   abbrev pub ran-more : Ran old new found step.d.state (asked ++ a ∷ [])
   ran-more = record {
@@ -168,11 +177,14 @@ module _ {B : Type 0} (old mid new : World B) (found c : Cat) (at : State) (aske
     told_of = told-more;
     by_rows = by_rows-push m step.d so.ran.after so.ran.by_rows step.by_rows;
     went = went-then old mid new so.ran.went then;
-    shown = λ tells. shows-one found h m step.d step.pieces (reply_text (length asked + 1) step.d.reply step.pieces) one-more old.sink.holds mid.sink.holds new.sink.holds (so.text tells)
-        (step.shown (sink-mid tells));
+    shown = shown-part;
     caused = subst (AreCaused old new) (sym (marks-push h.begun m)) (caused-then old mid new (marks_of h.begun) step.marks so.ran.went.count so.ran.caused step.caused);
-    gave = λ tells. (let P : List Mark → Type 0 = λ ms. Gave ms old.ambient new.ambient in
-        subst P (sym (marks-push h.begun m)) (gave-then (marks_of h.begun) step.marks old.ambient mid.ambient new.ambient so.ran.gave step.gave tells));
+    drawn = so.ran.drawn ++ step.taken;
+    gave = gave-then so.ran.drawn step.taken old.ambient mid.ambient new.ambient so.ran.gave step.gave;
+    told_drawn = λ tells. (let s = step.shown (sink-mid tells) in
+        subst (λ (d : List Mark). AreFirst (marks_shown more (length (shown-part tells).part - length (whole_report found))) (d ++ step.taken)) (sym so.all_drawn)
+        (shown-taken found h m step.d step.pieces (reply_text (length asked + 1) step.d.reply step.pieces) one-more old.sink.holds mid.sink.holds new.sink.holds (so.text tells)
+        s.part step.taken step.first many_pieces s.few));
     whole = whole-so old mid found c at asked so begin order new then stay;
     named = named-so old mid found c at asked so begin order new then names;
     images = images-more;
@@ -242,6 +254,7 @@ module _ {B : Type 0} (old mid new : World B) (found c : Cat) (at : State) (aske
     sofar_did few goes_on = record {
       ran = ran-more;
       none_end = all-append (λ (x : Asked). ¬ EndsInput x) asked (a ∷ []) so.none_end (goes_on, tt);
+      all_drawn = ap (λ (d : List Mark). d ++ step.taken) so.all_drawn ∙ ap (λ (d : List Mark). marks_of h.begun ++ d) whole.all_taken ∙ sym (marks-push h.begun m);
       text = text-more;
       of_run = of-run-more;
       last = last_more;

@@ -137,7 +137,9 @@ module _ {B : Type 0} (old now : World B) (found : Cat) (begin : BeginsOn old fo
       all_but_one = omega arith;
     });
     caused = caused-none old now opens.went;
+    drawn = [];
     gave = λ tells. (let P : AmbientState → Type 0 = λ s. IsTrue s.tells → Gave [] old.ambient s in subst P (sym opens.ambient) (gave-none old.ambient) tells);
+    told_drawn = λ tells. record { rest = []; are = refl };
     whole = stay-whole;
     named = stay-named;
     images = images-none;

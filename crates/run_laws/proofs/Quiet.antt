@@ -14,15 +14,16 @@ use Rattle.grid_model.specs.declared.marks.Mark.{Mark}
 use Rattle.grid_headline.specs.Worlds.{World}
 use Rattle.grid_headline.specs.Files.{AreSettled}
 use Rattle.grid_headline.specs.Served.{NoneSweeps, joined_texts, whole_in, marks_of}
+use Rattle.grid_headline.specs.Stops.{AreFirst}
 use Rattle.grid_headline.specs.Headline.{BeginsOn}
-use Rattle.run_laws.specs.Handled.{Handled, replies_of, marks_within, reached_by, state_behind, IsBehindSome, OneOfRun, in_run, whole_report}
+use Rattle.run_laws.specs.Handled.{Handled, replies_of, marks_shown, marks_within, reached_by, state_behind, IsBehindSome, OneOfRun, in_run, ShowsMost, whole_report}
 use Rattle.run_laws.specs.Steps.{IsLike, Gave, IsQuiet}
 use Rattle.run_laws.specs.Sofar.{Ran, Sofar, KeepsWhole, KeepsNames}
 use Rattle.run_laws.specs.Went.{Went, AreInOrder}
 use Rattle.run_laws.proofs.Texts.{whole-all}
 use Rattle.run_laws.proofs.Goings.{went-then}
 use Rattle.run_laws.proofs.Causes.{caused-on}
-use Rattle.run_laws.proofs.Draws.{gave-then}
+use Rattle.run_laws.proofs.Draws.{gave-then, shown-first}
 use Rattle.run_laws.proofs.Images.{like-of, shows-all}
 use Rattle.run_laws.proofs.More.{begun-many, replies-many, state-now, whole-so, named-so}
 
@@ -73,6 +74,10 @@ module _ {B : Type 0} (old mid new : World B) (found c : Cat) (at : State) (aske
           (sym (append-nil (report ++ joined_texts (replies_of h)))) (subst (IsBehindSome found h q.0) behind (like_all q.0 q.1))
       by (inr early) = so.ran.images tells settled t main sink late (then.main.earlier t main early main_left) (then.sink.earlier t sink early sink_left)
 
+  pub shown_all : IsTrue old.sink.tells → ShowsMost report h old.sink.holds new.sink.holds
+  shown_all tells = shows-all report h old.sink.holds new.sink.holds (begun-many old mid found at asked so.ran ∙ sym (replies-many old mid found at asked so.ran))
+      (quiet.sink (sink-mid tells) ∙ so.text tells)
+
   -- nothing is seen of what came behind
   abbrev pub ran-quiet : Ran old new found at asked
   ran-quiet = record {
@@ -83,11 +88,13 @@ module _ {B : Type 0} (old mid new : World B) (found c : Cat) (at : State) (aske
     told_of = so.ran.told_of;
     by_rows = so.ran.by_rows;
     went = went-then old mid new so.ran.went then;
-    shown = λ tells. shows-all report h old.sink.holds new.sink.holds (begun-many old mid found at asked so.ran ∙ sym (replies-many old mid found at asked so.ran))
-        (quiet.sink (sink-mid tells) ∙ so.text tells);
+    shown = shown_all;
     caused = caused-on old mid new (marks_of h.begun) then so.ran.caused;
+    drawn = so.ran.drawn;
     gave = λ tells. (let P : List Mark → Type 0 = λ ms. Gave ms old.ambient new.ambient in
-        subst P (append-nil (marks_of h.begun)) (gave-then (marks_of h.begun) [] old.ambient mid.ambient new.ambient so.ran.gave quiet.gave tells));
+        subst P (append-nil so.ran.drawn) (gave-then so.ran.drawn [] old.ambient mid.ambient new.ambient so.ran.gave quiet.gave tells));
+    told_drawn = λ tells. subst (AreFirst (marks_shown h (length (shown_all tells).part - length report))) (sym so.all_drawn)
+        (shown-first h (length (shown_all tells).part - length report));
     whole = whole-so old mid found c at asked so begin order new then stay;
     named = named-so old mid found c at asked so begin order new then names;
     images = images-quiet;
@@ -113,7 +120,9 @@ module _ {B : Type 0} (old now : World B) (source : SourceState) where
     went = went_on ran.went;
     shown = ran.shown;
     caused = record { counted = ran.caused.counted; there = ran.caused.there };
+    drawn = ran.drawn;
     gave = ran.gave;
+    told_drawn = ran.told_drawn;
     whole = λ settled whole t main spare c late left stands.
         let was = ran.whole settled whole t main spare c late (record { of_main = left.of_main; of_spare = left.of_spare }) stands in
         record { rows = was.rows; call = was.call; files = λ slot files its. was.files slot files (record { store = its.store; is = its.is; tells = its.tells; of_store = its.of_store }) };
@@ -126,6 +135,7 @@ module _ {B : Type 0} (old now : World B) (source : SourceState) where
   sofar-read found c at asked so = record {
     ran = ran-read found at asked so.ran;
     none_end = so.none_end;
+    all_drawn = so.all_drawn;
     text = so.text;
     of_run = so.of_run;
     last = so.last;

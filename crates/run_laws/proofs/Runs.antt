@@ -3,6 +3,7 @@
 use Rattle.std.proofs.Common.{◌≡◌, ◌⊎◌, inl, inr, ℕ, ◌+◌, ◌-◌, List, [], ◌∷◌, ◌++◌, length, take, drop, slice_get, Option, Some, None, Ok, IsTrue, refl, sym, ap, ◌∙◌, subst, append_assoc, length-append, take-append-drop, arith}
 use Rattle.std.specs.Prelude.{◌≢◌, max}
 use Rattle.std.proofs.lemmas.List.{length-take, length-take-le, take_all, drop_all, nil_from_length}
+use Rattle.std.proofs.lemmas.Option.{slice_get_within}
 use Rattle.grid_outside.specs.declared.outside.Wear.{Wear}
 use Rattle.grid_outside.specs.declared.outside.Wear.TheVariants as wear
 use Rattle.grid_model.specs.Names.{Text}
@@ -15,21 +16,17 @@ use Rattle.grid_model.specs.Sessions.{State}
 use Rattle.grid_model.specs.Meanings.{gives}
 use Rattle.grid_model.specs.Reopening.{Unwound, reopened_by}
 use Rattle.grid_model.specs.Runs.{Marked, Request}
-use Rattle.grid_model.specs.Whole.{Names, Naming, by_replica, by_orphan}
 use Rattle.grid_model.specs.Completing.{AreClean}
-use Rattle.grid_model.specs.declared.calls.Call.{Call}
 use Rattle.grid_model.specs.declared.deltas.Pending.{Pending}
 use Rattle.grid_model.specs.declared.marks.Mark.{Mark}
 use Rattle.grid_model.specs.declared.marks.Mark.TheVariants.{Stop}
 use Rattle.grid_model.specs.declared.marks.Mark.TheVariants as mark
 use Rattle.rule_parse.specs.Printed.{print_rules}
-use Rattle.tables_laws.proofs.Grids.{grid-same}
 use Rattle.grid_headline.specs.Worlds.{World, DevicesImage}
 use Rattle.grid_headline.specs.Reads.{MeansRequest, EndsInputLast}
 use Rattle.grid_headline.specs.Served.{Run, BeginsWithRequests, joined_texts, asked_of, marks_of, whole_in, acknowledged, front_of, report_back, told_marks, told_of, first_marks, state_at}
 use Rattle.grid_headline.specs.Served as served
 use Rattle.grid_headline.specs.Stops.{AreFirst, OneImage, IsAtState, IsInterrupted, IsSame, KeepsTold, KeepsReport}
-use Rattle.grid_headline.specs.Numbers.{KeepsNumbers}
 use Rattle.grid_headline.specs.Files.{IsKnown, IsOfUnknown, DisksAreSettled, WereWhole}
 use Rattle.grid_headline.specs.Causes.{NoneFailed, AllTell}
 use Rattle.grid_headline.specs.Draws.{DrawsMarks, AreSomeOf, word_of, time_of, told_words, times_of, kept_count}
@@ -37,12 +34,12 @@ use Rattle.grid_headline.specs.Ends.{RunEnd, read_all, source_failed, too_long, 
 use Rattle.grid_headline.specs.Headline.{Shows, Completes, Serves, IsGoodEnd}
 use Rattle.run_laws.specs.Handled.{replies_of, HasNoRecovery, WaitsBehind, OneOfRun, not_begun, in_run, in_deed_of_run, passed_of, report_begun, whole_report}
 use Rattle.run_laws.specs.Handled as handled
-use Rattle.run_laws.specs.Steps.{IsToldOf, in_deed, with_deed}
+use Rattle.run_laws.specs.Steps.{IsToldOf}
 use Rattle.run_laws.specs.Sofar.{Ran}
 use Rattle.run_laws.specs.Ends.{ReadsSo, IsAnswered, MakesFile, NeedsSo, StopsSo, IsGoodIfNoneFailed}
 use Rattle.run_laws.proofs.Lists.{all-map, after-length, state-all}
 use Rattle.run_laws.proofs.Causes.{clean, clean-prefix, by_rows-first}
-use Rattle.run_laws.proofs.Draws.{AreFirstAt, shown, some-of, front-shown, some-front, words-shown}
+use Rattle.run_laws.proofs.Draws.{AreFirstAt, IsFront, shown, some-of, front-shown, some-front, words-shown}
 use Rattle.run_laws.proofs.More.{begun-many, done-many}
 
 -- a mark that a run tells is no stop
@@ -80,20 +77,6 @@ opened_without c o = record { grid = grid_of c; passed = passed_of (without_reco
 reopened_without : (c : Cat) (o : Option Pending) → reopened_by c (without_recoveries o) [] ≡ gives (opened_without c o)
 reopened_without c None = refl
 reopened_without c (Some p) = refl
-
--- ---- a command in its first deed
-
--- it is pending and all else is as before
-module _ (rows : Cat) (n user : ℕ) (text : Text) (call : Call) where
-  deed_grid : grid_of (with_deed rows n user text call) ≡ grid_of rows
-  deed_grid = grid-same rows (with_deed rows n user text call) refl (grid_of rows) refl
-
-  deed_names : (slot name : ℕ) (row : Naming) → Names (with_deed rows n user text call) slot name row → Names rows slot name row
-  deed_names slot name (by_replica r) its = its
-  deed_names slot name (by_orphan o) its = its
-
-  deed_keeps : (found : Cat) → KeepsNumbers found rows → KeepsNumbers found (with_deed rows n user text call)
-  deed_keeps found keeps = record { rises = keeps.rises; names = λ slot name row low its. keeps.names slot name row low (deed_names slot name row its) }
 
 module _ {B : Type 0} (old new : World B) (base : Cat) (at : State) (asked : List Asked) where
   -- nothing that is pending has recoveries, and there are no rules
@@ -139,6 +122,19 @@ module _ {B : Type 0} (old new : World B) (base : Cat) (at : State) (asked : Lis
     none_of_report None count = refl
     none_of_report (Some p) count = drop-front (whole_in (front_of run) count - 1) p.marks
 
+    same_first : (m : Option Marked) (ts : Option (List Text)) (count : ℕ) → first_marks run m ts count ≡ handled.marks_within m ts count
+    same_first None None count = refl
+    same_first None (Some ts) count = refl
+    same_first (Some m) None count = refl
+    same_first (Some m) (Some ts) count = refl
+
+    same_told : (k count : ℕ) → told_marks run k count ≡ handled.told_within ran.handled k (count - length report)
+    same_told k count =
+        let before = joined_texts (take k (replies_of ran.handled)) in
+        let e : count - length (report ++ before) ≡ count - length report - length before = omega (arith, length-append report before) in
+        same_first (slice_get ran.handled.begun k) (slice_get ran.handled.pieces k) (count - length (served.text_before run k))
+        ∙ ap (handled.marks_within (slice_get ran.handled.begun k) (slice_get ran.handled.pieces k)) e
+
     module _ (count : ℕ) where
       abbrev n : ℕ
       n = acknowledged run count
@@ -146,24 +142,29 @@ module _ {B : Type 0} (old new : World B) (base : Cat) (at : State) (asked : Lis
       first_told : AreFirstAt (told_marks run n count) (slice_get ran.handled.begun n)
       first_told = first_at (slice_get ran.handled.begun n) (slice_get ran.handled.pieces n) (count - length (served.text_before run n))
 
-      draws : IsTrue new.ambient.tells → DrawsMarks run count old.ambient new.ambient
-      draws tells =
+      -- as the requests that were handled have them
+      shown_is : handled.marks_shown ran.handled (count - length report) ≡ marks_of (shown ran.handled.begun (told_marks run n count) n)
+      shown_is = ap (λ (ms : List Mark). marks_of (shown ran.handled.begun ms n)) (sym (same_told n count))
+
+      draws : AreFirst (handled.marks_shown ran.handled (count - length report)) ran.drawn → IsTrue new.ambient.tells
+          → DrawsMarks run count old.ambient new.ambient
+      draws first tells =
           let g = ran.gave tells in
-          let front = front-shown ran.handled.begun (told_marks run n count) n first_told in
-          let words = words-shown (told_marks run n count) n ran.after first_told in
           let all = marks_of (shown ran.handled.begun (told_marks run n count) n) in
+          let front : IsFront all ran.drawn = record { rest = first.rest; is = first.are ∙ ap (λ (ms : List Mark). ms ++ first.rest) shown_is } in
+          let words = words-shown (told_marks run n count) n ran.after first_told in
           let none = none_of_report found.pending count in
           record {
             told = g.told;
             times = g.times;
             times_are = g.times_are;
-            times_told = subst (λ (ms : List Mark). AreSomeOf (times_of (ms ++ all)) g.times) (sym none) (some-of (some-front time_of all (marks_of ran.handled.begun) front) g.times_told);
+            times_told = subst (λ (ms : List Mark). AreSomeOf (times_of (ms ++ all)) g.times) (sym none) (some-of (some-front time_of all ran.drawn front) g.times_told);
             words = g.words;
             words_are = g.words_are;
             of_requests = words.words;
             have = words.have;
             words_told = subst (λ (ms : List Mark). AreSomeOf (told_words ms ++ words.words.words) g.words) (sym none)
-                (some-of words.in_all (some-of (some-front word_of all (marks_of ran.handled.begun) front) g.words_told));
+                (some-of words.in_all (some-of (some-front word_of all ran.drawn front) g.words_told));
           }
 
     shows : IsTrue old.sink.tells → Shows old new run
@@ -176,7 +177,7 @@ module _ {B : Type 0} (old new : World B) (base : Cat) (at : State) (asked : Lis
           split = s.split;
           report_first = s.report_first;
           all_but_one = omega (arith, s.all_but_one, acknowledged_is (length s.part));
-          drawn = draws (length s.part);
+          drawn = draws (length s.part) (ran.told_drawn tells);
         }
 
     completes : (tells : IsTrue old.sink.tells) (end : RunEnd) → NoneFailed old new → AllTell old → DisksAreSettled old
@@ -195,19 +196,6 @@ module _ {B : Type 0} (old new : World B) (base : Cat) (at : State) (asked : Lis
         }
 
     -- ---- images
-
-    same_first : (m : Option Marked) (ts : Option (List Text)) (count : ℕ) → first_marks run m ts count ≡ handled.marks_within m ts count
-    same_first None None count = refl
-    same_first None (Some ts) count = refl
-    same_first (Some m) None count = refl
-    same_first (Some m) (Some ts) count = refl
-
-    same_told : (k count : ℕ) → told_marks run k count ≡ handled.told_within ran.handled k (count - length report)
-    same_told k count =
-        let before = joined_texts (take k (replies_of ran.handled)) in
-        let e : count - length (report ++ before) ≡ count - length report - length before = omega (arith, length-append report before) in
-        same_first (slice_get ran.handled.begun k) (slice_get ran.handled.pieces k) (count - length (served.text_before run k))
-        ∙ ap (handled.marks_within (slice_get ran.handled.begun k) (slice_get ran.handled.pieces k)) e
 
     -- what was pending is so still, and what is told of it is kept
     same_pending : (o : Option Pending) → IsSame run found o o
@@ -239,32 +227,30 @@ module _ {B : Type 0} (old new : World B) (base : Cat) (at : State) (asked : Lis
     abbrev replies : Text
     replies = joined_texts (replies_of ran.handled)
 
-    -- a request that waits in its first deed was interrupted there
-    interrupted : (rows : Cat) (k user : ℕ) (text : Text) (call : Call) → WaitsBehind found ran.handled rows k user text call
-        → grid_of rows ≡ (state_at run k).grid
-        → IsInterrupted run (with_deed rows (k + 1) user text call) (in_deed rows.numbers.run (k + 1) user text call) k
-    interrupted rows k user text call behind grid =
-        let waits = behind.waits_in in
+    -- a request that is pending was interrupted there
+    interrupted : (c : Cat) (p : Pending) (k : ℕ) → WaitsBehind found ran.handled c p k → IsInterrupted run c p k
+    interrupted c p k behind =
+        let w = behind.waits in
         record {
-          of_run = refl;
-          number = refl;
+          of_run = w.of_run;
+          number = w.number;
           next = behind.next;
           is_next = behind.is_next;
           line = behind.line_is;
-          session = waits.session;
-          order = waits.order;
-          asks = subst (λ (x : Request). MeansRequest (state_at run k) behind.next.asked x) waits.is behind.means;
-          of = waits.of;
-          logged_in = waits.logged_in;
-          user = waits.name;
-          waiting = record { call = call; grid = (state_at run k).grid; taken = []; passed = []; undo = [] };
-          waits_there = waits.waits_there;
-          running = refl;
-          grid = deed_grid rows (k + 1) user text call ∙ grid;
-          taken = refl;
-          passed = refl;
-          undo = refl;
-          kept = record { rest = behind.next.marks; are = refl };
+          session = w.session;
+          order = w.order;
+          asks = subst (λ (x : Request). MeansRequest (state_at run k) behind.next.asked x) w.asks behind.means;
+          of = w.of;
+          logged_in = w.logged_in;
+          user = w.name;
+          waiting = w.waiting;
+          waits_there = w.waits_there;
+          running = w.running;
+          grid = w.grid;
+          taken = w.taken;
+          passed = w.passed;
+          undo = w.undo;
+          kept = w.kept;
         }
 
     image : (i : DevicesImage) → OneOfRun found ran.handled old.sink.holds i.main i.sink → OneImage run old.sink.holds i
@@ -314,14 +300,12 @@ module _ {B : Type 0} (old new : World B) (base : Cat) (at : State) (asked : Lis
           numbers = b.of_run.keeps;
           stores = b.of_run.stores;
         }
-    image i (in_deed_of_run rows k user text call part more stands is split b reached waits) =
+    image i (in_deed_of_run c p k part more stands is split b) =
         let count = length part in
         let own = count - length report in
-        let c = with_deed rows (k + 1) user text call in
         let a : acknowledged run count ≡ whole_in (replies_of ran.handled) own = acknowledged_is count in
-        let r : served.reached run c count ≡ k = ap (λ j. max j rows.numbers.last) a ∙ reached in
-        let s : state_at run k ≡ handled.state_behind found ran.handled (handled.reached_by found ran.handled rows own) = ap (state_at run) (sym reached) in
-        let most : max (whole_in (replies_of ran.handled) own) rows.numbers.last ≡ k = reached in
+        let r : served.reached run c count ≡ k = ap (λ j. max j c.numbers.last) a ∙ b.reached in
+        let pending : c.pending ≡ Some p = b.waits_behind.waits.is in
         record {
           cat = c;
           stands = stands i.spare;
@@ -331,20 +315,17 @@ module _ {B : Type 0} (old new : World B) (base : Cat) (at : State) (asked : Lis
           split = split;
           on_the_way = inr (record {
             number = b.of_run.number;
-            within = omega (arith, b.within, r, reached);
+            within = omega (arith, r, slice_get_within ran.handled.begun k b.waits_behind.next b.waits_behind.is_next);
             near = omega (arith, b.near, a);
-            rules = b.of_run.rules ∙ sym (ap (λ j. print_rules (state_at run j).rules) r ∙ ap (λ (x : State). print_rules x.rules) s ∙ ap print_rules b.no_rules);
-            at = subst (IsInterrupted run c (in_deed rows.numbers.run (k + 1) user text call)) (sym r)
-                (interrupted rows k user text call waits (b.grid ∙ ap (λ (x : State). x.grid) (sym s)));
+            rules = b.of_run.rules ∙ sym (ap (λ j. print_rules (state_at run j).rules) r ∙ ap print_rules b.no_rules);
+            at = subst (IsAtState run c (served.reached run c count)) (sym pending) (subst (IsInterrupted run c p) (sym r) (interrupted c p k b.waits_behind));
           });
           told = record {
-            of_request = λ e same.
-                let none : told_marks run (n count) count ≡ [] =
-                same_told (n count) count ∙ ap (λ j. handled.told_within ran.handled j own) a ∙ b.untold (omega (arith, most, same, a)) in
-                subst (λ (ms : List Mark). AreFirst ms []) (sym none) (record { rest = []; are = refl });
-            of_report = λ e. absurd (omega (arith, e, b.of_run.number));
+            of_request = λ e. subst (KeepsTold run (told_marks run (n count) count) (n count) c.numbers.last) (sym pending) (λ same.
+                subst (λ (ms : List Mark). AreFirst ms p.marks) (sym (same_told (n count) count ∙ ap (λ j. handled.told_within ran.handled j own) a)) b.told);
+            of_report = subst (KeepsReport run c (told_of run found.pending count)) (sym pending) (λ e. absurd (omega (arith, e, b.of_run.number)));
           };
-          numbers = deed_keeps rows (k + 1) user text call found b.of_run.keeps;
+          numbers = b.of_run.keeps;
           stores = b.of_run.stores;
         }
 

@@ -1,5 +1,5 @@
 -- The sweep behind the opening of a run, before anything is asked: nothing of it is seen.
-use Rattle.std.proofs.Common.{◌≡◌, ◌⊎◌, inl, inr, ℕ, ◌+◌, ◌-◌, ◌<◌, ◌≤◌, [], ◌++◌, length, IsTrue, refl, sym, ◌∙◌, subst, arith}
+use Rattle.std.proofs.Common.{◌≡◌, ◌⊎◌, inl, inr, ℕ, ◌-◌, ◌<◌, ◌≤◌, [], ◌++◌, length, IsTrue, refl, sym, ◌∙◌, subst, arith}
 use Rattle.std.proofs.lemmas.Bool.{cases_lt}
 use Rattle.std.proofs.lemmas.List.{append-nil}
 use Rattle.grid_outside.specs.Device.{IsSettled}
@@ -104,7 +104,9 @@ module _ {B : Type 0} (old mid new : World B) (found : Cat) (begin : BeginsOn ol
       all_but_one = omega arith;
     };
     caused = caused-none old new (went-then old mid new first swept.went);
+    drawn = [];
     gave = gave-then [] [] old.ambient mid.ambient new.ambient before.gave swept.quiet.gave;
+    told_drawn = λ tells. record { rest = []; are = refl };
     whole = stay-whole;
     named = stay-named;
     images = images-swept;
@@ -115,6 +117,7 @@ module _ {B : Type 0} (old mid new : World B) (found : Cat) (begin : BeginsOn ol
   sofar-swept c done = record {
     ran = ran-swept;
     none_end = tt;
+    all_drawn = refl;
     text = λ tells. sink-is tells ∙ sym (append-nil (old.sink.holds ++ whole_report found));
     of_run = like-of found (run_begun found) c (of-run-begun found rules) done.like;
     last = omega (arith, done.like.last);

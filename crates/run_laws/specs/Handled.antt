@@ -8,15 +8,16 @@ use Rattle.grid_model.specs.Beginning.{begins}
 use Rattle.grid_model.specs.Sessions.{State}
 use Rattle.grid_model.specs.Working.{Done}
 use Rattle.grid_model.specs.Runs.{Marked, Request, state_after}
-use Rattle.grid_model.specs.declared.calls.Call.{Call}
 use Rattle.grid_model.specs.declared.deltas.Pending.{Pending}
 use Rattle.grid_model.specs.declared.marks.Mark.{Mark}
 use Rattle.grid_model.specs.declared.replies.Passed.{Passed}
 use Rattle.grid_journal.specs.Stands.{StandsFor}
-use Rattle.grid_headline.specs.Served.{joined_texts, reply_texts, report_front, report_back, whole_in}
+use Rattle.grid_headline.specs.Draws.{with_marks}
+use Rattle.grid_headline.specs.Served.{joined_texts, marks_of, reply_texts, report_front, report_back, whole_in}
 use Rattle.grid_headline.specs.Numbers.{KeepsNumbers}
+use Rattle.grid_headline.specs.Stops.{AreFirst}
 use Rattle.grid_headline.specs.Reads.{MeansRequest}
-use Rattle.run_laws.specs.Steps.{WaitsIn, with_deed}
+use Rattle.run_laws.specs.Steps.{WaitsInDeed}
 
 -- requests with their marks, what each did, and the texts of its marks
 pub record Handled : Type 0 where
@@ -45,6 +46,12 @@ marks_within m ts count = []
 abbrev pub told_within : Handled → ℕ → ℕ → List Mark
 told_within h n count = marks_within (slice_get h.begun n) (slice_get h.pieces n) (count - length (joined_texts (take n (replies_of h))))
 
+-- those of all requests, where so many bytes were written
+abbrev pub marks_shown : Handled → ℕ → List Mark
+marks_shown h count =
+    let n = whole_in (replies_of h) count in
+    marks_of (take n h.begun ++ with_marks (told_within h n count) (slice_get h.begun n))
+
 -- ---- the report
 
 -- the recoveries of a command that were refused
@@ -68,6 +75,13 @@ HasNoRecovery (Some p) = p.undo ≡ []
 -- ---- catalogues and images
 
 -- what the catalogues of a run that was begun have in common
+pub record IsAmidRun (found c : Cat) : Type 0 where
+  pub number : c.numbers.run ≡ found.numbers.run + 1
+  pub rules : c.rules ≡ []
+  pub keeps : KeepsNumbers found c
+  pub stores : c.stores ≡ found.stores
+
+-- and those between its requests
 pub record IsOfRun (found c : Cat) : Type 0 where
   pub number : c.numbers.run ≡ found.numbers.run + 1
   pub rules : c.rules ≡ []
@@ -94,14 +108,24 @@ module _ (found : Cat) (h : Handled) where
     -- no mark of a request that is not done is told
     pub untold : c.numbers.last < whole_in (replies_of h) count + 1 → told_within h (whole_in (replies_of h) count) count ≡ []
 
-  -- The request behind the first n ones waits in this call, before it has told a mark.
-  pub record WaitsBehind (rows : Cat) (n user : ℕ) (line : Text) (call : Call) : Type 0 where
+  -- The request behind the first n ones is pending in the catalogue.
+  pub record WaitsBehind (c : Cat) (p : Pending) (n : ℕ) : Type 0 where
     pub next : Marked
     pub is_next : slice_get h.begun n ≡ Some next
-    pub line_is : line ≡ next.asked.line
+    pub line_is : p.line ≡ next.asked.line
     pub request : Request
     pub means : MeansRequest (state_behind n) next.asked request
-    pub waits_in : WaitsIn (state_behind n) request rows user call
+    pub waits : WaitsInDeed (state_behind n) (n + 1) request next.marks c p
+
+  -- The catalogue is that of the run in the request behind the first n ones, which are shown or done, and where it is pending the marks of
+  -- it that are told are kept.
+  pub record IsAmidSome (c : Cat) (p : Pending) (n count : ℕ) : Type 0 where
+    pub of_run : IsAmidRun found c
+    pub reached : reached_by c count ≡ n
+    pub near : c.numbers.last ≤ whole_in (replies_of h) count + 1
+    pub no_rules : (state_behind n).rules ≡ []
+    pub waits_behind : WaitsBehind c p n
+    pub told : AreFirst (told_within h (whole_in (replies_of h) count) count) p.marks
 
   -- What a stop leaves of main, and of the sink that had these bytes before: main stands for what was found and no more is shown than what
   -- is told before the run is begun, or it stands for a catalogue of the run, in which the next request may be pending, and a front of the
@@ -112,10 +136,9 @@ module _ (found : Cat) (h : Handled) where
         → whole_report found ++ joined_texts (replies_of h) ≡ part ++ more
         → IsBehindSome c (length part - length (whole_report found))
         → OneOfRun old_sink main sink
-    in_deed_of_run : (rows : Cat) (n user : ℕ) (line : Text) (call : Call) (part more : Text) → StandsFor main (with_deed rows (n + 1) user line call)
-        → sink ≡ old_sink ++ part → whole_report found ++ joined_texts (replies_of h) ≡ part ++ more
-        → IsBehindSome rows (length part - length (whole_report found)) → reached_by rows (length part - length (whole_report found)) ≡ n
-        → WaitsBehind rows n user line call → OneOfRun old_sink main sink
+    in_deed_of_run : (c : Cat) (p : Pending) (n : ℕ) (part more : Text) → StandsFor main c → sink ≡ old_sink ++ part
+        → whole_report found ++ joined_texts (replies_of h) ≡ part ++ more
+        → IsAmidSome c p n (length part - length (whole_report found)) → OneOfRun old_sink main sink
 
 -- A front of this report and of the replies is shown, with at least all but the last of these texts.
 pub record ShowsMost (report : Text) (h : Handled) (old_sink sink : Text) : Type 0 where

@@ -1,6 +1,8 @@
+pub mod Around
 pub mod Ends
 pub mod Handled
 pub mod Opening
+pub mod Passes
 pub mod Silent
 pub mod Sofar
 pub mod Steps

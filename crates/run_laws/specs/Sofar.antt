@@ -1,5 +1,5 @@
 -- The requests of a run that were handled so far.
-use Rattle.std.specs.Prelude.{◌≡◌, ℕ, ◌+◌, ◌<◌, ◌≤◌, List, [], ◌∷◌, ◌++◌, None, length, IsTrue}
+use Rattle.std.specs.Prelude.{◌≡◌, ℕ, ◌+◌, ◌-◌, ◌<◌, ◌≤◌, List, [], ◌∷◌, ◌++◌, None, length, IsTrue}
 use Rattle.std.specs.List.{AllByRecursion}
 use Rattle.grid_outside.specs.Device.{IsSettled}
 use Rattle.grid_model.specs.Names.{Text}
@@ -11,6 +11,7 @@ use Rattle.grid_model.specs.Beginning.{begins}
 use Rattle.grid_model.specs.Inputs.{Asked}
 use Rattle.grid_model.specs.Runs.{Marked, After}
 use Rattle.grid_model.specs.Completing.{AreClean, EndsByRows}
+use Rattle.grid_model.specs.declared.marks.Mark.{Mark}
 use Rattle.grid_journal.specs.Stands.{StandsFor}
 use Rattle.grid_headline.specs.Worlds.{World}
 use Rattle.grid_headline.specs.Reads.{MeansRequest, EndsInput}
@@ -18,8 +19,9 @@ use Rattle.grid_headline.specs.Served.{AllPieces, NoneSweeps, joined_texts, mark
 use Rattle.grid_headline.specs.Files.{IsKnown, AreSettled, DisksAreSettled, WereWhole, AllStayWhole, StayNamed, ReplicasStayNamed}
 use Rattle.grid_headline.specs.Causes.{AreCaused}
 use Rattle.grid_headline.specs.Ends.{AllStill, HasOneMore, HasFewOrphans, EndsSwept}
+use Rattle.grid_headline.specs.Stops.{AreFirst}
 use Rattle.grid_headline.specs.Headline.{BeginsOn}
-use Rattle.run_laws.specs.Handled.{Handled, replies_of, state_behind, HasNoRecovery, IsOfRun, OneOfRun, ShowsMost, whole_report}
+use Rattle.run_laws.specs.Handled.{Handled, replies_of, marks_shown, state_behind, HasNoRecovery, IsOfRun, OneOfRun, ShowsMost, whole_report}
 use Rattle.run_laws.specs.Steps.{Gave, IsToldOf}
 use Rattle.run_laws.specs.Went.{Went, AreInOrder}
 
@@ -66,7 +68,10 @@ pub record Ran {B : Type 0} (old now : World B) (found : Cat) (at : State) (aske
   pub went : Went old now
   pub shown : IsTrue old.sink.tells → ShowsMost (whole_report found) handled old.sink.holds now.sink.holds
   pub caused : AreCaused old now (marks_of handled.begun)
-  pub gave : IsTrue now.ambient.tells → Gave (marks_of handled.begun) old.ambient now.ambient
+  -- the marks that were come to; those that are shown are the first of them
+  pub drawn : List Mark
+  pub gave : IsTrue now.ambient.tells → Gave drawn old.ambient now.ambient
+  pub told_drawn : (tells : IsTrue old.sink.tells) → AreFirst (marks_shown handled (length (shown tells).part - length (whole_report found))) drawn
   pub whole : DisksAreSettled old → WereWhole old old.moments found → AllStayWhole now old.moments
   pub named : NoneSweeps old.source.left → IsSettled old.main → ReplicasStayNamed now old.moments found
   pub images : IsTrue old.sink.tells → AreSettled old → (t : ℕ) (main sink : Text) → old.moments < t → now.main.left t main → now.sink.left t sink
@@ -76,6 +81,7 @@ pub record Ran {B : Type 0} (old now : World B) (found : Cat) (at : State) (aske
 pub record Sofar {B : Type 0} (old now : World B) (found c : Cat) (at : State) (asked : List Asked) : Type 0 where
   pub ran : Ran old now found at asked
   pub none_end : AllByRecursion (λ a. ¬ EndsInput a) asked
+  pub all_drawn : ran.drawn ≡ marks_of ran.handled.begun
   pub text : IsTrue old.sink.tells → now.sink.holds ≡ (old.sink.holds ++ whole_report found) ++ joined_texts (replies_of ran.handled)
   -- the catalogue
   pub of_run : IsOfRun found c

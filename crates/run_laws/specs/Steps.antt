@@ -1,5 +1,5 @@
 -- One request of a run: what it did, what it wrote, and what a stop at any moment of it leaves.
-use Rattle.std.specs.Prelude.{◌≡◌, ℕ, ◌<◌, List, [], ◌∷◌, ◌++◌, Option, Some, None, Ok, length, IsTrue}
+use Rattle.std.specs.Prelude.{◌≡◌, ℕ, ◌<◌, ◌≤◌, List, [], ◌∷◌, ◌++◌, Option, Some, None, Ok, length, IsTrue}
 use Rattle.std.specs.List.{AllByRecursion}
 use Rattle.grid_outside.specs.Device.{IsSettled}
 use Rattle.grid_outside.specs.Ambient.{AmbientState}
@@ -8,7 +8,7 @@ use Rattle.grid_model.specs.Maps.{get}
 use Rattle.grid_model.specs.Names.{Text}
 use Rattle.grid_model.specs.Rows.{Cat}
 use Rattle.grid_model.specs.RowGrids.{grid_of, user_name}
-use Rattle.grid_model.specs.Meanings.{gives, waits}
+use Rattle.grid_model.specs.Meanings.{Waiting, gives, waits}
 use Rattle.grid_model.specs.Sessions.{Session, State}
 use Rattle.grid_model.specs.Working.{Done}
 use Rattle.grid_model.specs.ReplyTexts.{ArePieces, reply_text}
@@ -26,6 +26,8 @@ use Rattle.grid_headline.specs.Files.{IsKnown}
 use Rattle.grid_headline.specs.Numbers.{KeepsNumbers}
 use Rattle.grid_headline.specs.Causes.{AreCaused}
 use Rattle.grid_headline.specs.Draws.{AreSomeOf, told_words, times_of}
+use Rattle.grid_headline.specs.Served.{whole_in}
+use Rattle.grid_headline.specs.Stops.{AreFirst}
 
 -- ---- the catalogue
 
@@ -74,6 +76,35 @@ pub record WaitsIn (at : State) (request : Request) (rows : Cat) (user : ℕ) (c
   pub name : user_name rows user ≡ of.user
   pub waits_there : command at session order [] ≡ waits (record { call = call; grid = at.grid; taken = []; passed = []; undo = [] })
 
+-- It is a catalogue amid a command: what it has beside the grid and the pending command is as before.
+pub record IsAmid (before c : Cat) : Type 0 where
+  pub run : c.numbers.run ≡ before.numbers.run
+  pub last : c.numbers.last ≡ before.numbers.last
+  pub rules : c.rules ≡ before.rules
+  pub stores : c.stores ≡ before.stores
+  pub keeps : KeepsNumbers before c
+
+-- The request of this number is pending in the catalogue. Its order waits where it comes to by the kept marks, which are the first of all
+-- its marks: in the call that is noted as running, on this grid, with the refused recoveries and the list of recoveries that are noted.
+pub record WaitsInDeed (at : State) (n : ℕ) (request : Request) (marks : List Mark) (c : Cat) (p : Pending) : Type 0 where
+  pub is : c.pending ≡ Some p
+  pub of_run : p.run ≡ c.numbers.run
+  pub number : p.number ≡ n
+  pub session : ℕ
+  pub order : Order
+  pub asks : request ≡ Ok (session, order)
+  pub of : Session
+  pub logged_in : get at.sessions session ≡ Some of
+  pub name : user_name c p.user ≡ of.user
+  pub waiting : Waiting
+  pub waits_there : command at session order p.marks ≡ waits waiting
+  pub running : p.running ≡ Some waiting.call
+  pub grid : grid_of c ≡ waiting.grid
+  pub taken : waiting.taken ≡ p.marks
+  pub passed : p.passed ≡ waiting.passed
+  pub undo : p.undo ≡ waiting.undo
+  pub kept : AreFirst p.marks marks
+
 -- a command that is pending has this line
 abbrev pub HasLine : Text → Option Pending → Type 0
 HasLine line None = Unit {0}
@@ -91,13 +122,19 @@ abbrev pub IsUntold : List Text → ℕ → Type 0
 IsUntold [] count = count ≡ 0
 IsUntold (piece ∷ pieces) count = count < length piece
 
--- What a stop leaves of main and of the sink: nothing is seen to be changed and no mark is told, or all that is seen is that the request is
--- pending, or main stands for the catalogue behind the request.
+-- so many bytes of a reply of that length with these pieces are not all of it, and tell at most so many marks
+pub record TellsFew (pieces : List Text) (whole marks count : ℕ) : Type 0 where
+  pub cut : count < whole
+  pub few : whole_in pieces count ≤ marks
+
+-- What a stop leaves of main and of the sink: nothing is seen to be changed and no mark is told, or the request is pending and no more marks
+-- are told than are kept, or main stands for the catalogue behind the request.
 pub data OneOf (at : State) (before : Cat) (n : ℕ) (request : Request) (d : Done) (pieces : List Text) (shown main sink : Text) : Type 0 where
   not_kept : (c : Cat) → IsLike before c → StandsFor main c → (part : AddsPart (reply_text n d.reply pieces) shown sink)
       → IsUntold pieces part.count → OneOf at before n request d pieces shown main sink
-  in_first_deed : (rows : Cat) (user : ℕ) (line : Text) (call : Call) → IsLike before rows → WaitsIn at request rows user call
-      → StandsFor main (with_deed rows n user line call) → sink ≡ shown → OneOf at before n request d pieces shown main sink
+  in_deed_so : (c : Cat) (p : Pending) → IsAmid before c → WaitsInDeed at n request d.reply.marks c p → StandsFor main c
+      → (part : AddsPart (reply_text n d.reply pieces) shown sink)
+      → TellsFew pieces (length (reply_text n d.reply pieces)) (length p.marks) part.count → OneOf at before n request d pieces shown main sink
   kept_so : (c : Cat) → ComesAfter before n d c → StandsFor main c → AddsPart (reply_text n d.reply pieces) shown sink
       → OneOf at before n request d pieces shown main sink
 
@@ -122,6 +159,11 @@ pub record Gave (marks : List Mark) (old new : AmbientState) : Type 0 where
   pub times_are : new.times ≡ old.times ++ times
   pub times_told : AreSomeOf (times_of marks) times
 
+-- a part of a reply with these pieces is shown, which tells at most so many marks
+pub record ShowsFew (pieces : List Text) (text : Text) (marks : ℕ) (before after : Text) : Type 0 where
+  pub part : AddsPart text before after
+  pub few : whole_in pieces part.count ≤ marks
+
 -- ---- one request
 
 -- The request of this number was handled or how far that came, from the state and the catalogue before it.
@@ -131,13 +173,16 @@ pub record RequestStep {B : Type 0} (old new : World B) (at : State) (before : C
   pub does_so : does at request marks ≡ gives d
   pub all : d.left ≡ []
   pub marks_are : d.reply.marks ≡ marks
+  -- those that it came to; where it was cut short the others are what it would have come to
+  pub taken : List Mark
+  pub first : AreFirst taken marks
   pub told_of : AllByRecursion (IsToldOf (IsKnown old before) (length old.stores)) marks
   pub by_rows : AreClean marks → EndsByRows d.reply.end
   pub pieces : List Text
   pub pieces_are : ArePieces (IsKnown old before) n d.sent 0 d.reply.marks pieces
-  pub shown : IsTrue old.sink.tells → AddsPart (reply_text n d.reply pieces) old.sink.holds new.sink.holds
+  pub shown : IsTrue old.sink.tells → ShowsFew pieces (reply_text n d.reply pieces) (length taken) old.sink.holds new.sink.holds
   pub caused : AreCaused old new marks
-  pub gave : IsTrue new.ambient.tells → Gave marks old.ambient new.ambient
+  pub gave : IsTrue new.ambient.tells → Gave taken old.ambient new.ambient
   pub images : IsTrue old.main.tells → IsTrue old.sink.tells → IsSettled old.main → IsSettled old.sink → (t : ℕ) (main sink : Text)
       → old.moments < t → new.main.left t main → new.sink.left t sink → OneOf at before n request d pieces old.sink.holds main sink
 
@@ -152,6 +197,7 @@ pub record IsHandledWhole {B : Type 0} (old new : World B) (at : State) (before 
     (after : Cat) (end : State) : Type 0 where
   pub state : step.d.state ≡ end
   pub grid : grid_of after ≡ end.grid
+  pub all_taken : step.taken ≡ step.marks
   pub follows : ComesAfter before n step.d after
   pub stands : IsTrue old.main.tells → StandsFor new.main.holds after
   pub text : IsTrue old.sink.tells → new.sink.holds ≡ old.sink.holds ++ reply_text n step.d.reply step.pieces

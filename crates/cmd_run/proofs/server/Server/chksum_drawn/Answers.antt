@@ -6,7 +6,7 @@ use Rattle.grid_model.specs.RowGrids.{grid_of}
 use Rattle.grid_model.specs.Working.{words_of}
 use Rattle.plan_object.specs.ChksumPlans.{MarksBad}
 use Rattle.grid_deed.proofs.Frames.{frame_as, frame_then}
-use Rattle.cmd_run.specs.Around.{around}
+use Rattle.run_laws.specs.Around.{around}
 use Rattle.cmd_run.specs.Gets.{Drawn, Drew}
 use Rattle.cmd_run.specs.Keeps.{named}
 use Rattle.cmd_run.specs.Sums.{looked_grid, looked_text}

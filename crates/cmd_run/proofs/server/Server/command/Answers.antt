@@ -16,7 +16,7 @@ use Rattle.cmd_run.specs.declared.tagging.TagLine.{TagLine}
 use Rattle.cmd_run.specs.Asking.{AsksForRequest, FitsTag, HasGoodWords, IsForm, IsLineOf, NamesSome, QueryOf, ShowOf, TagOf}
 use Rattle.cmd_run.specs.Fits.{state_of}
 use Rattle.cmd_run.specs.Obeys.{NamesItsCall, SaysOnly}
-use Rattle.cmd_run.specs.Around.{around}
+use Rattle.run_laws.specs.Around.{around}
 use Rattle.cmd_run.proofs.SweptFew.{few_other, few_refused, not_sweep}
 use Rattle.cmd_run.proofs.Remembering.{call_none, call_of, names_none, no_source, remembers_none}
 use Rattle.cmd_run.proofs.LoginLemmas.{says_refused, says_quit}

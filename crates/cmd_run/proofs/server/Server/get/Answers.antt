@@ -1,6 +1,6 @@
 use Rattle.std.proofs.Common.{List, sym, ◌∙◌, subst, arith}
 use Rattle.grid_model.specs.declared.deltas.Delta.{Delta}
-use Rattle.cmd_run.specs.Around.{around}
+use Rattle.run_laws.specs.Around.{around}
 use Rattle.cmd_run.specs.Keeps.{named, IsChange}
 use Rattle.cmd_run.proofs.GetEnds.{fetch_failed, keep_failed, said_then, keep_looked, keep_then}
 use Rattle.cmd_run.proofs.KeptEnds.{not_sink, worn_kept, passes_kept}

@@ -8,7 +8,7 @@ use Rattle.grid_deed.proofs.Keeping.{held_stands}
 use Rattle.plan_object.specs.Writing.{FindsTargets}
 use Rattle.cmd_run.specs.Obeys.{AsksForFile}
 use Rattle.cmd_run.specs.Puts.{wanted}
-use Rattle.cmd_run.specs.Around.{around}
+use Rattle.run_laws.specs.Around.{around}
 use Rattle.cmd_run.proofs.KeepLemmas.{keep_still}
 use Rattle.cmd_run.proofs.DeedEnds.{worn_vaults}
 use Rattle.cmd_run.proofs.PutEnds.{says_refused_put}

@@ -12,7 +12,7 @@ use Rattle.grid_model.specs.declared.plans.PlanError.TheVariants.{Refused}
 use Rattle.grid_deed.proofs.Keeping.{held_stands}
 use Rattle.plan_object.specs.ReplPlans.{FindsRepl}
 use Rattle.plan_object.proofs.ReplRows.{repl_is}
-use Rattle.cmd_run.specs.Around.{around}
+use Rattle.run_laws.specs.Around.{around}
 use Rattle.cmd_run.specs.Fits.{state_of}
 use Rattle.cmd_run.specs.Obeys.{AsksForFile, SaysOnly}
 use Rattle.cmd_run.proofs.DeedEnds.{refused_said, worn_vaults}

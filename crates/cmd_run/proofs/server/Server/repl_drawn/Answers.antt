@@ -3,7 +3,7 @@ use Rattle.std.specs.Prelude.{is_some}
 use Rattle.grid_model.specs.Operations.Table.{repl}
 use Rattle.grid_model.specs.Rows.{Cat}
 use Rattle.grid_model.specs.Working.{running}
-use Rattle.cmd_run.specs.Around.{around}
+use Rattle.run_laws.specs.Around.{around}
 use Rattle.cmd_run.specs.Copies.{copied_text}
 use Rattle.cmd_run.specs.Gets.{Drawn, Drew}
 use Rattle.cmd_run.specs.Writes.{Writing}

@@ -14,7 +14,7 @@ use Rattle.cmd_run.specs.Fits.{state_of}
 use Rattle.cmd_run.specs.Obeys.{SaysOnly}
 use Rattle.cmd_run.proofs.LoginLemmas.{says_no_login, says_swept, says_not_admin}
 use Rattle.cmd_run.proofs.NotRefused.{well_not_refused}
-use Rattle.cmd_run.specs.Around.{around}
+use Rattle.run_laws.specs.Around.{around}
 use Rattle.cmd_run.proofs.SweptFew.{refused_few, swept_few}
 use Rattle.cmd_run.proofs.server.Server.sweep.Goals as goal
 

@@ -1,7 +1,7 @@
 use Rattle.std.proofs.Common.{◌≡◌, refl, sym, ap, ◌∙◌}
 use Rattle.grid_model.specs.Replies.{end_line}
 use Rattle.grid_model.specs.Working.{well}
-use Rattle.cmd_run.specs.Around.{around}
+use Rattle.run_laws.specs.Around.{around}
 use Rattle.cmd_run.proofs.KeepLemmas.{keep_still}
 use Rattle.cmd_run.proofs.LeftOrphans.{few_orphans}
 use Rattle.cmd_run.proofs.Remembering.{still_remembers}
