@@ -1,3 +1,4 @@
 mod listings;
 mod plans;
+mod services;
 mod start;

@@ -28,8 +28,8 @@ fn is_name(word: &[u8]) -> bool
     check_name(word).is_ok()
 }
 
-// Whether nothing has metadata.
-fn has_no_metadata(tables: &Tables) -> bool
+/// Whether nothing has metadata.
+pub(crate) fn has_no_metadata(tables: &Tables) -> bool
     ensures { IsTrue result → AreSpelled tables.now.triples }
 {
     tables.count(Kind::Triples) == 0

@@ -1,0 +1,2 @@
+pub mod AddedWords
+pub mod PlannedCalls
