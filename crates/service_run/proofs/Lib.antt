@@ -1,0 +1,12 @@
+pub mod CallSteps
+pub mod ChangeSteps
+pub mod CopySteps
+pub mod DeedSteps
+pub mod NamedFiles
+pub mod NoteSteps
+pub mod Passing
+pub mod SameDoing
+pub mod SameRows
+pub mod SeenFiles
+pub mod StillSteps
+pub mod SumSteps

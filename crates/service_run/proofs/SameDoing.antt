@@ -1,0 +1,53 @@
+-- A call that does what another one does where the command is.
+use Rattle.std.proofs.Common.{◌≡◌, ℕ, Bool, List, [], ◌++◌, Result, Ok, Err, refl, ◌∙◌}
+use Rattle.std.specs.Prelude.{⊤}
+use Rattle.grid_model.specs.Names.{Text}
+use Rattle.grid_model.specs.Rows.{Cat}
+use Rattle.grid_model.specs.RowGrids.{grid_of}
+use Rattle.grid_model.specs.Meanings.{Meaning}
+use Rattle.grid_model.specs.Doing.{Course, Did}
+use Rattle.grid_model.specs.declared.calls.Call.{Call}
+use Rattle.grid_model.specs.declared.refusal.Failure.{Failure}
+use Rattle.grid_journal.specs.Journal.{Journal}
+use Rattle.chain_run.specs.Places.{course_at}
+use Rattle.grid_headline.specs.Worlds.{World}
+use Rattle.service_run.specs.declared.command.Command.{Command}
+use Rattle.service_run.specs.declared.ending.Ending.{Ending}
+use Rattle.service_run.specs.Commands.{place_by}
+use Rattle.service_run.specs.Steps.{IsStep, OneOfStep, StepEnds, in_call, unseen}
+
+module _ {B : Type 0} (old new : World B) (kept : Cat) (rows : Journal) (x : Command) (call : Call) (undo : List Call) (y : Command) (after : Journal) (one other : Course → Meaning Did) (same : (s : Course) → s.grid ≡ grid_of rows.cat → other s ≡ one s) where
+  image_as : (shown main sink : Text) → OneOfStep one kept rows.cat x call undo shown main sink → OneOfStep other kept rows.cat x call undo shown main sink
+  image_as shown main sink (unseen stands still) = unseen stands still
+  image_as shown main sink (in_call c noted waits stands part) =
+      let at = λ (begun : ℕ) (stopped : Bool). same (course_at (place_by rows.cat x) [] begun stopped) refl in
+      in_call c noted (λ begun. (at begun _ ∙ (waits begun).0, at begun _ ∙ (waits begun).1)) stands part
+
+  ends_as : (result : Result (Result ⊤ Failure) Ending) → StepEnds old new kept rows x call undo y after one result → StepEnds old new kept rows x call undo y after other result
+  ends_as (Ok ran) e = record {
+    did = record {
+      user = e.did.user;
+      marks = e.did.marks;
+      taken = e.did.taken;
+      did = λ later begun stopped.
+          let d = e.did.did later begun stopped in
+          (d.0, same (course_at (place_by rows.cat x) (e.did.marks ++ later) begun stopped) refl ∙ d.1);
+    };
+    beside = e.beside;
+    marks = e.marks;
+    marks_are = e.marks_are;
+    rest = e.rest;
+    is_kept = e.is_kept;
+    told_of = e.told_of;
+    caused = e.caused;
+    gave = e.gave;
+    whole = e.whole;
+  }
+  ends_as (Err e) worn = worn
+
+  pub step_as : (result : Result (Result ⊤ Failure) Ending) → IsStep old new kept rows x call undo y after one result → IsStep old new kept rows x call undo y after other result
+  step_as result step = record {
+    ends = ends_as result step.ends;
+    images = λ told sink_told settled sink_settled t main sink late left sink_left. image_as old.sink.holds main sink (step.images told sink_told settled sink_settled t main sink late left sink_left);
+    whole = step.whole;
+  }

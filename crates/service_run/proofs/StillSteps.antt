@@ -1,0 +1,120 @@
+-- Calls of which main and the sink know nothing.
+use Rattle.std.proofs.Common.{◌≡◌, ℕ, ◌<◌, ◌≤◌, List, ◌++◌, length, Result, IsTrue, refl, sym, ap, subst, arith}
+use Rattle.std.specs.Prelude.{⊤}
+use Rattle.std.proofs.lemmas.Option.{slice_get_within}
+use Rattle.grid_outside.specs.Ambient.{AmbientState}
+use Rattle.grid_outside.specs.Device.{DeviceState, EachPair, IsSettled, Looks}
+use Rattle.grid_outside.specs.Disk.{DiskState}
+use Rattle.grid_outside.specs.Files.{StoreState}
+use Rattle.grid_outside.specs.Sink.{SinkState}
+use Rattle.grid_outside.specs.Source.{SourceState}
+use Rattle.grid_outside.specs.declared.outside.Outside.{Outside}
+use Rattle.grid_outside.proofs.Spans.{at_place}
+use Rattle.grid_model.specs.Names.{Text}
+use Rattle.grid_model.specs.Rows.{Cat}
+use Rattle.grid_model.specs.Meanings.{Meaning}
+use Rattle.grid_model.specs.Doing.{Course, Did}
+use Rattle.grid_model.specs.declared.calls.Call.{Call}
+use Rattle.grid_model.specs.declared.deltas.Delta.{Delta}
+use Rattle.grid_model.specs.declared.deltas.Numbers.{Numbers}
+use Rattle.grid_model.specs.declared.marks.Mark.{Mark}
+use Rattle.grid_model.specs.declared.refusal.Failure.{Failure}
+use Rattle.grid_journal.specs.Journal.{Journal}
+use Rattle.grid_journal.specs.Stands.{StandsFor}
+use Rattle.grid_deed.specs.Held.{IsHeld}
+use Rattle.grid_deed.specs.Safe.{AreWhole, KeepBothWhole}
+use Rattle.grid_deed.proofs.Keeping.{held_stands}
+use Rattle.grid_deed.proofs.Wholes.{one_cat, whole_of}
+use Rattle.grid_headline.specs.Worlds.{World}
+use Rattle.run_laws.specs.Around.{around}
+use Rattle.run_laws.proofs.Users.{users_apply_all}
+use Rattle.service_run.specs.declared.command.Command.{Command}
+use Rattle.service_run.specs.declared.ending.Ending.{Ending}
+use Rattle.service_run.specs.Changes.{LeadOn}
+use Rattle.service_run.specs.Commands.{KeepsBeside}
+use Rattle.service_run.specs.Steps.{IsStep, IsStill, OneOfStep, StaysAway, StepEnds, lines_of, unseen}
+
+-- ---- devices
+
+pub still_same : {C : Type 0} (s : DeviceState C) → IsStill s s
+still_same s = record { faults = refl; looks = record { last = refl; tells = refl; holds = λ told. refl; left = λ t image. (λ left. left, λ left. left) } }
+
+pub still_where : {D : Type 0} (state : D → DiskState) (a b : D) → b ≡ a → IsStill (state a) (state b)
+still_where {D} state a b same = let P : D → Type 0 = λ m. IsStill (state a) (state m) in subst P (sym same) (still_same (state a))
+
+-- stores that were only looked at are as whole as before
+pub whole_looked : {B : Type 0} (plugin : B → StoreState) (t : ℕ) (c : Cat) (old new : List B) → length new ≡ length old → EachPair (λ k before after. Looks (plugin before) (plugin after)) old new
+    → AreWhole plugin t c old → AreWhole plugin t c new
+whole_looked plugin t c old new count looks w = record {
+  rows = w.rows;
+  files = λ slot store image is told left.
+      let was = at_place old slot (omega (arith, slice_get_within new slot store is, count)) in
+      let same = looks slot was.0 store was.1 is in
+      w.files slot was.0 image was.1 (subst IsTrue same.tells told) ((same.left t image).0 left);
+}
+
+-- ---- rows
+
+-- nothing of them changed
+pub beside_same : (c : Cat) → KeepsBeside c c
+beside_same c = record {
+  run = refl;
+  last = refl;
+  rules = refl;
+  stores = refl;
+  keeps = record { rises = omega arith; names = λ slot name row before named. (row, named) };
+  users = λ id is. is;
+  names = λ id is. refl;
+}
+
+-- changes lead on from them
+pub beside_led : (c after : Cat) (deltas : List Delta) → LeadOn c deltas after → KeepsBeside c after
+beside_led c after deltas leads =
+    let users = users_apply_all deltas c after leads.applied in
+    record {
+      run = ap (λ (k : Numbers). k.run) leads.numbers;
+      last = ap (λ (k : Numbers). k.last) leads.numbers;
+      rules = leads.rules;
+      stores = leads.stores;
+      keeps = leads.keeps;
+      users = users.there;
+      names = users.names;
+    }
+
+-- ---- a call
+
+module _ {D A P : Type 0} (disk : D → DiskState) (ambient : A → AmbientState) (plugin : P → StoreState) (source : SourceState) (o n : Outside D A P) (sink : SinkState) (kept : Cat) (rows : Journal) (x : Command) (call : Call) (undo : List Call) (y : Command) (after : Journal)
+    (held : IsHeld kept (disk o.main) rows) (main_last : (disk o.main).last ≤ o.moments) (sink_last : sink.last ≤ o.moments) (main_same : n.main ≡ o.main)
+    (count : length n.stores.items ≡ length o.stores.items) (looks : EachPair (λ k before after. Looks (plugin before) (plugin after)) o.stores.items n.stores.items) where
+  abbrev pub old : World P
+  old = around disk ambient plugin o sink source
+
+  abbrev pub new : World P
+  new = around disk ambient plugin n sink source
+
+  -- what a stop leaves of main is what it held
+  image_is : IsSettled (disk o.main) → (t : ℕ) (image : Text) → o.moments < t → (disk n.main).left t image → image ≡ (disk o.main).holds
+  image_is settled t image late left =
+      let L : D → Type 0 = λ m. (disk m).left t image in
+      settled t image (omega (arith, late, main_last)) (subst L main_same left)
+
+  images_still : (does : Course → Meaning Did) → IsTrue (disk o.main).tells → IsTrue sink.tells → IsSettled (disk o.main) → IsSettled sink → (t : ℕ) (main shown : Text)
+      → o.moments < t → (disk n.main).left t main → sink.left t shown → OneOfStep does kept rows.cat x call undo sink.holds main shown
+  images_still does told sink_told settled sink_settled t main shown late left shown_left =
+      let S : Text → Type 0 = λ m. StandsFor m kept in
+      unseen (subst S (sym (image_is settled t main late left)) (held_stands kept (disk o.main) rows held told)) (sink_settled t shown (omega (arith, late, sink_last)) shown_left)
+
+  whole_still : KeepBothWhole plugin o.moments kept rows.cat (disk o.main) (disk n.main) o.stores.items n.stores.items
+  whole_still by_memory told settled whole t image c late left stands =
+      let S : Text → Type 0 = λ m. StandsFor m c in
+      let is : c ≡ kept = one_cat (disk o.main).holds kept c (held_stands kept (disk o.main) rows held told) (subst S (image_is settled t image late left) stands) in
+      whole_looked plugin t c o.stores.items n.stores.items count looks (whole_of plugin t kept c o.stores.items is (whole t late))
+
+  -- how it ended is all that is still to be said
+  pub step_still : (does : Course → Meaning Did) (result : Result (Result ⊤ Failure) Ending) → StepEnds old new kept rows x call undo y after does result → IsStep old new kept rows x call undo y after does result
+  step_still does result ends = record { ends = ends; images = images_still does; whole = whole_still }
+
+  -- main has the catalogue that it had, where memory is still led to by what is staged
+  pub stays_away : (marks : List Mark) → IsHeld kept (disk n.main) after → after.cat.pending ≡ rows.cat.pending → y.untold ≡ x.untold ++ lines_of x.number marks
+      → StaysAway old new kept rows x call undo y after marks
+  stays_away marks held pending untold = record { main = still_where disk o.main n.main main_same; sink = still_same sink; held = held; pending = pending; untold = untold }
