@@ -12,5 +12,6 @@ mod tests;
 mod writing;
 
 pub use marks::mark_line;
+pub use refusals::push_failure;
 pub use report::{report_begun, report_rest};
 pub use writing::rest;

@@ -6,7 +6,7 @@ pub mod LoopLemmas
 pub mod OpenLemmas
 pub mod ReplayLemmas
 pub mod SpanLemmas
-pub mod SpelledTriples
+pub mod SpelledRows
 pub mod StandsExamples
 pub mod StandsLemmas
 pub mod StartLemmas

@@ -1,5 +1,5 @@
 -- A catalogue that is kept in a log and held in memory.
-use Rattle.std.specs.Prelude.{◌≡◌, ℕ, ◌+◌, Bool, ◌&&◌, List, length, IsSome, IsTrue, Ok}
+use Rattle.std.specs.Prelude.{◌≡◌, ℕ, ◌+◌, Bool, ◌&&◌, List, length, Option, Some, None, IsSome, IsTrue, Ok}
 use Rattle.std.specs.List.{AllByRecursion}
 use Rattle.frame_log.specs.Extent.{Extent, IsLogOf, placed}
 use Rattle.frame_log.specs.Log.{IsLog, frames}
@@ -9,6 +9,7 @@ use Rattle.grid_model.specs.Rows.{Cat, empty_cat}
 use Rattle.grid_model.specs.Applying.{apply_all}
 use Rattle.grid_model.specs.declared.deltas.Delta.{Delta}
 use Rattle.grid_model.specs.declared.deltas.Delta.TheVariants as delta
+use Rattle.grid_model.specs.declared.deltas.Pending.{Pending}
 use Rattle.grid_model.specs.declared.deltas.TripleRow.{TripleRow}
 use Rattle.grid_journal.specs.Stands.{HasHead, Replays, sets_no_rules}
 
@@ -47,3 +48,12 @@ can_be_kept d = delta_fits d && sets_no_rules d
 -- each of these may be taken away by a delta that may be kept
 abbrev pub AreSpelled : List TripleRow → Type 0
 AreSpelled rows = AllByRecursion (λ t. IsTrue (can_be_kept (delta.NoTriple t))) rows
+
+-- the command that is pending, if one is, may be noted again as it is
+abbrev pub IsSpelledPending : Option Pending → Type 0
+IsSpelledPending None = Unit {0}
+IsSpelledPending (Some p) = IsTrue (can_be_kept (delta.Pending p))
+
+-- both hold of these rows
+abbrev pub HasSpelledRows : Cat → Type 0
+HasSpelledRows c = AreSpelled c.triples × IsSpelledPending c.pending

@@ -1,5 +1,5 @@
 ghost use Rattle.std.specs.Prelude.{◌≡◌, ◌≢◌, ◌↔◌, ◌⊎◌, ℕ, ◌+◌, ◌-◌, ◌*◌, ◌^◌, ◌<◌, ◌≤◌, List, [], ◌∷◌, ◌++◌, length, flat_map, true};
-ghost use Rattle.std.specs.Prelude.{false, IsTrue, IfOk, OnOk, OnErr, IsOk, IsErrOf, MatchResult, Ok, Err};
+ghost use Rattle.std.specs.Prelude.{false, IsTrue, Some, None, IfOk, OnOk, OnErr, IsOk, IsErrOf, MatchResult, Ok, Err};
 ghost use Rattle.std.specs.List.{list_all};
 ghost use Rattle.frame_log.specs.Extent.{extent_of, placed, bodies, IsLogOf};
 ghost use Rattle.grid_outside.specs.Device.{Between, Leaves, Looks, IsSettled};
@@ -13,7 +13,7 @@ ghost use Rattle.grid_model.specs.Rows.{Cat, empty_cat};
 ghost use Rattle.grid_model.specs.Applying.{apply_all};
 ghost use Rattle.grid_model.specs.declared.deltas.Delta.{Delta};
 ghost use Rattle.grid_model.specs.declared.grid.Side.{Side as SideOf};
-ghost use Rattle.grid_journal.specs.Journal.{Keeps, AreSpelled, can_be_kept};
+ghost use Rattle.grid_journal.specs.Journal.{Keeps, AreSpelled, IsSpelledPending, can_be_kept};
 ghost use Rattle.grid_journal.specs.Stands.{Stands, StandsEither};
 ghost use Rattle.grid_journal.specs.Start.{start, start_main};
 ghost use Rattle.grid_journal.specs.Replaying.{HasCatalogue, IsUnread};
@@ -52,13 +52,13 @@ pub struct Store {
 impl Model for Store {
     ghost use Rattle.std.specs.Prelude.{IsTrue};
     ghost use Rattle.std.specs.List.{list_all};
-    ghost use Rattle.grid_journal.specs.Journal.{Journal, AreSpelled, can_be_kept};
+    ghost use Rattle.grid_journal.specs.Journal.{Journal, HasSpelledRows, can_be_kept};
 
     ghost Value = { Journal };
 
     ghost view = { λ s. record { cat = s.tables; staged = s.staged; log = s.log; sound = s.sound } };
 
-    ghost invariant = { λ s. IsTrue (list_all can_be_kept s.staged) × (IsTrue s.sound → AreSpelled s.tables.triples) };
+    ghost invariant = { λ s. IsTrue (list_all can_be_kept s.staged) × (IsTrue s.sound → HasSpelledRows s.tables) };
 }
 
 impl Store {
@@ -184,6 +184,24 @@ impl Store {
         ensures { AreSpelled self.now.cat.triples }
     {
         let _sound = self.sound;
+    }
+
+    /// The command that is pending in the rows of a sound store may be noted again by a delta that `stage` and `commit` take.
+    /// It does nothing.
+    pub fn pending_is_spelled(&self)
+        requires sound { IsTrue self.now.sound }
+        ensures { IsSpelledPending self.now.cat.pending }
+    {
+        let _sound = self.sound;
+    }
+
+    /// The place of the closing gate of the log, where it is past 2^62: no record can be added then.
+    pub fn full_at(&self) -> Option<u64>
+        ensures some { (at : ℕ) → result ≡ Some at → (at ≡ self.now.log.gate) × (2 ^ 62 < self.now.log.gate) }
+        ensures none { result ≡ None → self.now.log.gate ≤ 2 ^ 62 }
+    {
+        let gate = self.log.gate();
+        if gate > LAST_GATE { Some(gate) } else { None }
     }
 
     /// Whether it is sound. It stays so until memory or a disk fails in a change.

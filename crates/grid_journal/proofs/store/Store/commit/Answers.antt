@@ -9,7 +9,7 @@ use Rattle.grid_model.specs.Applying.{apply_all}
 use Rattle.frame_log.specs.Extent.{Extent}
 use Rattle.grid_journal.specs.Journal.{Journal, can_be_kept}
 use Rattle.grid_journal.specs.declared.error.JournalError.TheVariants as error
-use Rattle.grid_journal.proofs.SpelledTriples.{spelled-apply_all}
+use Rattle.grid_journal.proofs.SpelledRows.{spelled-apply_all}
 use Rattle.grid_journal.proofs.ErrorLemmas.{err_same, worn_from}
 use Rattle.grid_journal.proofs.store.Store.commit.Goals as goal
 

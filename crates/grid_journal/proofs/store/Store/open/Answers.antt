@@ -11,7 +11,7 @@ use Rattle.grid_journal.specs.Stands.{HasHead, Stands, no_head, no_log as broken
 use Rattle.grid_journal.proofs.ErrorLemmas.{err_same, not_a_log_from}
 use Rattle.grid_journal.proofs.OpenLemmas.{head_read, fault_read, told_at, unread_at, read_stands, read_keeps}
 use Rattle.grid_journal.proofs.ReplayLemmas.{Replays-made}
-use Rattle.grid_journal.proofs.SpelledTriples.{spelled-replays}
+use Rattle.grid_journal.proofs.SpelledRows.{spelled-replays}
 use Rattle.grid_journal.proofs.store.Store.open.Goals as goal
 
 pub returns-in-Some-clause-not_a_catalogue : goal.returns-in-Some-clause-not_a_catalogue
@@ -68,4 +68,4 @@ pub returns-clause-made : goal.returns-clause-made
 returns-clause-made g c = Replays-made c.in_ok-tables.ensures.replays
 
 pub invariant_of-result : goal.invariant_of-result
-invariant_of-result g c = (ap (list_all can_be_kept) (c.from_vec.ensures ∙ c.new.ensures.items), λ sound. spelled-replays c.in_ok-tables.ensures.replays tt)
+invariant_of-result g c = (ap (list_all can_be_kept) (c.from_vec.ensures ∙ c.new.ensures.items), λ sound. spelled-replays c.in_ok-tables.ensures.replays (tt, tt))

@@ -3,7 +3,7 @@ use Rattle.grid_model.specs.Applying.{apply_all}
 use Rattle.std.specs.List.{list_all}
 use Rattle.grid_model.proofs.Fronts.{list_all-both}
 use Rattle.grid_journal.specs.Journal.{Journal, can_be_kept}
-use Rattle.grid_journal.proofs.SpelledTriples.{spelled-apply_all}
+use Rattle.grid_journal.proofs.SpelledRows.{spelled-apply_all}
 use Rattle.grid_journal.proofs.KeepingLemmas.{keeps_staged}
 use Rattle.grid_journal.proofs.store.Store.stage.Goals as goal
 

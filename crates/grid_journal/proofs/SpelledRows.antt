@@ -1,4 +1,4 @@
--- The metadata in rows that changes made which may be kept may be taken away by changes that may be kept.
+-- What changes made which may be kept may be changed by others that may be kept: metadata taken away, and a pending command noted again.
 use Rattle.std.proofs.Common.{◌≡◌, ℕ, Bool, true, false, IsTrue, List, [], ◌∷◌, Result, Ok, Err, refl, sym, ap, subst, ◌∙◌}
 use Rattle.std.specs.Prelude.{filter, not, cond, ◌&&◌}
 use Rattle.std.specs.List.{list_all, AllByRecursion}
@@ -12,7 +12,7 @@ use Rattle.grid_model.specs.declared.deltas.Delta.{Delta}
 use Rattle.grid_model.specs.declared.deltas.Delta.TheVariants as delta
 use Rattle.grid_model.specs.declared.deltas.TripleRow.{TripleRow}
 use Rattle.grid_model.proofs.TableLemmas.{all-with_row}
-use Rattle.grid_journal.specs.Journal.{can_be_kept, AreSpelled}
+use Rattle.grid_journal.specs.Journal.{can_be_kept, HasSpelledRows}
 use Rattle.grid_journal.specs.Stands.{Replays, none_left, taken, sets_no_rules}
 
 all_kept : {X : Type 0} (P : X → Type 0) (q : X → Bool) (rows : List X) → AllByRecursion P rows → AllByRecursion P (filter q rows)
@@ -22,11 +22,11 @@ all_kept P q (x ∷ rows) all = elim (q x) as (λ b. AllByRecursion P (cond b (x
   | false ↦ all_kept P q rows all.1
 ]
 
-then_spelled : (b : Bool) (cause : ℕ) (next d : Cat) → AreSpelled next.triples → where_fits b cause next ≡ Ok d → AreSpelled d.triples
-then_spelled true cause next d all e = let same : next ≡ d = cc in subst (λ (x : Cat). AreSpelled x.triples) same all
+then_spelled : (b : Bool) (cause : ℕ) (next d : Cat) → HasSpelledRows next → where_fits b cause next ≡ Ok d → HasSpelledRows d
+then_spelled true cause next d all e = let same : next ≡ d = cc in subst HasSpelledRows same all
 then_spelled false cause next d all e = absurd cc
 
-spelled-apply : (c d : Cat) (x : Delta) → IsTrue (can_be_kept x) → AreSpelled c.triples → apply c x ≡ Ok d → AreSpelled d.triples
+spelled-apply : (c d : Cat) (x : Delta) → IsTrue (can_be_kept x) → HasSpelledRows c → apply c x ≡ Ok d → HasSpelledRows d
 spelled-apply c d (delta.Zone name stores) may all e = then_spelled _ 1 _ d all e
 spelled-apply c d (delta.User r) may all e = then_spelled _ 2 _ d all e
 spelled-apply c d (delta.Member m) may all e = then_spelled _ 3 _ d all e
@@ -37,8 +37,8 @@ spelled-apply c d (delta.Object r) may all e = then_spelled _ 7 _ d all e
 spelled-apply c d (delta.NoObject id) may all e = then_spelled _ 8 _ d all e
 spelled-apply c d (delta.Replica r) may all e = then_spelled _ 9 _ d all e
 spelled-apply c d (delta.NoReplica object number) may all e = then_spelled _ 10 _ d all e
-spelled-apply c d (delta.Triple t) may all e = then_spelled _ 11 _ d (all-with_row triple_cmp (λ t. IsTrue (can_be_kept (delta.NoTriple t))) c.triples t all may) e
-spelled-apply c d (delta.NoTriple t) may all e = then_spelled _ 12 _ d (all_kept (λ t. IsTrue (can_be_kept (delta.NoTriple t))) (λ o. not (eq_by_cmp triple_cmp o t)) c.triples all) e
+spelled-apply c d (delta.Triple t) may all e = then_spelled _ 11 _ d (all-with_row triple_cmp (λ t. IsTrue (can_be_kept (delta.NoTriple t))) c.triples t all.0 may, all.1) e
+spelled-apply c d (delta.NoTriple t) may all e = then_spelled _ 12 _ d (all_kept (λ t. IsTrue (can_be_kept (delta.NoTriple t))) (λ o. not (eq_by_cmp triple_cmp o t)) c.triples all.0, all.1) e
 spelled-apply c d (delta.Entry x) may all e = then_spelled _ 13 _ d all e
 spelled-apply c d (delta.NoEntry k id user) may all e = then_spelled _ 14 _ d all e
 spelled-apply c d (delta.Resource r) may all e = then_spelled _ 15 _ d all e
@@ -46,18 +46,18 @@ spelled-apply c d (delta.Rules text) may all e = then_spelled true 16 (record c 
 spelled-apply c d (delta.Orphan r) may all e = then_spelled _ 17 _ d all e
 spelled-apply c d (delta.NoOrphan vault) may all e = then_spelled _ 18 _ d all e
 spelled-apply c d (delta.Numbers n) may all e = then_spelled _ 19 _ d all e
-spelled-apply c d (delta.Pending p) may all e = then_spelled _ 20 _ d all e
-spelled-apply c d delta.NoPending may all e = then_spelled _ 21 _ d all e
+spelled-apply c d (delta.Pending p) may all e = then_spelled _ 20 _ d (all.0, may) e
+spelled-apply c d delta.NoPending may all e = then_spelled _ 21 _ d (all.0, tt) e
 
 -- after more changes that may be kept
-pub spelled-apply_all : (deltas : List Delta) (c d : Cat) → IsTrue (list_all can_be_kept deltas) → AreSpelled c.triples → apply_all c deltas ≡ Ok d → AreSpelled d.triples
-spelled-apply_all [] c d may all e = let same : c ≡ d = cc in subst (λ (x : Cat). AreSpelled x.triples) same all
+pub spelled-apply_all : (deltas : List Delta) (c d : Cat) → IsTrue (list_all can_be_kept deltas) → HasSpelledRows c → apply_all c deltas ≡ Ok d → HasSpelledRows d
+spelled-apply_all [] c d may all e = let same : c ≡ d = cc in subst HasSpelledRows same all
 spelled-apply_all (x ∷ deltas) c d may all e =
     let parts = and_parts (can_be_kept x) (list_all can_be_kept deltas) may in
     by (λ next rest step. spelled-apply_all deltas next d parts.1 rest step) (apply c x) (λ next is. spelled-apply c next x parts.0 all is) e
   where
-    by : ((next : Cat) → AreSpelled next.triples → apply_all next deltas ≡ Ok d → AreSpelled d.triples) → (r : Result Cat ℕ) → ((next : Cat) → r ≡ Ok next → AreSpelled next.triples)
-        → elim r as (λ _. Result Cat ℕ) [ Ok next ↦ apply_all next deltas | Err cause ↦ Err cause ] ≡ Ok d → AreSpelled d.triples
+    by : ((next : Cat) → HasSpelledRows next → apply_all next deltas ≡ Ok d → HasSpelledRows d) → (r : Result Cat ℕ) → ((next : Cat) → r ≡ Ok next → HasSpelledRows next)
+        → elim r as (λ _. Result Cat ℕ) [ Ok next ↦ apply_all next deltas | Err cause ↦ Err cause ] ≡ Ok d → HasSpelledRows d
     by more (Ok next) one h = more next (one next refl) h
     by more (Err cause) one h = absurd cc
 
@@ -69,6 +69,6 @@ both_kept (x ∷ deltas) fit none =
     and_from (can_be_kept x) (list_all can_be_kept deltas) (and_from (delta_fits x) (sets_no_rules x) a.0 b.0) (both_kept deltas a.1 b.1)
 
 -- after records
-pub spelled-replays : {c d : Cat} {rs : List (ℕ × Text)} → Replays c rs (Ok d) → AreSpelled c.triples → AreSpelled d.triples
+pub spelled-replays : {c d : Cat} {rs : List (ℕ × Text)} → Replays c rs (Ok d) → HasSpelledRows c → HasSpelledRows d
 spelled-replays none_left all = all
 spelled-replays (taken {c = c} {after = after} ds p n a more) all = spelled-replays more (spelled-apply_all ds c after (both_kept ds p.fit n) all a)
