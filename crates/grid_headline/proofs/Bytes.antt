@@ -1,5 +1,5 @@
 -- The bytes of a disk in the middle of the put: they stand for a catalogue in which it is pending.
-use Rattle.std.proofs.Common.{arith, append-nil, ◌≡◌, ℕ, zero, suc, true, false, List, [], ◌∷◌, ◌++◌, refl, sym, ap}
+use Rattle.std.proofs.Common.{arith, append-nil, ◌≡◌, ℕ, zero, suc, false, List, [], ◌∷◌, ◌++◌, refl, sym, ap}
 use Rattle.std.specs.Prelude.{◌<◌, ◌^◌, All, Ok, IsSome, IsTrue, codes, length, flat_map}
 use Rattle.std.specs.Fmt.{digits}
 use Rattle.std.specs.List.{list_all}

@@ -18,7 +18,7 @@ use Rattle.grid_headline.specs.Files.{IsKnown, AreSettled, DisksAreSettled, Keep
 use Rattle.grid_headline.specs.Silence.{IsBetween, IsOfDisks, NoneIsSilent, AddsBeforeRun}
 use Rattle.grid_headline.specs.Draws.{DrawsMarks, AreSomeOf, no_words, none_left}
 use Rattle.grid_headline.specs.Draws as draws
-use Rattle.grid_headline.specs.Ends.{no_memory}
+use Rattle.grid_headline.specs.Ends.{HasRecovery, no_memory}
 use Rattle.grid_headline.specs.Headline.{BeginsOn, Shows, Serves, ServesTidily}
 use Rattle.grid_headline.proofs.PutStops.{the_catalogue}
 
@@ -62,7 +62,7 @@ module _ {B : Type 0} (old : World B) (c : Cat) (rules : List Rule) where
       more = [];
       sink = settled.of_sink t i.sink (omega (arith, order.sink_last, later)) left.of_sink ∙ sym (append-nil old.sink.holds);
       split = refl;
-      on_the_way = inl (record { number = refl; rules = refl; same = refl; shown = omega arith });
+      on_the_way = inl (record { number = refl; rules = refl; same = refl; named = λ slot name one. one; shown = omega arith });
       told = record { of_request = λ e. absurd (omega (arith, e)); of_report = tt };
       numbers = record { rises = omega arith; names = λ slot name row less h. (row, h) };
       stores = refl;
@@ -92,8 +92,8 @@ module _ {B : Type 0} (old : World B) (c : Cat) (rules : List Rule) where
     stay_whole settled whole t main spare d later left s =
         subst (AllAreWhole old t) (sym (the_catalogue main spare found d (stays t main spare settled later left) s)) (whole t later)
 
-    stay_named : NoneSweeps old.source.left → IsSettled old.main → ReplicasStayNamed old old.moments found
-    stay_named none settled t main d later left s =
+    stay_named : NoneSweeps old.source.left → ¬ HasRecovery None → IsSettled old.main → ReplicasStayNamed old old.moments found
+    stay_named none free settled t main d later left s =
         let e : main ≡ old.main.holds = settled t main (omega (arith, order.main_last, later)) left in
         let stood = subst (λ m. Stands m old.spare.holds (Ok found)) (sym e) begin.stands in
         subst (KeepsReplicas found) (sym (the_catalogue main old.spare.holds found d stood (s old.spare.holds))) (λ slot name row names is. is)

@@ -1,26 +1,20 @@
 -- The headline in its own words: opening an image again gives what opening the found catalogue gave, or the grid after a prefix of
 -- the requests that holds each acknowledged one, then at most one interrupted command.
-use Rattle.std.proofs.Common.{arith, append_assoc, ◌≡◌, ℕ, ◌≤◌, List, [], ◌∷◌, ◌++◌, Option, Some, None, refl, sym, ◌∙◌, ap, inl, inr}
-use Rattle.std.specs.Prelude.{◌⊎◌, ◌<◌, Ok, length, slice_get}
+use Rattle.std.proofs.Common.{arith, append_assoc, ◌≡◌, ℕ, List, [], ◌++◌, Option, Some, None, refl, sym, ◌∙◌, ap, inl, inr}
+use Rattle.std.specs.Prelude.{◌⊎◌, ◌<◌, Ok, length}
 use Rattle.grid_model.specs.Names.{Text}
 use Rattle.grid_model.specs.Rows.{Cat}
 use Rattle.grid_model.specs.RuleText.{Rule}
-use Rattle.grid_model.specs.Meanings.{gives, mapped}
-use Rattle.grid_model.specs.Orders.{Order}
-use Rattle.grid_model.specs.Obeying.{command}
-use Rattle.grid_model.specs.Central.{as_unwound}
-use Rattle.grid_model.specs.Runs.{Marked}
+use Rattle.grid_model.specs.Meanings.{gives}
 use Rattle.grid_model.specs.Reopening.{reopened, reopened_by}
 use Rattle.grid_model.specs.declared.deltas.Pending.{Pending}
-use Rattle.grid_model.specs.declared.marks.Mark.{Mark}
-use Rattle.grid_model.specs.declared.marks.Mark.TheVariants.{Stop}
 use Rattle.grid_headline.specs.Worlds.{World, DevicesImage, LeavesDisks, LeavesFiles}
 use Rattle.grid_headline.specs.Files.{AllStayWhole, WereWhole}
 use Rattle.grid_outside.specs.Files.{Files}
 use Rattle.grid_journal.specs.Stands.{Stands}
-use Rattle.grid_headline.specs.Reads.{MeansRequest, HasRules}
-use Rattle.grid_headline.specs.Served.{Run, state_at, acknowledged, reached}
-use Rattle.grid_headline.specs.Openings.{IsAsBefore, IsCommand, IsGridOf, IsPrefix, OpensAgain}
+use Rattle.grid_headline.specs.Reads.{HasRules}
+use Rattle.grid_headline.specs.Served.{Run, state_at, reached}
+use Rattle.grid_headline.specs.Openings.{IsAsBefore, IsPrefix, OpensAgain}
 use Rattle.grid_headline.specs.Stops.{OneImage, IsBeforeRun, IsInRun, IsSame, IsAtState}
 use Rattle.grid_headline.proofs.Interrupted.{same_as_reopened}
 
@@ -32,7 +26,7 @@ as_before_again a b c x y = record {
 }
 
 module _ {known : ℕ → Type 0} {found : Cat} {input : Text} (run : Run known found input) where
-  as_found : (c : Cat) (was now : Option Pending) → found.pending ≡ was → c.pending ≡ now → IsSame run c was now → IsAsBefore found c
+  as_found : (c : Cat) (was now : Option Pending) → found.pending ≡ was → c.pending ≡ now → IsSame found run.report c was now → IsAsBefore found c
   as_found c None None e k grid = record {
     d = [];
     same = λ w. ap (λ (q : Option Pending). reopened_by c q w) k
@@ -72,7 +66,7 @@ module _ {known : ℕ → Type 0} {found : Cat} {input : Text} (run : Run known 
   pub headline : (old_sink : Text) (i : DevicesImage) (one : OneImage run old_sink i) → IsAsBefore found one.cat ⊎ IsPrefix run one.cat (length one.part)
   headline old_sink i one = by one.on_the_way
     where
-      by : IsBeforeRun run one.cat (length one.part) ⊎ IsInRun run one.cat (length one.part)
+      by : IsBeforeRun found run.report one.cat (length one.part) ⊎ IsInRun run one.cat (length one.part)
           → IsAsBefore found one.cat ⊎ IsPrefix run one.cat (length one.part)
       by (inl b) = inl (as_found one.cat found.pending one.cat.pending refl refl b.same)
       by (inr r) = inr (in_run one.cat (length one.part) one.cat.pending refl r r.at)
@@ -84,7 +78,7 @@ module _ {known : ℕ → Type 0} {found : Cat} {input : Text} (run : Run known 
   pub rules_of : (old_sink : Text) (i : DevicesImage) (one : OneImage run old_sink i) → (rules : List Rule) × HasRules one.cat rules
   rules_of old_sink i one = by one.on_the_way
     where
-      by : IsBeforeRun run one.cat (length one.part) ⊎ IsInRun run one.cat (length one.part) → (rules : List Rule) × HasRules one.cat rules
+      by : IsBeforeRun found run.report one.cat (length one.part) ⊎ IsInRun run one.cat (length one.part) → (rules : List Rule) × HasRules one.cat rules
       by (inl b) = (run.rules, b.rules ∙ run.rules_are)
       by (inr r) = ((state_at run (reached run one.cat (length one.part))).rules, r.rules)
 

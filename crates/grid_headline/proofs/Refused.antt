@@ -9,7 +9,7 @@ use Rattle.grid_model.specs.Grid.{Grid}
 use Rattle.grid_model.specs.RowGrids.{grid_of}
 use Rattle.grid_journal.specs.Stands.{Stands}
 use Rattle.grid_headline.specs.Stops.{OneImage, IsBeforeRun, IsInRun, IsTold}
-use Rattle.grid_headline.proofs.Scene.{ran}
+use Rattle.grid_headline.proofs.Scene.{found, ran}
 use Rattle.grid_headline.proofs.Scene.{put_done}
 use Rattle.grid_headline.proofs.PutStops.{run, before, the_catalogue}
 
@@ -39,11 +39,11 @@ module _ (known : ℕ → Type 0) where
       → ¬ OneImage (run known) [] (record { main = main; spare = spare; sink = codes "1 ok\n2 mark ran 7 1000\n2 ok\n" })
   unfolding digits
   acknowledged_and_lost main spare s one =
-      let P : Cat → Text → Type 0 = λ c t. IsBeforeRun (run known) c (length t) ⊎ IsInRun (run known) c (length t) in
+      let P : Cat → Text → Type 0 = λ c t. IsBeforeRun found (run known).report c (length t) ⊎ IsInRun (run known) c (length t) in
       let there : P (before known) one.part = at_cat main spare _ s one (λ c. P c one.part) one.on_the_way in
       by (subst (λ t. P (before known) t) (sym one.sink) there)
     where
-      by : IsBeforeRun (run known) (before known) 28 ⊎ IsInRun (run known) (before known) 28 → ⊥
+      by : IsBeforeRun found (run known).report (before known) 28 ⊎ IsInRun (run known) (before known) 28 → ⊥
       by (inl r) = absurd (omega (arith, r.number))
       by (inr r) = let e : grid_of (before known) ≡ put_done.state.grid = r.at in let n : 0 ≡ 1 = ap (λ (g : Grid). length g.objects.entries) e in
           absurd (omega (arith, n))

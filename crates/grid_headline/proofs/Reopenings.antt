@@ -6,7 +6,7 @@ use Rattle.std.specs.List.{Contains}
 use Rattle.grid_model.specs.Names.{Text}
 use Rattle.grid_model.specs.Rows.{Cat}
 use Rattle.grid_model.specs.RowGrids.{grid_of}
-use Rattle.grid_model.specs.Whole.{Naming, by_replica, by_orphan, Names}
+use Rattle.grid_model.specs.Whole.{IsNamed, Naming, by_replica, by_orphan, Names}
 use Rattle.grid_model.specs.Inputs.{none_taken}
 use Rattle.grid_model.specs.Meanings.{Meaning, gives}
 use Rattle.grid_model.specs.Beginning.{begins}
@@ -14,11 +14,13 @@ use Rattle.grid_model.specs.Runs as runs
 use Rattle.grid_model.specs.Reopening.{Unwound, reopened}
 use Rattle.grid_model.specs.declared.deltas.Pending.{Pending}
 use Rattle.grid_model.specs.declared.deltas.OrphanRow.{OrphanRow}
+use Rattle.grid_model.specs.declared.deltas.ReplicaRow.{ReplicaRow}
 use Rattle.grid_model.specs.declared.marks.Mark.{Mark}
 use Rattle.grid_model.specs.declared.marks.Mark.TheVariants.{Ran, Stop}
 use Rattle.grid_model.specs.declared.replies.Passed.{Passed}
 use Rattle.grid_journal.specs.Stands.{Stands}
 use Rattle.grid_headline.specs.Served.{Run, reached, run_text}
+use Rattle.grid_headline.specs.Files.{KeepsNamed}
 use Rattle.grid_headline.specs.Stops.{OneImage, IsBeforeRun, IsInRun}
 use Rattle.grid_headline.proofs.Scene.{ran}
 use Rattle.grid_headline.proofs.PutStops.{the_catalogue}
@@ -91,6 +93,7 @@ module _ (known : ℕ → Type 0) where
         same = λ w. refl;
         of_report = record { rest = Stop ∷ []; are = refl };
       };
+      named = λ slot name one. one;
       shown = omega arith;
     });
     told = record { of_request = λ e. absurd (omega (arith, e)); of_report = λ e. record { rest = Stop ∷ []; are = refl } };
@@ -132,7 +135,7 @@ module _ (known : ℕ → Type 0) where
   pub dropped : (main spare : Text) → Stands main spare (Ok (record found { pending = None }))
       → ¬ OneImage run [] (record { main = main; spare = spare; sink = [] })
   dropped main spare s one =
-      let P : Cat → Text → Type 0 = λ c t. IsBeforeRun run c (length t) ⊎ IsInRun run c (length t) in
+      let P : Cat → Text → Type 0 = λ c t. IsBeforeRun found run.report c (length t) ⊎ IsInRun run c (length t) in
       by (subst (λ t. P (record found {
         pending =
             None;
@@ -141,7 +144,7 @@ module _ (known : ℕ → Type 0) where
             None;
       }) one.cat s one.stands) one.on_the_way))
     where
-      by : IsBeforeRun run (record found { pending = None }) 0 ⊎ IsInRun run (record found { pending = None }) 0 → ⊥
+      by : IsBeforeRun found run.report (record found { pending = None }) 0 ⊎ IsInRun run (record found { pending = None }) 0 → ⊥
       by (inl r) = r.same
       by (inr r) = absurd (omega (arith, r.number))
 
@@ -208,6 +211,33 @@ module _ (known : ℕ → Type 0) where
           absurd (omega (arith, k, is, less))
       by (suc (suc k), few, e) = absurd (omega (arith, few))
 
+  first_replica : (r : ReplicaRow) → Contains stopped.replicas r → r.vault ≡ 1
+  first_replica r (zero, few, e) = sym (ap (λ (x : ReplicaRow). x.vault) e)
+  first_replica r (suc k, few, e) = absurd (omega (arith, few))
+
+  names_low : (slot name : ℕ) (row : Naming) → Names stopped slot name row → name < 3
+  names_low slot name (by_replica r) h = let one : r.vault ≡ 1 = first_replica r h.0 in let is : r.vault ≡ name = h.1 in omega (arith, one, is)
+  names_low slot name (by_orphan o) h = by h.0
+    where
+      by : Contains stopped.orphans o → name < 3
+      by (zero, few, e) = let k : 2 ≡ o.vault = ap (λ (x : OrphanRow). x.vault) e in let is : o.vault ≡ name = h.1 in omega (arith, k, is)
+      by (suc k, few, e) = absurd (omega (arith, few))
+
+  named_again : (slot name : ℕ) (row : Naming) → Names stopped slot name row → Names again slot name row
+  named_again slot name (by_replica r) h = h
+  named_again slot name (by_orphan o) h = (by h.0, h.1, h.2)
+    where
+      by : Contains stopped.orphans o → Contains again.orphans o
+      by (zero, few, e) = (zero, omega arith, e)
+      by (suc k, few, e) = absurd (omega (arith, few))
+
+  keeps_again : KeepsNamed stopped again
+  keeps_again slot name one = record {
+    row = one.row;
+    names = named_again slot name one.row one.names;
+    only = λ other its. one.only other (same_again slot name other (names_low slot name one.row one.names) its);
+  }
+
   -- the recovery runs: what was kept and the added `Stop` are shown
   pub image_again : (main spare : Text) → Stands main spare (Ok again)
       → OneImage run_again [] (record { main = main; spare = spare; sink = codes "stopped 1 2\n2 mark ran 7 1000\n2 mark stop\n" })
@@ -232,9 +262,45 @@ module _ (known : ℕ → Type 0) where
         same = goes_on;
         of_report = record { rest = ran_again ∷ []; are = refl };
       };
+      named = keeps_again;
       shown = omega arith;
     });
     told = record { of_request = λ e. absurd (omega (arith, e)); of_report = λ e. record { rest = Stop ∷ []; are = refl } };
     numbers = record { rises = omega arith; names = λ slot name row less h. (row, same_again slot name row less h) };
     stores = refl;
   }
+
+  -- while it runs the row of the file that was an orphan is gone
+  abbrev forgot : Cat
+  forgot = record again { orphans = record { vault = 3; slot = 1 } ∷ [] }
+
+  abbrev the_orphan : OrphanRow
+  the_orphan = record { vault = 2; slot = 1 }
+
+  orphan_is_named : IsNamed stopped 1 2
+  orphan_is_named = record { row = by_orphan the_orphan; names = ((zero, omega arith, refl), refl, refl); only = only }
+    where
+      same : (o : OrphanRow) → Contains stopped.orphans o → the_orphan ≡ o
+      same o (zero, few, e) = e
+      same o (suc k, few, e) = absurd (omega (arith, few))
+
+      only : (other : Naming) → Names stopped 1 2 other → other ≡ by_orphan the_orphan
+      only (by_replica r) h = let one : r.vault ≡ 1 = first_replica r h.0 in let two : r.vault ≡ 2 = h.1 in absurd (omega (arith, one, two))
+      only (by_orphan o) h = ap by_orphan (sym (same o h.0))
+
+  not_named : (row : Naming) → ¬ Names forgot 1 2 row
+  not_named (by_replica r) h = let one : r.vault ≡ 1 = first_replica r h.0 in let two : r.vault ≡ 2 = h.1 in absurd (omega (arith, one, two))
+  not_named (by_orphan o) h = by h.0
+    where
+      by : Contains forgot.orphans o → ⊥
+      by (zero, few, e) = let three : 3 ≡ o.vault = ap (λ (x : OrphanRow). x.vault) e in let two : o.vault ≡ 2 = h.1 in absurd (omega (arith, three, two))
+      by (suc k, few, e) = absurd (omega (arith, few))
+
+  pub lost_track : (main spare : Text) → Stands main spare (Ok forgot) → ¬ OneImage run_again [] (record { main = main; spare = spare; sink = [] })
+  lost_track main spare s one =
+      let P : Cat → Text → Type 0 = λ c t. IsBeforeRun stopped run_again.report c (length t) ⊎ IsInRun run_again c (length t) in
+      by (subst (λ t. P forgot t) (sym one.sink) (subst (λ c. P c one.part) (the_catalogue main spare forgot one.cat s one.stands) one.on_the_way))
+    where
+      by : IsBeforeRun stopped run_again.report forgot 0 ⊎ IsInRun run_again forgot 0 → ⊥
+      by (inl r) = let kept = r.named 1 2 orphan_is_named in not_named kept.row kept.names
+      by (inr r) = absurd (omega (arith, r.number))

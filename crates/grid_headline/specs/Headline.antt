@@ -13,7 +13,7 @@ use Rattle.grid_headline.specs.Files.{IsKnown, IsOfUnknown, DisksAreSettled, Are
 use Rattle.grid_headline.specs.Silence.{NoneIsSilent}
 use Rattle.grid_headline.specs.Causes.{AreCaused, NoneFailed, AllTell}
 use Rattle.grid_headline.specs.Draws.{DrawsMarks, shown_marks}
-use Rattle.grid_headline.specs.Ends.{RunEnd, read_all, no_memory, worn, SaysOfEnd, HadNumbers, LeavesFewOrphans}
+use Rattle.grid_headline.specs.Ends.{RunEnd, read_all, no_memory, worn, HasRecovery, SaysOfEnd, HadNumbers, LeavesFewOrphans}
 
 -- The run begins on this catalogue, of as many stores as there are: main, spare and source tell.
 pub record BeginsOn {B : Type 0} (old : World B) (found : Cat) : Type 0 where
@@ -58,9 +58,9 @@ pub record Serves {B : Type 0} (old new : World B) (found : Cat) (end : RunEnd) 
   pub images : IsTrue old.sink.tells → AreSettled old → (t : ℕ) (i : DevicesImage) → old.moments < t → LeavesImage new t i → OneImage run old.sink.holds i
   -- the files of stores that tell stay whole
   pub whole : DisksAreSettled old → WereWhole old old.moments found → AllStayWhole new old.moments
-  -- no file of a replica is lost track of, on stores that tell nothing too, where no sweep is asked for; what has no replica is removed when
-  -- the run is begun
-  pub named : NoneSweeps old.source.left → IsSettled old.main → ReplicasStayNamed new old.moments found
+  -- no file of a replica is lost track of, on stores that tell nothing too, where no sweep is asked for and no recovery is to be done; what has
+  -- no replica is removed when the run is begun
+  pub named : NoneSweeps old.source.left → ¬ HasRecovery found.pending → IsSettled old.main → ReplicasStayNamed new old.moments found
   -- few files without a replica are left
   pub orphans : end ≡ read_all → LeavesFewOrphans run old new
   -- no mark tells that a known file is not what is recorded

@@ -88,13 +88,17 @@ clean old new known marks none all told caused = clean-of known (length old.stor
     let n = not_risen (faults_of old slot) (faults_of new slot) (none slot) in
     omega (arith, n.0, caused.counted slot n.1))
 
-clean-front : (a b : List Mark) → AreClean (a ++ b) → AreClean a
+pub clean-front : (a b : List Mark) → AreClean (a ++ b) → AreClean a
 clean-front [] b all = tt
 clean-front (m ∷ a) b all = (all.0, clean-front a b all.1)
 
-clean-back : (a b : List Mark) → AreClean (a ++ b) → AreClean b
+pub clean-back : (a b : List Mark) → AreClean (a ++ b) → AreClean b
 clean-back [] b all = all
 clean-back (m ∷ a) b all = clean-back a b all.1
+
+pub clean-both : (a b : List Mark) → AreClean a → AreClean b → AreClean (a ++ b)
+clean-both [] b one other = other
+clean-both (m ∷ a) b one other = (one.0, clean-both a b one.1 other)
 
 -- and each of the first requests ends by rows
 pub by_rows-first : (n : ℕ) (ms : List Marked) (ds : List Done) → length ds ≡ length ms → AllByRows ms ds → AreClean (marks_of ms) → AllEndByRows (take n ds)

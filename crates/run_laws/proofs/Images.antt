@@ -26,7 +26,8 @@ use Rattle.grid_headline.specs.Served.{joined_texts, marks_of, whole_in}
 use Rattle.grid_headline.specs.Numbers.{KeepsNumbers}
 use Rattle.grid_headline.specs.Reads.{MeansRequest}
 use Rattle.grid_headline.specs.Stops.{AreFirst}
-use Rattle.run_laws.specs.Handled.{Handled, with_one, replies_of, marks_within, marks_shown, told_within, reached_by, state_behind, IsAmidRun, IsAmidSome, IsOfRun, IsBehindSome, OneOfRun, not_begun, in_run, in_deed_of_run, ShowsMost, whole_report}
+use Rattle.run_laws.specs.Handled.{Handled, with_one, replies_of, marks_within, marks_shown, told_within, reached_by, state_behind, IsAmidRun, IsAmidSome, IsOfRun, IsBehindSome, OneOfRun, not_begun, in_run, in_deed_of_run, ShowsMost}
+use Rattle.run_laws.specs.Undone.{Undone, whole_report}
 use Rattle.run_laws.specs.Steps.{IsLike, IsLeftBehind, IsAmid, ComesAfter, kept, unseen, WaitsInDeed, HasLine, IsUntold, TellsFew, OneOf, not_kept, in_deed_so, kept_so}
 use Rattle.run_laws.proofs.Lists.{get-front, get-last, marks-push, state-more, state-last}
 use Rattle.run_laws.proofs.Texts.{HaveBytes, joined-push, whole-none, whole-behind, whole-more, whole-most, whole-all, whole-less}
@@ -68,7 +69,7 @@ amid-of found c e its amid = record {
 }
 
 -- the first of some marks, where these are the first of all and as many at least
-first-kept : (all some : List Mark) (k : ℕ) → AreFirst some all → k ≤ length some → AreFirst (take k all) some
+pub first-kept : (all some : List Mark) (k : ℕ) → AreFirst some all → k ≤ length some → AreFirst (take k all) some
 first-kept all some k first few = record {
   rest = drop k some;
   are = sym (take-append-drop k some) ∙ ap (λ (x : List Mark). x ++ drop k some) (sym (ap (take k) first.are ∙ take-append-le k some first.rest few));
@@ -94,7 +95,7 @@ pub record IsOneMore (h : Handled) (m : Marked) (d : Done) (ts : List Text) (t :
   pub rest : Text
   pub pieces_first : t ≡ joined_texts ts ++ rest
 
-module _ (found : Cat) (h : Handled) (m : Marked) (d : Done) (ts : List Text) (t : Text) (one : IsOneMore h m d ts t) where
+module _ (found : Cat) (u : Undone found) (h : Handled) (m : Marked) (d : Done) (ts : List Text) (t : Text) (one : IsOneMore h m d ts t) where
   abbrev size : ℕ
   size = length (replies_of h)
 
@@ -102,7 +103,7 @@ module _ (found : Cat) (h : Handled) (m : Marked) (d : Done) (ts : List Text) (t
   more = with_one h m d ts
 
   abbrev report : Text
-  report = whole_report found
+  report = whole_report found u
 
   abbrev bytes : ℕ
   bytes = length (joined_texts (replies_of h))
@@ -136,11 +137,11 @@ module _ (found : Cat) (h : Handled) (m : Marked) (d : Done) (ts : List Text) (t
             let same_texts : us ≡ ts = same_Some us ts (sym is ∙ last) in
             ap (whole_in us) none ∙ whole-none us (subst HaveBytes (sym same_texts) one.pieces_have))
 
-    behind-more : (c : Cat) → IsBehindSome found h c count → IsBehindSome found more c count
+    behind-more : (c : Cat) → IsBehindSome found u h c count → IsBehindSome found u more c count
     behind-more c b =
-        let r : reached_by found more c count ≡ reached_by found h c count = ap (λ k. max k c.numbers.last) same_whole in
-        let s : state_behind found more (reached_by found more c count) ≡ state_behind found h (reached_by found h c count) =
-        ap (state_behind found more) r ∙ state-more (begins (grid_of found) []) h.done d (reached_by found h c count) (omega (arith, b.within, one.begun_length, one.done_length)) in
+        let r : reached_by found u more c count ≡ reached_by found u h c count = ap (λ k. max k c.numbers.last) same_whole in
+        let s : state_behind found u more (reached_by found u more c count) ≡ state_behind found u h (reached_by found u h c count) =
+        ap (state_behind found u more) r ∙ state-more (begins u.opened.grid []) h.done d (reached_by found u h c count) (omega (arith, b.within, one.begun_length, one.done_length)) in
         record {
           of_run = b.of_run;
           within = omega (arith, b.within, r, length-append h.begun (m ∷ []));
@@ -152,13 +153,13 @@ module _ (found : Cat) (h : Handled) (m : Marked) (d : Done) (ts : List Text) (t
         }
 
     -- a request that is pending is so still
-    amid-more : (c : Cat) (p : Pending) (n : ℕ) → IsAmidSome found h c p n count → IsAmidSome found more c p n count
+    amid-more : (c : Cat) (p : Pending) (n : ℕ) → IsAmidSome found u h c p n count → IsAmidSome found u more c p n count
     amid-more c p n a =
         let w = a.waits_behind in
         let less : n < length h.begun = slice_get_within h.begun n w.next w.is_next in
-        let same : state_behind found h n ≡ state_behind found more n =
-        sym (state-more (begins (grid_of found) []) h.done d n (omega (arith, less, one.begun_length, one.done_length))) in
-        let reached : reached_by found more c count ≡ n = ap (λ k. max k c.numbers.last) same_whole ∙ a.reached in
+        let same : state_behind found u h n ≡ state_behind found u more n =
+        sym (state-more (begins u.opened.grid []) h.done d n (omega (arith, less, one.begun_length, one.done_length))) in
+        let reached : reached_by found u more c count ≡ n = ap (λ k. max k c.numbers.last) same_whole ∙ a.reached in
         record {
           of_run = a.of_run;
           reached = reached;
@@ -189,8 +190,8 @@ module _ (found : Cat) (h : Handled) (m : Marked) (d : Done) (ts : List Text) (t
   within-front part left split = omega (arith, ap length split, length-append part left, length-append report (joined_texts (replies_of h)))
 
   -- what was left of the requests before it is left of it
-  pub image-more : (old_sink main sink : Text) → OneOfRun found h old_sink main sink → OneOfRun found more old_sink main sink
-  image-more old_sink main sink (not_begun stands adds) = not_begun stands adds
+  pub image-more : (old_sink main sink : Text) → OneOfRun found u h old_sink main sink → OneOfRun found u more old_sink main sink
+  image-more old_sink main sink (not_begun c stands adds is) = not_begun c stands adds is
   image-more old_sink main sink (in_run c part left stands is split behind) =
       in_run c part (left ++ t) stands is (split-more part left split) (behind-more (length part - length report) (within-front part left split) c behind)
   image-more old_sink main sink (in_deed_of_run c p n part left stands is split amid) =
@@ -249,21 +250,21 @@ module _ (found : Cat) (h : Handled) (m : Marked) (d : Done) (ts : List Text) (t
 
   -- ---- what is left of it
 
-  module _ (at : State) (at_is : state_behind found h size ≡ at) (none_at : at.rules ≡ []) (none_next : d.state.rules ≡ []) where
-    at_size : state_behind found more size ≡ at
-    at_size = state-more (begins (grid_of found) []) h.done d size (omega (arith, one.done_length)) ∙ at_is
+  module _ (at : State) (at_is : state_behind found u h size ≡ at) (none_at : at.rules ≡ []) (none_next : d.state.rules ≡ []) where
+    at_size : state_behind found u more size ≡ at
+    at_size = state-more (begins u.opened.grid []) h.done d size (omega (arith, one.done_length)) ∙ at_is
 
-    at_next : state_behind found more (suc size) ≡ d.state
-    at_next = ap (λ k. state_behind found more (suc k)) (sym one.done_length) ∙ state-last (begins (grid_of found) []) h.done d
+    at_next : state_behind found u more (suc size) ≡ d.state
+    at_next = ap (λ k. state_behind found u more (suc k)) (sym one.done_length) ∙ state-last (begins u.opened.grid []) h.done d
 
     -- a catalogue with so many bytes shown, where that many requests are shown whole, and that many done
     made : (c : Cat) (k w n : ℕ) → IsOfRun found c → whole_in (replies_of more) (bytes + k) ≡ w → max w c.numbers.last ≡ n → n ≤ suc size
         → c.numbers.last ≤ w + 1
-        → (s : State) → state_behind found more n ≡ s → s.rules ≡ [] → grid_of c ≡ s.grid → (c.numbers.last < w + 1 → told_within more w (bytes + k) ≡ [])
-        → IsBehindSome found more c (bytes + k)
+        → (s : State) → state_behind found u more n ≡ s → s.rules ≡ [] → grid_of c ≡ s.grid → (c.numbers.last < w + 1 → told_within more w (bytes + k) ≡ [])
+        → IsBehindSome found u more c (bytes + k)
     made c k w n its whole most within near s state none grid told =
-        let r : reached_by found more c (bytes + k) ≡ n = ap (λ i. max i c.numbers.last) whole ∙ most in
-        let e : s ≡ state_behind found more (reached_by found more c (bytes + k)) = sym (ap (state_behind found more) r ∙ state) in
+        let r : reached_by found u more c (bytes + k) ≡ n = ap (λ i. max i c.numbers.last) whole ∙ most in
+        let e : s ≡ state_behind found u more (reached_by found u more c (bytes + k)) = sym (ap (state_behind found u more) r ∙ state) in
         record {
           of_run = its;
           within = omega (arith, r, within, length-append h.begun (m ∷ []), one.begun_length);
@@ -276,14 +277,14 @@ module _ (found : Cat) (h : Handled) (m : Marked) (d : Done) (ts : List Text) (t
     module _ (c : Cat) (its : IsOfRun found c) (last : c.numbers.last ≤ size) (grid : grid_of c ≡ at.grid) (marks_are : d.reply.marks ≡ m.marks)
         (n : ℕ) (n_is : n ≡ size + 1) where
       -- nothing is seen to be changed, and no mark is told
-      not_changed : (e : Cat) (k : ℕ) → IsLike c e → k < length t → whole_in ts k ≡ 0 → IsBehindSome found more e (bytes + k)
+      not_changed : (e : Cat) (k : ℕ) → IsLike c e → k < length t → whole_in ts k ≡ 0 → IsBehindSome found u more e (bytes + k)
       not_changed e k like less none =
           made e k size size (like-of found c e its like) (whole_cut k less) (omega (arith, last, like.last)) (omega arith) (omega (arith, last, like.last)) at at_size none_at
           (like.grid ∙ grid) (λ l. told_next k ∙ ap (λ i. take i m.marks) none)
 
       -- it is pending, and no more marks are told than are kept
       waiting : (e : Cat) (p : Pending) (k : ℕ) (request : Request) → MeansRequest at m.asked request → IsAmid c e → p.line ≡ m.asked.line
-          → WaitsInDeed at n request d.reply.marks e p → TellsFew ts (length t) (length p.marks) k → IsAmidSome found more e p size (bytes + k)
+          → WaitsInDeed at n request d.reply.marks e p → TellsFew ts (length t) (length p.marks) k → IsAmidSome found u more e p size (bytes + k)
       waiting e p k request means amid line waits tells =
           let whole : whole_in (replies_of more) (bytes + k) ≡ size = whole_cut k tells.cut in
           let first : AreFirst (take (whole_in ts k) m.marks) p.marks = first-kept m.marks p.marks (whole_in ts k) (subst (λ (x : List Mark). AreFirst p.marks x) marks_are waits.kept) tells.few in
@@ -305,7 +306,7 @@ module _ (found : Cat) (h : Handled) (m : Marked) (d : Done) (ts : List Text) (t
           }
 
       -- it was kept
-      changed : (e : Cat) (k : ℕ) → IsLeftBehind c n d e → (k < length t) ⊎ (length t ≡ k) → IsBehindSome found more e (bytes + k)
+      changed : (e : Cat) (k : ℕ) → IsLeftBehind c n d e → (k < length t) ⊎ (length t ≡ k) → IsBehindSome found u more e (bytes + k)
       changed e k behind (inl less) =
           made e k size (suc size) (behind-of found c n d e its behind) (whole_cut k less) (omega (arith, behind.last, n_is)) (omega arith) (omega (arith, behind.last, n_is)) d.state at_next none_next
           behind.grid (λ l. absurd (omega (arith, l, behind.last, n_is)))
@@ -314,7 +315,7 @@ module _ (found : Cat) (h : Handled) (m : Marked) (d : Done) (ts : List Text) (t
           behind.grid (λ l. told_past k)
 
       -- there was nothing to keep
-      no_change : (e : Cat) (k : ℕ) → IsLike c e → m.marks ≡ [] → d.state.grid ≡ grid_of c → (k < length t) ⊎ (length t ≡ k) → IsBehindSome found more e (bytes + k)
+      no_change : (e : Cat) (k : ℕ) → IsLike c e → m.marks ≡ [] → d.state.grid ≡ grid_of c → (k < length t) ⊎ (length t ≡ k) → IsBehindSome found u more e (bytes + k)
       no_change e k like no_marks same (inl less) =
           made e k size size (like-of found c e its like) (whole_cut k less) (omega (arith, last, like.last)) (omega arith) (omega (arith, last, like.last)) at at_size none_at
           (like.grid ∙ grid) (λ l. told_next k ∙ ap (take (whole_in ts k)) no_marks ∙ take_nil (whole_in ts k))
@@ -322,7 +323,7 @@ module _ (found : Cat) (h : Handled) (m : Marked) (d : Done) (ts : List Text) (t
           made e k (suc size) (suc size) (like-of found c e its like) (whole_full k all) (omega (arith, last, like.last)) (omega arith) (omega (arith, last, like.last)) d.state at_next none_next
           (like.grid ∙ sym same) (λ l. told_past k)
 
-      follows : (e : Cat) (k : ℕ) → ComesAfter c n d e → (k < length t) ⊎ (length t ≡ k) → IsBehindSome found more e (bytes + k)
+      follows : (e : Cat) (k : ℕ) → ComesAfter c n d e → (k < length t) ⊎ (length t ≡ k) → IsBehindSome found u more e (bytes + k)
       follows e k (kept behind) most = changed e k behind most
       follows e k (unseen like no_marks grid_same) most = no_change e k like (sym marks_are ∙ no_marks) grid_same most
 
@@ -355,14 +356,14 @@ module _ (found : Cat) (h : Handled) (m : Marked) (d : Done) (ts : List Text) (t
     cut_or_full : (adds.count < length t) ⊎ (length t ≡ adds.count)
     cut_or_full = elim (cases_lt adds.count (length t)) [ inl less ↦ inl less | inr all ↦ inr (omega (arith, all, adds.within)) ]
 
-    image_by : (main : Text) (c : Cat) → StandsFor main c → IsBehindSome found more c (bytes + adds.count) → OneOfRun found more old_sink main sink
-    image_by main c stands behind = in_run c part (drop adds.count t) stands sink_is split (subst (IsBehindSome found more c) (sym behind_report) behind)
+    image_by : (main : Text) (c : Cat) → StandsFor main c → IsBehindSome found u more c (bytes + adds.count) → OneOfRun found u more old_sink main sink
+    image_by main c stands behind = in_run c part (drop adds.count t) stands sink_is split (subst (IsBehindSome found u more c) (sym behind_report) behind)
 
     -- it is pending
-    image_waiting : (main : Text) (c : Cat) (p : Pending) → StandsFor main c → IsAmidSome found more c p size (bytes + adds.count)
-        → OneOfRun found more old_sink main sink
+    image_waiting : (main : Text) (c : Cat) (p : Pending) → StandsFor main c → IsAmidSome found u more c p size (bytes + adds.count)
+        → OneOfRun found u more old_sink main sink
     image_waiting main c p stands amid =
-        in_deed_of_run c p size part (drop adds.count t) stands sink_is split (subst (IsAmidSome found more c p size) (sym behind_report) amid)
+        in_deed_of_run c p size part (drop adds.count t) stands sink_is split (subst (IsAmidSome found u more c p size) (sym behind_report) amid)
 
     pub shows-one : ShowsMost report more old_sink sink
     shows-one = record {
@@ -423,6 +424,12 @@ shows-all report h old_sink sink e is =
       all_but_one = omega (arith, e, whole);
     }
 
+-- with the report
+pub shows-whole : (report : Text) (h : Handled) (old_sink sink : Text) (e : length h.begun ≡ length (replies_of h))
+    → (is : sink ≡ (old_sink ++ report) ++ joined_texts (replies_of h)) → length report ≤ length (shows-all report h old_sink sink e is).part
+unfolding shows-all
+shows-whole report h old_sink sink e is = omega (arith, length-append report (joined_texts (replies_of h)))
+
 -- ---- one request
 
 untold_cut : (ts : List Text) (t rest : Text) (k : ℕ) → 0 < length t → t ≡ joined_texts ts ++ rest → IsUntold ts k → (k < length t) × (whole_in ts k ≡ 0)
@@ -431,24 +438,24 @@ untold_cut (u ∷ ts) t rest k some e untold =
     (omega (arith, untold, ap length e, length-append (u ++ joined_texts ts) rest, length-append u (joined_texts ts)), whole-less u ts k untold)
 
 -- while a request is handled a stop leaves that nothing is seen of it, that it is pending, or that it is kept
-pub image-one : (found c : Cat) (h : Handled) (m : Marked) (d : Done) (ts : List Text) (n : ℕ) → IsOneMore h m d ts (reply_text n d.reply ts) → (at : State) (request : Request)
-    → MeansRequest at m.asked request → state_behind found h (length (replies_of h)) ≡ at → at.rules ≡ [] → d.state.rules ≡ [] → IsOfRun found c → c.numbers.last ≤ length (replies_of h)
+pub image-one : (found : Cat) (u : Undone found) (c : Cat) (h : Handled) (m : Marked) (d : Done) (ts : List Text) (n : ℕ) → IsOneMore h m d ts (reply_text n d.reply ts) → (at : State) (request : Request)
+    → MeansRequest at m.asked request → state_behind found u h (length (replies_of h)) ≡ at → at.rules ≡ [] → d.state.rules ≡ [] → IsOfRun found c → c.numbers.last ≤ length (replies_of h)
     → grid_of c ≡ at.grid
     → d.reply.marks ≡ m.marks → n ≡ length (replies_of h) + 1 → (old_sink shown main sink : Text)
-    → shown ≡ (old_sink ++ whole_report found) ++ joined_texts (replies_of h)
-    → ((e : Cat) → StandsFor main e → HasLine m.asked.line e.pending) → OneOf at c n request d ts shown main sink → OneOfRun found (with_one h m d ts) old_sink main sink
-image-one found c h m d ts n one at request means at_is none_at none_next its last grid marks_are n_is old_sink shown main sink shown_is noted (not_kept e like stands adds untold) =
+    → shown ≡ (old_sink ++ whole_report found u) ++ joined_texts (replies_of h)
+    → ((e : Cat) → StandsFor main e → HasLine m.asked.line e.pending) → OneOf at c n request d ts shown main sink → OneOfRun found u (with_one h m d ts) old_sink main sink
+image-one found u c h m d ts n one at request means at_is none_at none_next its last grid marks_are n_is old_sink shown main sink shown_is noted (not_kept e like stands adds untold) =
     let cut = untold_cut ts (reply_text n d.reply ts) one.rest adds.count one.has_bytes one.pieces_first untold in
-    image_by found h m d ts (reply_text n d.reply ts) one old_sink shown sink shown_is adds main e stands
-    (not_changed found h m d ts (reply_text n d.reply ts) one at at_is none_at none_next c its last grid marks_are n n_is e adds.count like cut.0 cut.1)
-image-one found c h m d ts n one at request means at_is none_at none_next its last grid marks_are n_is old_sink shown main sink shown_is noted (in_deed_so e p amid waits stands adds tells) =
-    image_waiting found h m d ts (reply_text n d.reply ts) one old_sink shown sink shown_is adds main e p stands
-    (waiting found h m d ts (reply_text n d.reply ts) one at at_is none_at none_next c its last grid marks_are n n_is e p adds.count request means amid
+    image_by found u h m d ts (reply_text n d.reply ts) one old_sink shown sink shown_is adds main e stands
+    (not_changed found u h m d ts (reply_text n d.reply ts) one at at_is none_at none_next c its last grid marks_are n n_is e adds.count like cut.0 cut.1)
+image-one found u c h m d ts n one at request means at_is none_at none_next its last grid marks_are n_is old_sink shown main sink shown_is noted (in_deed_so e p amid waits stands adds tells) =
+    image_waiting found u h m d ts (reply_text n d.reply ts) one old_sink shown sink shown_is adds main e p stands
+    (waiting found u h m d ts (reply_text n d.reply ts) one at at_is none_at none_next c its last grid marks_are n n_is e p adds.count request means amid
     (subst (HasLine m.asked.line) waits.is (noted e stands)) waits tells)
-image-one found c h m d ts n one at request means at_is none_at none_next its last grid marks_are n_is old_sink shown main sink shown_is noted (kept_so e after stands adds) =
-    image_by found h m d ts (reply_text n d.reply ts) one old_sink shown sink shown_is adds main e stands
-    (follows found h m d ts (reply_text n d.reply ts) one at at_is none_at none_next c its last grid marks_are n n_is e adds.count after
-    (cut_or_full found h m d ts (reply_text n d.reply ts) one old_sink shown sink shown_is adds))
+image-one found u c h m d ts n one at request means at_is none_at none_next its last grid marks_are n_is old_sink shown main sink shown_is noted (kept_so e after stands adds) =
+    image_by found u h m d ts (reply_text n d.reply ts) one old_sink shown sink shown_is adds main e stands
+    (follows found u h m d ts (reply_text n d.reply ts) one at at_is none_at none_next c its last grid marks_are n n_is e adds.count after
+    (cut_or_full found u h m d ts (reply_text n d.reply ts) one old_sink shown sink shown_is adds))
 
 -- ---- texts have bytes
 

@@ -5,7 +5,9 @@ pub mod Goings
 pub mod Causes
 pub mod BuiltOrders
 pub mod Draws
+pub mod Recoveries
 pub mod Images
+pub mod Beginning
 pub mod FirstDeeds
 pub mod Orphans
 pub mod More

@@ -33,6 +33,10 @@ pub all-append : {X : Type 0} (P : X → Type 0) (xs ys : List X) → AllByRecur
 all-append P [] ys one other = other
 all-append P (x ∷ xs) ys one other = (one.0, all-append P xs ys one.1 other)
 
+pub all-back : {X : Type 0} (P : X → Type 0) (xs ys : List X) → AllByRecursion P (xs ++ ys) → AllByRecursion P ys
+all-back P [] ys all = all
+all-back P (x ∷ xs) ys all = all-back P xs ys all.1
+
 pub all-map : {X : Type 0} (P Q : X → Type 0) → ((x : X) → P x → Q x) → (xs : List X) → AllByRecursion P xs → AllByRecursion Q xs
 all-map P Q f [] all = tt
 all-map P Q f (x ∷ xs) all = (f x all.0, all-map P Q f xs all.1)

@@ -1,5 +1,5 @@
 -- One more request, behind those that were handled.
-use Rattle.std.proofs.Common.{◌≡◌, ◌⊎◌, inl, inr, ℕ, ◌+◌, ◌-◌, ◌<◌, ◌≤◌, List, [], ◌∷◌, ◌++◌, length, IsTrue, refl, sym, ap, ◌∙◌, subst, append_assoc, length-append, arith}
+use Rattle.std.proofs.Common.{◌≡◌, ◌⊎◌, inl, inr, ℕ, ◌+◌, ◌<◌, ◌≤◌, List, [], ◌∷◌, ◌++◌, None, length, IsTrue, refl, sym, ap, ◌∙◌, subst, append_assoc, length-append, arith}
 use Rattle.std.specs.List.{AllByRecursion}
 use Rattle.std.proofs.lemmas.Bool.{cases_lt}
 use Rattle.grid_outside.specs.Device.{IsSettled}
@@ -19,15 +19,16 @@ use Rattle.grid_headline.specs.Reads.{MeansRequest, EndsInput}
 use Rattle.grid_headline.specs.Served.{NoneSweeps, joined_texts, marks_of}
 use Rattle.grid_headline.specs.Files.{IsKnown, AreSettled, DisksAreSettled, KeepsReplicas, WereWhole, AllStayWhole, ReplicasStayNamed}
 use Rattle.grid_headline.specs.Causes.{AreCaused}
-use Rattle.grid_headline.specs.Ends.{AllStill, HasOneMore, HasFewOrphans, EndsSwept}
+use Rattle.grid_headline.specs.Ends.{AllStill, HasOneMore, HasFewOrphans, HasRecovery, EndsSwept}
 use Rattle.grid_headline.specs.Stops.{AreFirst}
 use Rattle.grid_headline.specs.Headline.{BeginsOn}
 use Rattle.grid_headline.proofs.OneMeaning.{quits-alone}
 use Rattle.grid_headline.proofs.PutStops.{the_catalogue}
-use Rattle.run_laws.specs.Handled.{Handled, with_one, replies_of, marks_shown, IsOfRun, state_behind, OneOfRun, ShowsMost, whole_report}
+use Rattle.run_laws.specs.Handled.{Handled, with_one, replies_of, marks_told, IsOfRun, state_behind, OneOfRun, ShowsMost}
 use Rattle.run_laws.specs.Steps.{IsToldOf, ComesAfter, kept, unseen, NotesLine, RequestStep, IsHandledWhole}
 use Rattle.run_laws.specs.Silent.{LeavesFew}
 use Rattle.run_laws.specs.Sofar.{Ran, Sofar, KeepsWhole, KeepsNames}
+use Rattle.run_laws.specs.Undone.{Undone, whole_report}
 use Rattle.run_laws.specs.Went.{Went, AreInOrder}
 use Rattle.run_laws.proofs.Texts.{joined-push}
 use Rattle.run_laws.proofs.Lists.{all-append, all-map, marks-push, asked-push, asked-length, after-length, after-push, by_rows-push, state-all, pieces-length, pieces-many, pieces-push, replies-length, replies-push, still-split}
@@ -36,6 +37,7 @@ use Rattle.run_laws.proofs.Goings.{disks-settled, whole-now, known-now, went-the
 use Rattle.run_laws.proofs.Causes.{caused-then}
 use Rattle.run_laws.proofs.Draws.{gave-then}
 use Rattle.run_laws.proofs.BuiltOrders.{built, does-rules, removes_nothing}
+use Rattle.run_laws.proofs.Recoveries.{told-behind}
 use Rattle.run_laws.proofs.Images.{IsOneMore, behind-of, like-of, image-more, image-one, shows-one, shown-taken, pieces-have, reply_has}
 use Rattle.run_laws.proofs.Orphans.{LastOne, swept_last, quit_last, few-before, few-behind, few-swept, last-one, quits-leave, quits-remove}
 
@@ -53,8 +55,8 @@ module _ {B : Type 0} (old now : World B) (found : Cat) (at : State) (asked : Li
   replies-many = replies-length (IsKnown old found) 1 ran.handled.done ran.handled.pieces ran.pieces_are ∙ done-many
 
   -- the state is that behind all of them
-  pub state-now : state_behind found ran.handled (length (replies_of ran.handled)) ≡ at
-  state-now = ap (state_behind found ran.handled) (replies-many ∙ sym done-many) ∙ state-all ran.after
+  pub state-now : state_behind found ran.undone ran.handled (length (replies_of ran.handled)) ≡ at
+  state-now = ap (state_behind found ran.undone ran.handled) (replies-many ∙ sym done-many) ∙ state-all ran.after
 
 module _ {B : Type 0} (old mid : World B) (found c : Cat) (at : State) (asked : List Asked) (so : Sofar old mid found c at asked) where
   module _ (begin : BeginsOn old found) (order : AreInOrder mid) where
@@ -71,9 +73,9 @@ module _ {B : Type 0} (old mid : World B) (found c : Cat) (at : State) (asked : 
         (whole-now old mid so.ran.went begin.main_tells begin.spare_tells order c old.moments so.ran.went.drawn so.stands so_far))
 
     -- what replicas named stays named, where all does from here on
-    pub named-so : (new : World B) → Went mid new → (NoneSweeps old.source.left → KeepsNames mid new c) → NoneSweeps old.source.left → IsSettled old.main
-        → ReplicasStayNamed new old.moments found
-    named-so new then stay none settled t main d late left stands = by (cases_lt mid.moments t)
+    pub named-so : (new : World B) → Went mid new → (NoneSweeps old.source.left → KeepsNames mid new c) → NoneSweeps old.source.left
+        → ¬ HasRecovery found.pending → IsSettled old.main → ReplicasStayNamed new old.moments found
+    named-so new then stay none free settled t main d late left stands = by (cases_lt mid.moments t)
       where
         mid_tells : IsTrue mid.main.tells
         mid_tells = subst IsTrue (sym so.ran.went.main.tells) begin.main_tells
@@ -82,11 +84,11 @@ module _ {B : Type 0} (old mid : World B) (found c : Cat) (at : State) (asked : 
         u = mid.moments + 1
 
         now : KeepsReplicas found c
-        now = so.ran.named none settled u mid.main.holds c (omega (arith, so.ran.went.drawn)) (mid.main.now mid_tells u (omega (arith, order.main_last))) so.stands
+        now = so.ran.named none free settled u mid.main.holds c (omega (arith, so.ran.went.drawn)) (mid.main.now mid_tells u (omega (arith, order.main_last))) so.stands
 
         by : (mid.moments < t) ⊎ (t ≤ mid.moments) → KeepsReplicas found d
         by (inl later) = λ slot name row names is. stay none mid_tells (so.main_settled settled) t main d later left stands slot name (now slot name row names is)
-        by (inr early) = so.ran.named none settled t main d late (then.main.earlier t main early left) stands
+        by (inr early) = so.ran.named none free settled t main d late (then.main.earlier t main early left) stands
 
 -- ---- one more
 
@@ -96,6 +98,9 @@ module _ {B : Type 0} (old mid new : World B) (found c : Cat) (at : State) (aske
     (request : Request) (means : MeansRequest at a request) (step : RequestStep mid new at c (length asked + 1) request) where
   abbrev h : Handled
   h = so.ran.handled
+
+  abbrev u : Undone found
+  u = so.ran.undone
 
   abbrev m : Marked
   m = record { asked = a; marks = step.marks }
@@ -127,12 +132,16 @@ module _ {B : Type 0} (old mid new : World B) (found c : Cat) (at : State) (aske
   pub no-rules : step.d.state.rules ≡ []
   no-rules = does-rules at request step.marks (built means) so.no_rules step.d step.does_so ∙ so.no_rules
 
-  pub told-more : AllByRecursion (IsToldOf known (length old.stores)) (marks_of more.begun)
+  -- the marks of recoveries, of the requests before it, and its own
+  pub marks_more : u.report ++ marks_of more.begun ≡ (u.report ++ marks_of h.begun) ++ step.marks
+  marks_more = ap (λ (x : List Mark). u.report ++ x) (marks-push h.begun m) ∙ sym (append_assoc u.report (marks_of h.begun) step.marks)
+
+  pub told-more : AllByRecursion (IsToldOf known (length old.stores)) (u.report ++ marks_of more.begun)
   told-more =
       let P : List Mark → Type 0 = λ ms. AllByRecursion (IsToldOf known (length old.stores)) ms in
       let N : ℕ → Type 0 = λ k. AllByRecursion (IsToldOf known k) step.marks in
-      subst P (sym (marks-push h.begun m))
-      (all-append (IsToldOf known (length old.stores)) (marks_of h.begun) step.marks so.ran.told_of
+      subst P (sym marks_more)
+      (all-append (IsToldOf known (length old.stores)) (u.report ++ marks_of h.begun) step.marks so.ran.told_of
       (subst N so.ran.went.count (all-map (IsToldOf (IsKnown mid c) (length mid.stores)) (IsToldOf known (length mid.stores))
       (told-less (IsKnown mid c) known (known-so old mid found c at asked so begin order) (length mid.stores)) step.marks step.told_of)))
 
@@ -142,33 +151,47 @@ module _ {B : Type 0} (old mid new : World B) (found c : Cat) (at : State) (aske
 
     -- what a stop leaves
     pub images-more : AreSettled old → (t : ℕ) (main sink : Text) → old.moments < t → new.main.left t main → new.sink.left t sink
-        → OneOfRun found more old.sink.holds main sink
+        → OneOfRun found u more old.sink.holds main sink
     images-more settled t main sink late main_left sink_left = by (cases_lt mid.moments t)
       where
         mid_tells : IsTrue mid.main.tells
         mid_tells = subst IsTrue (sym so.ran.went.main.tells) begin.main_tells
 
-        by : (mid.moments < t) ⊎ (t ≤ mid.moments) → OneOfRun found more old.sink.holds main sink
+        by : (mid.moments < t) ⊎ (t ≤ mid.moments) → OneOfRun found u more old.sink.holds main sink
         by (inl later) =
-            image-one found c h m step.d step.pieces (length asked + 1) one-more at request means (state-now old mid found at asked so.ran) so.no_rules no-rules so.of_run
+            image-one found u c h m step.d step.pieces (length asked + 1) one-more at request means (state-now old mid found at asked so.ran) so.no_rules no-rules so.of_run
             (omega (arith, so.last, replies-many old mid found at asked so.ran)) so.grid step.marks_are (omega (arith, replies-many old mid found at asked so.ran))
             old.sink.holds mid.sink.holds main sink (so.text tells) (λ e stands. noted mid_tells (so.main_settled settled.disks.of_main) t main e later main_left stands)
             (step.images mid_tells sink-mid (so.main_settled settled.disks.of_main) (so.sink_settled tells settled.of_sink) t main sink later main_left sink_left)
         by (inr early) =
-            image-more found h m step.d step.pieces (reply_text (length asked + 1) step.d.reply step.pieces) one-more old.sink.holds main sink
+            image-more found u h m step.d step.pieces (reply_text (length asked + 1) step.d.reply step.pieces) one-more old.sink.holds main sink
             (so.ran.images tells settled t main sink late (then.main.earlier t main early main_left) (then.sink.earlier t sink early sink_left))
 
   -- each of its marks has a text
   pub many_pieces : length step.pieces ≡ length m.marks
   many_pieces = pieces-many (IsKnown mid c) (length asked + 1) 0 step.d.sent step.d.reply.marks step.pieces step.pieces_are ∙ ap length step.marks_are
 
-  abbrev shown-part : IsTrue old.sink.tells → ShowsMost (whole_report found) more old.sink.holds new.sink.holds
-  shown-part tells = shows-one found h m step.d step.pieces (reply_text (length asked + 1) step.d.reply step.pieces) one-more old.sink.holds mid.sink.holds new.sink.holds (so.text tells)
+  abbrev shown-part : IsTrue old.sink.tells → ShowsMost (whole_report found u) more old.sink.holds new.sink.holds
+  shown-part tells = shows-one found u h m step.d step.pieces (reply_text (length asked + 1) step.d.reply step.pieces) one-more old.sink.holds mid.sink.holds new.sink.holds (so.text tells)
       (step.shown (sink-mid tells)).part
+
+  -- the marks that are told are the first of those that were come to
+  pub told-drawn : (tells : IsTrue old.sink.tells) → AreFirst (marks_told found u more (length (shown-part tells).part)) (so.ran.drawn ++ step.taken)
+  told-drawn tells =
+      let s = step.shown (sink-mid tells) in
+      let part = (shown-part tells).part in
+      let first = shown-taken found u h m step.d step.pieces (reply_text (length asked + 1) step.d.reply step.pieces) one-more old.sink.holds mid.sink.holds new.sink.holds
+      (so.text tells) s.part step.taken step.first many_pieces s.few in
+      let all : u.report ++ (marks_of h.begun ++ step.taken) ≡ so.ran.drawn ++ step.taken =
+      sym (append_assoc u.report (marks_of h.begun) step.taken) ∙ ap (λ (x : List Mark). x ++ step.taken) (sym so.all_drawn) in
+      subst (AreFirst (marks_told found u more (length part))) all
+      (told-behind found u more (length part) (marks_of h.begun ++ step.taken)
+      ((shown-part tells).report_first (omega (arith, length-append h.begun (m ∷ [])))) first)
 
   -- it was begun, and maybe not handled whole
   abbrev pub ran-more : Ran old new found step.d.state (asked ++ a ∷ [])
   ran-more = record {
+    undone = u;
     handled = more;
     asked_are = asked-push h.begun m ∙ ap (λ (l : List Asked). l ++ a ∷ []) so.ran.asked_are;
     after = after-push m step.d request so.ran.after means step.does_so step.all;
@@ -178,13 +201,10 @@ module _ {B : Type 0} (old mid new : World B) (found c : Cat) (at : State) (aske
     by_rows = by_rows-push m step.d so.ran.after so.ran.by_rows step.by_rows;
     went = went-then old mid new so.ran.went then;
     shown = shown-part;
-    caused = subst (AreCaused old new) (sym (marks-push h.begun m)) (caused-then old mid new (marks_of h.begun) step.marks so.ran.went.count so.ran.caused step.caused);
+    caused = subst (AreCaused old new) (sym marks_more) (caused-then old mid new (u.report ++ marks_of h.begun) step.marks so.ran.went.count so.ran.caused step.caused);
     drawn = so.ran.drawn ++ step.taken;
     gave = gave-then so.ran.drawn step.taken old.ambient mid.ambient new.ambient so.ran.gave step.gave;
-    told_drawn = λ tells. (let s = step.shown (sink-mid tells) in
-        subst (λ (d : List Mark). AreFirst (marks_shown more (length (shown-part tells).part - length (whole_report found))) (d ++ step.taken)) (sym so.all_drawn)
-        (shown-taken found h m step.d step.pieces (reply_text (length asked + 1) step.d.reply step.pieces) one-more old.sink.holds mid.sink.holds new.sink.holds (so.text tells)
-        s.part step.taken step.first many_pieces s.few));
+    told_drawn = told-drawn;
     whole = whole-so old mid found c at asked so begin order new then stay;
     named = named-so old mid found c at asked so begin order new then names;
     images = images-more;
@@ -192,11 +212,11 @@ module _ {B : Type 0} (old mid new : World B) (found c : Cat) (at : State) (aske
 
   module _ (after : Cat) (end : State) (whole : IsHandledWhole mid new at c (length asked + 1) request step after end) where
     -- all replies are shown
-    pub text-more : IsTrue old.sink.tells → new.sink.holds ≡ (old.sink.holds ++ whole_report found) ++ joined_texts (replies_of more)
+    pub text-more : IsTrue old.sink.tells → new.sink.holds ≡ (old.sink.holds ++ whole_report found u) ++ joined_texts (replies_of more)
     text-more tells =
         whole.text (sink-mid tells) ∙ ap (λ (t : Text). t ++ reply_text (length asked + 1) step.d.reply step.pieces) (so.text tells)
-        ∙ append_assoc (old.sink.holds ++ whole_report found) (joined_texts (replies_of h)) (reply_text (length asked + 1) step.d.reply step.pieces)
-        ∙ ap (λ (t : Text). (old.sink.holds ++ whole_report found) ++ t) (sym (ap joined_texts texts_are ∙ joined-push (replies_of h) (reply_text (length asked + 1) step.d.reply step.pieces)))
+        ∙ append_assoc (old.sink.holds ++ whole_report found u) (joined_texts (replies_of h)) (reply_text (length asked + 1) step.d.reply step.pieces)
+        ∙ ap (λ (t : Text). (old.sink.holds ++ whole_report found u) ++ t) (sym (ap joined_texts texts_are ∙ joined-push (replies_of h) (reply_text (length asked + 1) step.d.reply step.pieces)))
 
     pub of-run-more : IsOfRun found after
     of-run-more = by whole.follows
@@ -216,11 +236,11 @@ module _ {B : Type 0} (old mid new : World B) (found c : Cat) (at : State) (aske
     stands-more = whole.stands (subst IsTrue (sym so.ran.went.main.tells) begin.main_tells)
 
     -- where no orphan was found, all left the grid as it was and told no mark, main has the run's record more
-    pub still-more : found.orphans ≡ [] → AllStill (grid_of found) more.begun more.done
+    pub still-more : found.pending ≡ None → found.orphans ≡ [] → AllStill (grid_of found) more.begun more.done
         → HasOneMore old.main.holds new.main.holds × (grid_of after ≡ grid_of found)
-    still-more clear all =
+    still-more none clear all =
         let two = still-split (grid_of found) h.begun h.done m step.d all in
-        let so_far = so.still clear two.0 in
+        let so_far = so.still none clear two.0 in
         let main : new.main.holds ≡ mid.main.holds =
         whole.still (removes_nothing means two.1.2) two.1.0 (two.1.1 ∙ sym so_far.1) (subst IsTrue (sym so.ran.went.main.tells) begin.main_tells) in (
           subst (HasOneMore old.main.holds) (sym main) so_far.0,
@@ -237,14 +257,14 @@ module _ {B : Type 0} (old mid new : World B) (found c : Cat) (at : State) (aske
         the_catalogue mid.main.holds [] c after (so.stands []) (subst (λ (t : Text). StandsFor t after) main stands-more [])
 
     -- behind a sweep, few orphans are left
-    pub few-more : LeavesFew mid new request step.d after → EndsSwept (state_behind found more) more.begun more.done (length more.begun) → HasFewOrphans old new after
+    pub few-more : LeavesFew mid new request step.d after → EndsSwept (state_behind found u more) more.begun more.done (length more.begun) → HasFewOrphans old new after
     few-more few ends =
-        by (last-one (begins (grid_of found) []) h.begun h.done m step.d many (length-append h.begun (m ∷ [])) ends)
+        by (last-one (begins u.opened.grid []) h.begun h.done m step.d many (length-append h.begun (m ∷ [])) ends)
       where
         many : length h.done ≡ length h.begun
         many = done-many old mid found at asked so.ran ∙ sym (begun-many old mid found at asked so.ran)
 
-        by : LastOne (begins (grid_of found) []) h.begun h.done m step.d many → HasFewOrphans old new after
+        by : LastOne (begins u.opened.grid []) h.begun h.done m step.d many → HasFewOrphans old new after
         by (swept_last session be asks ok) = few-before old mid new after so.ran.went (few-swept mid new be at a session request step.d after asks means few ok)
         by (quit_last quits before) =
             subst (HasFewOrphans old new) (sym (catalogue-left quits)) (few-behind old mid new c then (so.few before))
@@ -254,7 +274,7 @@ module _ {B : Type 0} (old mid new : World B) (found c : Cat) (at : State) (aske
     sofar_did few goes_on = record {
       ran = ran-more;
       none_end = all-append (λ (x : Asked). ¬ EndsInput x) asked (a ∷ []) so.none_end (goes_on, tt);
-      all_drawn = ap (λ (d : List Mark). d ++ step.taken) so.all_drawn ∙ ap (λ (d : List Mark). marks_of h.begun ++ d) whole.all_taken ∙ sym (marks-push h.begun m);
+      all_drawn = ap (λ (d : List Mark). d ++ step.taken) so.all_drawn ∙ ap (λ (d : List Mark). (u.report ++ marks_of h.begun) ++ d) whole.all_taken ∙ sym marks_more;
       text = text-more;
       of_run = of-run-more;
       last = last_more;

@@ -16,15 +16,17 @@ use Rattle.grid_headline.specs.Files.{AreSettled}
 use Rattle.grid_headline.specs.Served.{NoneSweeps, joined_texts, whole_in, marks_of}
 use Rattle.grid_headline.specs.Stops.{AreFirst}
 use Rattle.grid_headline.specs.Headline.{BeginsOn}
-use Rattle.run_laws.specs.Handled.{Handled, replies_of, marks_shown, marks_within, reached_by, state_behind, IsBehindSome, OneOfRun, in_run, ShowsMost, whole_report}
+use Rattle.run_laws.specs.Handled.{Handled, replies_of, marks_told, marks_within, reached_by, state_behind, IsBehindSome, OneOfRun, in_run, ShowsMost}
 use Rattle.run_laws.specs.Steps.{IsLike, Gave, IsQuiet}
 use Rattle.run_laws.specs.Sofar.{Ran, Sofar, KeepsWhole, KeepsNames}
+use Rattle.run_laws.specs.Undone.{Undone, whole_report}
 use Rattle.run_laws.specs.Went.{Went, AreInOrder}
 use Rattle.run_laws.proofs.Texts.{whole-all}
 use Rattle.run_laws.proofs.Goings.{went-then}
 use Rattle.run_laws.proofs.Causes.{caused-on}
 use Rattle.run_laws.proofs.Draws.{gave-then, shown-first}
-use Rattle.run_laws.proofs.Images.{like-of, shows-all}
+use Rattle.run_laws.proofs.Recoveries.{told-behind}
+use Rattle.run_laws.proofs.Images.{like-of, shows-all, shows-whole}
 use Rattle.run_laws.proofs.More.{begun-many, replies-many, state-now, whole-so, named-so}
 
 module _ {B : Type 0} (old mid new : World B) (found c : Cat) (at : State) (asked : List Asked) (begin : BeginsOn old found) (order : AreInOrder mid)
@@ -33,23 +35,26 @@ module _ {B : Type 0} (old mid new : World B) (found c : Cat) (at : State) (aske
   abbrev h : Handled
   h = so.ran.handled
 
+  abbrev u : Undone found
+  u = so.ran.undone
+
   abbrev bytes : ℕ
   bytes = length (joined_texts (replies_of h))
 
   abbrev report : Text
-  report = whole_report found
+  report = whole_report found u
 
   pub sink-mid : IsTrue old.sink.tells → IsTrue mid.sink.tells
   sink-mid tells = subst IsTrue (sym so.ran.went.sink.tells) tells
 
   -- a catalogue in which nothing is seen to be changed, with all replies shown
-  like_all : (e : Cat) → IsLike c e → IsBehindSome found h e bytes
+  like_all : (e : Cat) → IsLike c e → IsBehindSome found u h e bytes
   like_all e like =
       let w : whole_in (replies_of h) bytes ≡ length (replies_of h) = whole-all (replies_of h) in
       let many = replies-many old mid found at asked so.ran in
       let many_begun = begun-many old mid found at asked so.ran in
-      let r : reached_by found h e bytes ≡ length (replies_of h) = ap (λ k. max k e.numbers.last) w ∙ omega (arith, like.last, so.last, many) in
-      let s : state_behind found h (reached_by found h e bytes) ≡ at = ap (state_behind found h) r ∙ state-now old mid found at asked so.ran in
+      let r : reached_by found u h e bytes ≡ length (replies_of h) = ap (λ k. max k e.numbers.last) w ∙ omega (arith, like.last, so.last, many) in
+      let s : state_behind found u h (reached_by found u h e bytes) ≡ at = ap (state_behind found u h) r ∙ state-now old mid found at asked so.ran in
       record {
         of_run = like-of found c e so.of_run like;
         within = omega (arith, r, many, many_begun);
@@ -62,25 +67,35 @@ module _ {B : Type 0} (old mid new : World B) (found c : Cat) (at : State) (aske
       }
 
   pub images-quiet : IsTrue old.sink.tells → AreSettled old → (t : ℕ) (main sink : Text) → old.moments < t → new.main.left t main → new.sink.left t sink
-      → OneOfRun found h old.sink.holds main sink
+      → OneOfRun found u h old.sink.holds main sink
   images-quiet tells settled t main sink late main_left sink_left = by (cases_lt mid.moments t)
     where
-      by : (mid.moments < t) ⊎ (t ≤ mid.moments) → OneOfRun found h old.sink.holds main sink
+      by : (mid.moments < t) ⊎ (t ≤ mid.moments) → OneOfRun found u h old.sink.holds main sink
       by (inl later) =
           let q = quiet.images (subst IsTrue (sym so.ran.went.main.tells) begin.main_tells) (sink-mid tells) (so.main_settled settled.disks.of_main)
           (so.sink_settled tells settled.of_sink) t main sink later main_left sink_left in
           let behind : bytes ≡ length (report ++ joined_texts (replies_of h)) - length report = omega (arith, length-append report (joined_texts (replies_of h))) in
           in_run q.0 (report ++ joined_texts (replies_of h)) [] q.2 (q.3 ∙ so.text tells ∙ append_assoc old.sink.holds report (joined_texts (replies_of h)))
-          (sym (append-nil (report ++ joined_texts (replies_of h)))) (subst (IsBehindSome found h q.0) behind (like_all q.0 q.1))
+          (sym (append-nil (report ++ joined_texts (replies_of h)))) (subst (IsBehindSome found u h q.0) behind (like_all q.0 q.1))
       by (inr early) = so.ran.images tells settled t main sink late (then.main.earlier t main early main_left) (then.sink.earlier t sink early sink_left)
 
   pub shown_all : IsTrue old.sink.tells → ShowsMost report h old.sink.holds new.sink.holds
   shown_all tells = shows-all report h old.sink.holds new.sink.holds (begun-many old mid found at asked so.ran ∙ sym (replies-many old mid found at asked so.ran))
       (quiet.sink (sink-mid tells) ∙ so.text tells)
 
+  -- all marks that are told were come to
+  pub told-drawn : (tells : IsTrue old.sink.tells) → AreFirst (marks_told found u h (length (shown_all tells).part)) so.ran.drawn
+  unfolding shown_all
+  told-drawn tells =
+      let part = (shown_all tells).part in
+      subst (AreFirst (marks_told found u h (length part))) (sym so.all_drawn)
+      (told-behind found u h (length part) (marks_of h.begun) (shows-whole report h old.sink.holds new.sink.holds (begun-many old mid found at asked so.ran ∙ sym (replies-many old mid found at asked so.ran))
+      (quiet.sink (sink-mid tells) ∙ so.text tells)) (shown-first h (length part - length report)))
+
   -- nothing is seen of what came behind
   abbrev pub ran-quiet : Ran old new found at asked
   ran-quiet = record {
+    undone = u;
     handled = h;
     asked_are = so.ran.asked_are;
     after = so.ran.after;
@@ -89,12 +104,11 @@ module _ {B : Type 0} (old mid new : World B) (found c : Cat) (at : State) (aske
     by_rows = so.ran.by_rows;
     went = went-then old mid new so.ran.went then;
     shown = shown_all;
-    caused = caused-on old mid new (marks_of h.begun) then so.ran.caused;
+    caused = caused-on old mid new (u.report ++ marks_of h.begun) then so.ran.caused;
     drawn = so.ran.drawn;
     gave = λ tells. (let P : List Mark → Type 0 = λ ms. Gave ms old.ambient new.ambient in
         subst P (append-nil so.ran.drawn) (gave-then so.ran.drawn [] old.ambient mid.ambient new.ambient so.ran.gave quiet.gave tells));
-    told_drawn = λ tells. subst (AreFirst (marks_shown h (length (shown_all tells).part - length report))) (sym so.all_drawn)
-        (shown-first h (length (shown_all tells).part - length report));
+    told_drawn = told-drawn;
     whole = whole-so old mid found c at asked so begin order new then stay;
     named = named-so old mid found c at asked so begin order new then names;
     images = images-quiet;
@@ -111,6 +125,7 @@ module _ {B : Type 0} (old now : World B) (source : SourceState) where
 
   pub ran-read : (found : Cat) (at : State) (asked : List Asked) → Ran old now found at asked → Ran old read_on found at asked
   ran-read found at asked ran = record {
+    undone = ran.undone;
     handled = ran.handled;
     asked_are = ran.asked_are;
     after = ran.after;

@@ -3,7 +3,6 @@ use Rattle.std.proofs.Common.{inl, inr, ◌+◌, List, [], ◌∷◌, ◌++◌, 
 use Rattle.std.specs.List.{AllByRecursion}
 use Rattle.grid_outside.specs.Source.{SourceState}
 use Rattle.grid_model.specs.Rows.{Cat}
-use Rattle.grid_model.specs.RowGrids.{grid_of}
 use Rattle.grid_model.specs.Beginning.{begins}
 use Rattle.grid_model.specs.Inputs.{Asked, none_taken}
 use Rattle.grid_model.specs.Sessions.{State}
@@ -16,9 +15,8 @@ use Rattle.grid_headline.specs.Headline.{Serves}
 use Rattle.run_laws.specs.Ends.{ReadsSo, StopsSo, IsGoodIfNoneFailed}
 use Rattle.run_laws.specs.Opening.{Opens, Opened}
 use Rattle.run_laws.specs.Silent.{IsSwept, LeavesFew, Sweeps}
-use Rattle.run_laws.specs.Sofar.{run_begun, BeginsPlainly, CallsGoOn, Sofar}
+use Rattle.run_laws.specs.Sofar.{BeginsPlainly, CallsGoOn, Sofar}
 use Rattle.run_laws.specs.Steps.{NotesLine, RequestStep, IsHandledWhole, IsQuiet}
-use Rattle.run_laws.specs.Went.{AreInOrder}
 use Rattle.run_laws.proofs.More.{ran-more, no-rules, text-more, of-run-more, stands-more, still-more, few-more, sofar-more}
 use Rattle.run_laws.proofs.Opening.{ran-none}
 use Rattle.run_laws.proofs.Quiet.{ran-quiet, sofar-read}
@@ -28,10 +26,10 @@ use Rattle.run_laws.proofs.Silent.{ran-swept, sofar-swept}
 -- ---- how it goes on
 
 -- the run is begun, and has swept
-pub none_yet : {B : Type 0} {old mid now : World B} {found c : Cat} → BeginsPlainly old found → AreInOrder old → Opened old mid found
-    → Sweeps mid now (run_begun found) → IsSwept mid now (run_begun found) c → Sofar old now found c (begins (grid_of found) []) []
-none_yet {old = old} {mid = mid} {now = now} {found = found} {c = c} plain order opened sweeps swept =
-    sofar-swept old mid now found plain.begin order plain.rules opened sweeps c swept
+pub none_yet : {B : Type 0} {old mid now : World B} {found begun c : Cat} → BeginsPlainly old found → (opened : Opened old mid found begun)
+    → Sweeps mid now begun → IsSwept mid now begun c → Sofar old now found c (begins opened.opens.undone.opened.grid []) []
+none_yet {old = old} {mid = mid} {now = now} {found = found} {begun = begun} {c = c} plain opened sweeps swept =
+    sofar-swept old mid now found begun plain.begin opened sweeps c swept
 
 -- the source alone was read
 pub read_on : {B : Type 0} {old now : World B} {found c : Cat} {at : State} {asked : List Asked} (source : SourceState) → Sofar old now found c at asked
@@ -61,18 +59,17 @@ end-behind [] a none = tt
 end-behind (x ∷ []) a none = (none.0, tt)
 end-behind (x ∷ y ∷ more) a none = (none.0, end-behind (y ∷ more) a none.1)
 
--- nothing was asked of it, and maybe it is not begun
-pub ends_before : {B : Type 0} {old now : World B} {found : Cat} {end : RunEnd} → BeginsPlainly old found → AreInOrder old → Opens old now found
-    → StopsSo old now found (begins (grid_of found) []) [] end → IsGoodIfNoneFailed old now end → Serves old now found end
-ends_before {old = old} {now = now} {found = found} {end = end} plain order opens stops good =
-    serves old now found (begins (grid_of found) []) [] plain.pending plain.rules (ran-none old now found plain.begin order plain.rules opens)
-    (inl (old.source.left, none_taken)) tt end (inr stops) good
+-- nothing was asked of it, and maybe not all was undone, or it is not begun
+pub ends_before : {B : Type 0} {old now : World B} {found : Cat} {end : RunEnd} → BeginsPlainly old found → (opens : Opens old now found)
+    → StopsSo old now found (begins opens.undone.opened.grid []) [] end → IsGoodIfNoneFailed old now end → Serves old now found end
+ends_before {old = old} {now = now} {found = found} {end = end} plain opens stops good =
+    serves old now found (begins opens.undone.opened.grid []) [] plain.rules (ran-none old now found opens) (inl (old.source.left, none_taken)) tt end (inr stops) good
 
 -- the run is begun, and maybe has not swept all
-pub ends_swept : {B : Type 0} {old mid now : World B} {found : Cat} {end : RunEnd} → BeginsPlainly old found → AreInOrder old → Opened old mid found
-    → Sweeps mid now (run_begun found) → StopsSo old now found (begins (grid_of found) []) [] end → IsGoodIfNoneFailed old now end → Serves old now found end
-ends_swept {old = old} {mid = mid} {now = now} {found = found} {end = end} plain order opened sweeps stops good =
-    serves old now found (begins (grid_of found) []) [] plain.pending plain.rules (ran-swept old mid now found plain.begin order plain.rules opened sweeps)
+pub ends_swept : {B : Type 0} {old mid now : World B} {found begun : Cat} {end : RunEnd} → BeginsPlainly old found → (opened : Opened old mid found begun)
+    → Sweeps mid now begun → StopsSo old now found (begins opened.opens.undone.opened.grid []) [] end → IsGoodIfNoneFailed old now end → Serves old now found end
+ends_swept {old = old} {mid = mid} {now = now} {found = found} {begun = begun} {end = end} plain opened sweeps stops good =
+    serves old now found (begins opened.opens.undone.opened.grid []) [] plain.rules (ran-swept old mid now found begun plain.begin opened sweeps)
     (inl (old.source.left, none_taken)) tt end (inr stops) good
 
 -- the input was read, and all is answered
@@ -80,21 +77,21 @@ pub ends_well : {B : Type 0} {old now : World B} {found c : Cat} {at : State} {a
     → Sofar old now found c at asked
     → BeginsWithRequests old.source.left asked → ReadsSo asked old.source now.source end → IsGoodIfNoneFailed old now end → Serves old now found end
 ends_well {old = old} {now = now} {found = found} {c = c} {at = at} {asked = asked} {end = end} plain so first reads good =
-    serves old now found at asked plain.pending plain.rules so.ran first (end-last asked so.none_end) end
-    (inl (record { text = so.text; cat = c; stands = so.stands; of_run = so.of_run; grid = so.grid; no_rules = so.no_rules; still = λ clear all. (so.still clear all).0; few = so.few }, reads)) good
+    serves old now found at asked plain.rules so.ran first (end-last asked so.none_end) end
+    (inl (record { text = so.text; cat = c; stands = so.stands; of_run = so.of_run; grid = so.grid; no_rules = so.no_rules; still = λ none clear all. (so.still none clear all).0; few = so.few }, reads)) good
 
 -- something ran out before anything was done for another request
 pub ends_idle : {B : Type 0} {old now : World B} {found c : Cat} {at : State} {asked : List Asked} {end : RunEnd} → BeginsPlainly old found
     → Sofar old now found c at asked → BeginsWithRequests old.source.left asked → StopsSo old now found at asked end → IsGoodIfNoneFailed old now end → Serves old now found end
 ends_idle {old = old} {now = now} {found = found} {at = at} {asked = asked} {end = end} plain so first stops good =
-    serves old now found at asked plain.pending plain.rules so.ran first (end-last asked so.none_end) end (inr stops) good
+    serves old now found at asked plain.rules so.ran first (end-last asked so.none_end) end (inr stops) good
 
 -- something ran out or failed, and nothing is seen of what was done for it
 pub ends_quiet : {B : Type 0} {old mid new : World B} {found c : Cat} {at : State} {asked : List Asked} {end : RunEnd} → BeginsPlainly old found
     → Sofar old mid found c at asked → CallsGoOn old.source.left mid new c → IsQuiet mid new c → BeginsWithRequests old.source.left asked → StopsSo old new found at asked end
     → IsGoodIfNoneFailed old new end → Serves old new found end
 ends_quiet {old = old} {mid = mid} {new = new} {found = found} {c = c} {at = at} {asked = asked} {end = end} plain so goes quiet first stops good =
-    serves old new found at asked plain.pending plain.rules (ran-quiet old mid new found c at asked plain.begin goes.order so goes.went goes.whole goes.names quiet) first
+    serves old new found at asked plain.rules (ran-quiet old mid new found c at asked plain.begin goes.order so goes.went goes.whole goes.names quiet) first
     (end-last asked so.none_end) end (inr stops) good
 
 module _ {B : Type 0} {old mid new : World B} {found c : Cat} {at : State} {asked : List Asked} {a : Asked} {request : Request} {end : RunEnd}
@@ -105,7 +102,7 @@ module _ {B : Type 0} {old mid new : World B} {found c : Cat} {at : State} {aske
   -- something ran out or failed in a request, which was begun and may not be shown whole
   pub ends_within : StopsSo old new found step.d.state (asked ++ a ∷ []) end → IsGoodIfNoneFailed old new end → Serves old new found end
   ends_within stops good =
-      serves old new found step.d.state (asked ++ a ∷ []) plain.pending plain.rules
+      serves old new found step.d.state (asked ++ a ∷ []) plain.rules
       (ran-more old mid new found c at asked plain.begin goes.order so goes.went goes.whole goes.names a noted request means step) first (end-behind asked a so.none_end) end (inr stops) good
 
   -- the input ended with a request, which was handled whole
@@ -113,7 +110,7 @@ module _ {B : Type 0} {old mid new : World B} {found c : Cat} {at : State} {aske
       → ReadsSo (asked ++ a ∷ []) old.source new.source end
       → IsGoodIfNoneFailed old new end → Serves old new found end
   ends_with {after = after} {left = left} few whole reads good =
-      serves old new found step.d.state (asked ++ a ∷ []) plain.pending plain.rules
+      serves old new found step.d.state (asked ++ a ∷ []) plain.rules
       (ran-more old mid new found c at asked plain.begin goes.order so goes.went goes.whole goes.names a noted request means step) first (end-behind asked a so.none_end) end
       (inl (
         record {
@@ -123,7 +120,7 @@ module _ {B : Type 0} {old mid new : World B} {found c : Cat} {at : State} {aske
           of_run = of-run-more old mid new found c at asked plain.begin goes.order so goes.went goes.whole goes.names a noted request means step after left whole;
           grid = whole.grid ∙ ap (λ (s : State). s.grid) (sym whole.state);
           no_rules = no-rules old mid new found c at asked plain.begin goes.order so goes.went goes.whole goes.names a noted request means step;
-          still = λ clear all. (still-more old mid new found c at asked plain.begin goes.order so goes.went goes.whole goes.names a noted request means step after left whole clear all).0;
+          still = λ none clear all. (still-more old mid new found c at asked plain.begin goes.order so goes.went goes.whole goes.names a noted request means step after left whole none clear all).0;
           few = few-more old mid new found c at asked plain.begin goes.order so goes.went goes.whole goes.names a noted request means step after left whole few;
         },
         reads,

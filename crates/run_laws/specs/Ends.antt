@@ -1,5 +1,5 @@
 -- How a run ends, by the requests that were handled.
-use Rattle.std.specs.Prelude.{◌≡◌, ◌⊎◌, ℕ, ◌+◌, ◌^◌, ◌≤◌, List, [], ◌∷◌, ◌++◌, Ok, length, IsTrue}
+use Rattle.std.specs.Prelude.{◌≡◌, ◌⊎◌, ℕ, ◌+◌, ◌^◌, ◌≤◌, List, [], ◌∷◌, ◌++◌, None, Ok, length, IsTrue}
 use Rattle.grid_outside.specs.Source.{SourceState}
 use Rattle.grid_outside.specs.declared.outside.Wear.{Wear}
 use Rattle.grid_outside.specs.declared.outside.Wear.TheVariants as wear
@@ -16,9 +16,10 @@ use Rattle.grid_headline.specs.Reads.{MeansRequest}
 use Rattle.grid_headline.specs.Causes.{NoneFailed}
 use Rattle.grid_headline.specs.Served.{BeginsWithRequests, joined_texts}
 use Rattle.grid_headline.specs.Ends.{RunEnd, read_all, source_failed, too_long, worn, no_memory, disk_failed, sink_failed}
-use Rattle.grid_headline.specs.Ends.{EndsInRequest, EndsAtEnd, ReadsEnded, ReadsMost, HasRunOut, AllStill, HasOneMore, HasFewOrphans, EndsSwept}
+use Rattle.grid_headline.specs.Ends.{EndsInRequest, EndsAtEnd, ReadsEnded, ReadsMost, HasRecovery, HasRunOut, AllStill, HasOneMore, HasFewOrphans, EndsSwept}
 use Rattle.grid_headline.specs.Headline.{IsGoodEnd}
-use Rattle.run_laws.specs.Handled.{Handled, replies_of, state_behind, IsOfRun, whole_report}
+use Rattle.run_laws.specs.Handled.{Handled, replies_of, state_behind, IsOfRun}
+use Rattle.run_laws.specs.Undone.{Undone, whole_report}
 
 -- ---- the input was read
 
@@ -30,15 +31,15 @@ ReadsSo asked from to (too_long taken) = ReadsMost asked from to × (taken ≡ 2
 ReadsSo asked from to other = ⊥
 
 -- The report and all replies are shown, and main stands for what the requests left.
-pub record IsAnswered {B : Type 0} (old new : World B) (found : Cat) (at : State) (h : Handled) : Type 0 where
-  pub text : IsTrue old.sink.tells → new.sink.holds ≡ (old.sink.holds ++ whole_report found) ++ joined_texts (replies_of h)
+pub record IsAnswered {B : Type 0} (old new : World B) (found : Cat) (at : State) (u : Undone found) (h : Handled) : Type 0 where
+  pub text : IsTrue old.sink.tells → new.sink.holds ≡ (old.sink.holds ++ whole_report found u) ++ joined_texts (replies_of h)
   pub cat : Cat
   pub stands : StandsFor new.main.holds cat
   pub of_run : IsOfRun found cat
   pub grid : grid_of cat ≡ at.grid
   pub no_rules : at.rules ≡ []
-  pub still : found.orphans ≡ [] → AllStill (grid_of found) h.begun h.done → HasOneMore old.main.holds new.main.holds
-  pub few : EndsSwept (state_behind found h) h.begun h.done (length h.begun) → HasFewOrphans old new cat
+  pub still : found.pending ≡ None → found.orphans ≡ [] → AllStill (grid_of found) h.begun h.done → HasOneMore old.main.holds new.main.holds
+  pub few : EndsSwept (state_behind found u h) h.begun h.done (length h.begun) → HasFewOrphans old new cat
 
 -- ---- something ran out or failed
 
@@ -59,15 +60,15 @@ pub record NextMakesFile (input : Text) (at : State) (asked : List Asked) : Type
   pub makes : MakesFile order
 
 -- why the run needed what had run out
-abbrev pub NeedsSo : Text → State → List Asked → Wear → Type 0
-NeedsSo input at asked wear.Runs = asked ≡ []
-NeedsSo input at asked wear.Vaults = NextMakesFile input at asked
-NeedsSo input at asked wear.Log = Unit {0}
+abbrev pub NeedsSo : Cat → Text → State → List Asked → Wear → Type 0
+NeedsSo found input at asked wear.Runs = asked ≡ []
+NeedsSo found input at asked wear.Vaults = NextMakesFile input at asked ⊎ HasRecovery found.pending
+NeedsSo found input at asked wear.Log = Unit {0}
 
 module _ {B : Type 0} (old new : World B) where
   -- an end at which not all is answered
   abbrev pub StopsSo : Cat → State → List Asked → RunEnd → Type 0
-  StopsSo found at asked (worn what place) = HasRunOut found new.main.holds new.spare.holds place what × NeedsSo old.source.left at asked what
+  StopsSo found at asked (worn what place) = HasRunOut found new.main.holds new.spare.holds place what × NeedsSo found old.source.left at asked what
   StopsSo found at asked no_memory = Unit {0}
   StopsSo found at asked disk_failed = Unit {0}
   StopsSo found at asked sink_failed = Unit {0}

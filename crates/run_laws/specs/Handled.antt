@@ -10,14 +10,14 @@ use Rattle.grid_model.specs.Working.{Done}
 use Rattle.grid_model.specs.Runs.{Marked, Request, state_after}
 use Rattle.grid_model.specs.declared.deltas.Pending.{Pending}
 use Rattle.grid_model.specs.declared.marks.Mark.{Mark}
-use Rattle.grid_model.specs.declared.replies.Passed.{Passed}
 use Rattle.grid_journal.specs.Stands.{StandsFor}
 use Rattle.grid_headline.specs.Draws.{with_marks}
-use Rattle.grid_headline.specs.Served.{joined_texts, marks_of, reply_texts, report_front, report_back, whole_in}
+use Rattle.grid_headline.specs.Served.{joined_texts, marks_of, reply_texts, report_told, whole_in}
 use Rattle.grid_headline.specs.Numbers.{KeepsNumbers}
-use Rattle.grid_headline.specs.Stops.{AreFirst}
+use Rattle.grid_headline.specs.Stops.{AreFirst, IsBeforeRun, KeepsReport}
 use Rattle.grid_headline.specs.Reads.{MeansRequest}
 use Rattle.run_laws.specs.Steps.{WaitsInDeed}
+use Rattle.run_laws.specs.Undone.{Undone, report_begun, whole_report, recoveries_told}
 
 -- requests with their marks, what each did, and the texts of its marks
 pub record Handled : Type 0 where
@@ -52,26 +52,6 @@ marks_shown h count =
     let n = whole_in (replies_of h) count in
     marks_of (take n h.begun ++ with_marks (told_within h n count) (slice_get h.begun n))
 
--- ---- the report
-
--- the recoveries of a command that were refused
-abbrev pub passed_of : Option Pending → List Passed
-passed_of None = []
-passed_of (Some p) = p.passed
-
--- what is told of the pending command before the run is begun: the marks that were kept, and that it was stopped
-abbrev pub report_begun : Cat → Text
-report_begun found = joined_texts (report_front found.pending [])
-
--- the whole report of a pending command without recoveries; where none is pending there is none
-abbrev pub whole_report : Cat → Text
-whole_report found = report_begun found ++ report_back found.pending (passed_of found.pending)
-
--- a pending command has no recoveries that are still to be run
-abbrev pub HasNoRecovery : Option Pending → Type 0
-HasNoRecovery None = Unit {0}
-HasNoRecovery (Some p) = p.undo ≡ []
-
 -- ---- catalogues and images
 
 -- what the catalogues of a run that was begun have in common
@@ -89,14 +69,21 @@ pub record IsOfRun (found c : Cat) : Type 0 where
   pub keeps : KeepsNumbers found c
   pub stores : c.stores ≡ found.stores
 
-module _ (found : Cat) (h : Handled) where
+-- The run is not begun: what was pending is so still, no file is lost track of, and the marks of the report that are told are kept.
+pub record IsUnbegun (found : Cat) (u : Undone found) (c : Cat) (count : ℕ) : Type 0 where
+  pub before : IsBeforeRun found u.report c count
+  pub told : KeepsReport found u.report c (report_told found.pending u.report count) c.pending
+  pub keeps : KeepsNumbers found c
+  pub stores : c.stores ≡ found.stores
+
+module _ (found : Cat) (u : Undone found) (h : Handled) where
   -- how many requests are done where the catalogue is so and so many bytes were written
   abbrev pub reached_by : Cat → ℕ → ℕ
   reached_by c count = max (whole_in (replies_of h) count) c.numbers.last
 
   -- the state that the first n requests leave
   abbrev pub state_behind : ℕ → State
-  state_behind n = state_after (begins (grid_of found) []) h.done n
+  state_behind n = state_after (begins u.opened.grid []) h.done n
 
   -- The catalogue is that of the run behind as many requests as are shown or, if these are more, as it says itself.
   pub record IsBehindSome (c : Cat) (count : ℕ) : Type 0 where
@@ -127,18 +114,23 @@ module _ (found : Cat) (h : Handled) where
     pub waits_behind : WaitsBehind c p n
     pub told : AreFirst (told_within h (whole_in (replies_of h) count) count) p.marks
 
-  -- What a stop leaves of main, and of the sink that had these bytes before: main stands for what was found and no more is shown than what
-  -- is told before the run is begun, or it stands for a catalogue of the run, in which the next request may be pending, and a front of the
-  -- report and the replies is shown.
+  -- What a stop leaves of main, and of the sink that had these bytes before: the run is not begun and no more is shown than what is told
+  -- until then, or main stands for a catalogue of the run, in which the next request may be pending, and a front of the report and the replies
+  -- is shown.
   pub data OneOfRun (old_sink main sink : Text) : Type 0 where
-    not_begun : StandsFor main found → AddsPart (report_begun found) old_sink sink → OneOfRun old_sink main sink
+    not_begun : (c : Cat) → StandsFor main c → (part : AddsPart (report_begun found u) old_sink sink) → IsUnbegun found u c part.count
+        → OneOfRun old_sink main sink
     in_run : (c : Cat) (part more : Text) → StandsFor main c → sink ≡ old_sink ++ part
-        → whole_report found ++ joined_texts (replies_of h) ≡ part ++ more
-        → IsBehindSome c (length part - length (whole_report found))
+        → whole_report found u ++ joined_texts (replies_of h) ≡ part ++ more
+        → IsBehindSome c (length part - length (whole_report found u))
         → OneOfRun old_sink main sink
     in_deed_of_run : (c : Cat) (p : Pending) (n : ℕ) (part more : Text) → StandsFor main c → sink ≡ old_sink ++ part
-        → whole_report found ++ joined_texts (replies_of h) ≡ part ++ more
-        → IsAmidSome c p n (length part - length (whole_report found)) → OneOfRun old_sink main sink
+        → whole_report found u ++ joined_texts (replies_of h) ≡ part ++ more
+        → IsAmidSome c p n (length part - length (whole_report found u)) → OneOfRun old_sink main sink
+
+  -- the marks of this run that are told, where so many bytes were written: those of recoveries, and those of requests
+  abbrev pub marks_told : ℕ → List Mark
+  marks_told count = recoveries_told found u count ++ marks_shown h (count - length (whole_report found u))
 
 -- A front of this report and of the replies is shown, with at least all but the last of these texts.
 pub record ShowsMost (report : Text) (h : Handled) (old_sink sink : Text) : Type 0 where

@@ -7,4 +7,5 @@ pub mod Silent
 pub mod Sofar
 pub mod Steps
 pub mod Surrounding
+pub mod Undone
 pub mod Went

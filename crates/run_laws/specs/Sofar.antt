@@ -1,5 +1,5 @@
 -- The requests of a run that were handled so far.
-use Rattle.std.specs.Prelude.{◌≡◌, ℕ, ◌+◌, ◌-◌, ◌<◌, ◌≤◌, List, [], ◌∷◌, ◌++◌, None, length, IsTrue}
+use Rattle.std.specs.Prelude.{◌≡◌, ℕ, ◌<◌, ◌≤◌, List, [], ◌∷◌, ◌++◌, None, length, IsTrue}
 use Rattle.std.specs.List.{AllByRecursion}
 use Rattle.grid_outside.specs.Device.{IsSettled}
 use Rattle.grid_model.specs.Names.{Text}
@@ -18,16 +18,13 @@ use Rattle.grid_headline.specs.Reads.{MeansRequest, EndsInput}
 use Rattle.grid_headline.specs.Served.{AllPieces, NoneSweeps, joined_texts, marks_of, asked_of}
 use Rattle.grid_headline.specs.Files.{IsKnown, AreSettled, DisksAreSettled, WereWhole, AllStayWhole, StayNamed, ReplicasStayNamed}
 use Rattle.grid_headline.specs.Causes.{AreCaused}
-use Rattle.grid_headline.specs.Ends.{AllStill, HasOneMore, HasFewOrphans, EndsSwept}
+use Rattle.grid_headline.specs.Ends.{AllStill, HasOneMore, HasFewOrphans, HasRecovery, EndsSwept}
 use Rattle.grid_headline.specs.Stops.{AreFirst}
 use Rattle.grid_headline.specs.Headline.{BeginsOn}
-use Rattle.run_laws.specs.Handled.{Handled, replies_of, marks_shown, state_behind, HasNoRecovery, IsOfRun, OneOfRun, ShowsMost, whole_report}
+use Rattle.run_laws.specs.Handled.{Handled, replies_of, marks_told, state_behind, IsOfRun, OneOfRun, ShowsMost}
 use Rattle.run_laws.specs.Steps.{Gave, IsToldOf}
+use Rattle.run_laws.specs.Undone.{Undone, whole_report}
 use Rattle.run_laws.specs.Went.{Went, AreInOrder}
-
--- the catalogue of the next run, of which no command has changed anything and none is pending
-abbrev pub run_begun : Cat → Cat
-run_begun c = record c { numbers = record { next_vault = c.numbers.next_vault; run = c.numbers.run + 1; last = 0 }; pending = None }
 
 -- each of them ends by rows where its marks are clean
 abbrev pub AllByRows : List Marked → List Done → Type 0
@@ -50,49 +47,50 @@ pub record CallsGoOn {B : Type 0} (input : Text) (mid new : World B) (c : Cat) :
   pub whole : KeepsWhole mid new c
   pub names : NoneSweeps input → KeepsNames mid new c
 
--- The run begins on a catalogue without rules, and without a pending command that has recoveries.
+-- The run begins on a catalogue without rules.
 pub record BeginsPlainly {B : Type 0} (old : World B) (found : Cat) : Type 0 where
   pub begin : BeginsOn old found
-  pub pending : HasNoRecovery found.pending
   pub rules : found.rules ≡ []
 
--- Requests that were begun from the first world over a catalogue without rules to the second: what they did, what
--- is shown of them, what a stop leaves, and that what their marks tell has its cause.
+-- A run from the first world to the second, over a catalogue without rules: what was undone, the requests that were begun, what they did,
+-- what is shown of all, what a stop leaves, and that what marks tell has its cause.
 pub record Ran {B : Type 0} (old now : World B) (found : Cat) (at : State) (asked : List Asked) : Type 0 where
+  pub undone : Undone found
   pub handled : Handled
   pub asked_are : asked_of handled.begun ≡ asked
-  pub after : After MeansRequest (begins (grid_of found) []) handled.begun handled.done at
+  pub after : After MeansRequest (begins undone.opened.grid []) handled.begun handled.done at
   pub pieces_are : AllPieces (IsKnown old found) 1 handled.done handled.pieces
-  pub told_of : AllByRecursion (IsToldOf (IsKnown old found) (length old.stores)) (marks_of handled.begun)
+  pub told_of : AllByRecursion (IsToldOf (IsKnown old found) (length old.stores)) (undone.report ++ marks_of handled.begun)
   pub by_rows : AllByRows handled.begun handled.done
   pub went : Went old now
-  pub shown : IsTrue old.sink.tells → ShowsMost (whole_report found) handled old.sink.holds now.sink.holds
-  pub caused : AreCaused old now (marks_of handled.begun)
-  -- the marks that were come to; those that are shown are the first of them
+  pub shown : IsTrue old.sink.tells → ShowsMost (whole_report found undone) handled old.sink.holds now.sink.holds
+  pub caused : AreCaused old now (undone.report ++ marks_of handled.begun)
+  -- the marks that were come to; those that are told are the first of them
   pub drawn : List Mark
   pub gave : IsTrue now.ambient.tells → Gave drawn old.ambient now.ambient
-  pub told_drawn : (tells : IsTrue old.sink.tells) → AreFirst (marks_shown handled (length (shown tells).part - length (whole_report found))) drawn
+  pub told_drawn : (tells : IsTrue old.sink.tells) → AreFirst (marks_told found undone handled (length (shown tells).part)) drawn
   pub whole : DisksAreSettled old → WereWhole old old.moments found → AllStayWhole now old.moments
-  pub named : NoneSweeps old.source.left → IsSettled old.main → ReplicasStayNamed now old.moments found
+  pub named : NoneSweeps old.source.left → ¬ HasRecovery found.pending → IsSettled old.main → ReplicasStayNamed now old.moments found
   pub images : IsTrue old.sink.tells → AreSettled old → (t : ℕ) (main sink : Text) → old.moments < t → now.main.left t main → now.sink.left t sink
-      → OneOfRun found handled old.sink.holds main sink
+      → OneOfRun found undone handled old.sink.holds main sink
 
--- The same where each was handled whole, and none of them ended the input: the catalogue now, and the state.
+-- The same where all was undone and each was handled whole, and none of them ended the input: the catalogue now, and the state.
 pub record Sofar {B : Type 0} (old now : World B) (found c : Cat) (at : State) (asked : List Asked) : Type 0 where
   pub ran : Ran old now found at asked
   pub none_end : AllByRecursion (λ a. ¬ EndsInput a) asked
-  pub all_drawn : ran.drawn ≡ marks_of ran.handled.begun
-  pub text : IsTrue old.sink.tells → now.sink.holds ≡ (old.sink.holds ++ whole_report found) ++ joined_texts (replies_of ran.handled)
+  pub all_drawn : ran.drawn ≡ ran.undone.report ++ marks_of ran.handled.begun
+  pub text : IsTrue old.sink.tells → now.sink.holds ≡ (old.sink.holds ++ whole_report found ran.undone) ++ joined_texts (replies_of ran.handled)
   -- the catalogue
   pub of_run : IsOfRun found c
   pub last : c.numbers.last ≤ length asked
   pub grid : grid_of c ≡ at.grid
   pub no_rules : at.rules ≡ []
-  -- where no orphan was found, all left the grid as it was and told no mark, main has the record with which the run was begun more
-  pub still : found.orphans ≡ [] → AllStill (grid_of found) ran.handled.begun ran.handled.done
+  -- where nothing was pending, no orphan was found, and all left the grid as it was and told no mark, main has the record with which the run
+  -- was begun more
+  pub still : found.pending ≡ None → found.orphans ≡ [] → AllStill (grid_of found) ran.handled.begun ran.handled.done
       → HasOneMore old.main.holds now.main.holds × (grid_of c ≡ grid_of found)
   -- behind a sweep, or where nothing was asked, few orphans are left
-  pub few : EndsSwept (state_behind found ran.handled) ran.handled.begun ran.handled.done (length ran.handled.begun) → HasFewOrphans old now c
+  pub few : EndsSwept (state_behind found ran.undone ran.handled) ran.handled.begun ran.handled.done (length ran.handled.begun) → HasFewOrphans old now c
   -- the disks and the sink
   pub stands : StandsFor now.main.holds c
   pub main_settled : IsSettled old.main → IsSettled now.main

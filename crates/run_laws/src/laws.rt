@@ -1,6 +1,5 @@
 ghost use Rattle.std.specs.Prelude.{List, [], ◌∷◌, ◌++◌, ℕ, ◌+◌, length};
 ghost use Rattle.grid_model.specs.Rows.{Cat};
-ghost use Rattle.grid_model.specs.RowGrids.{grid_of};
 ghost use Rattle.grid_model.specs.Beginning.{begins};
 ghost use Rattle.grid_model.specs.Inputs.{Asked};
 ghost use Rattle.grid_model.specs.Runs.{Request};
@@ -10,18 +9,26 @@ ghost use Rattle.grid_headline.specs.Headline.{Serves};
 ghost use Rattle.grid_headline.specs.Reads.{EndsInput, MeansRequest};
 ghost use Rattle.grid_headline.specs.Served.{BeginsWithRequests};
 ghost use Rattle.run_laws.specs.Ends.{IsGoodIfNoneFailed, ReadsSo, StopsSo};
-ghost use Rattle.run_laws.specs.Opening.{Opened};
+ghost use Rattle.run_laws.specs.Opening.{Opened, Opens};
 ghost use Rattle.run_laws.specs.Silent.{IsSwept, LeavesFew, Sweeps};
-ghost use Rattle.run_laws.specs.Sofar.{BeginsPlainly, CallsGoOn, Sofar, run_begun};
+ghost use Rattle.run_laws.specs.Sofar.{BeginsPlainly, CallsGoOn, Sofar};
 ghost use Rattle.run_laws.specs.Steps.{IsQuiet, IsHandledWhole, NotesLine, RequestStep};
 ghost use Rattle.run_laws.specs.Surrounding.{world};
-ghost use Rattle.run_laws.specs.Went.{AreInOrder};
 
 use crate::around::Around;
 use grid_outside::{Ambient, Disk, Plugin, Sink, Source};
 
-/// A run that is begun over a catalogue without rules, and without a pending command that has recoveries, and has swept, has handled
-/// no request yet.
+/// Where something ran out or failed while a run was opened over a catalogue without rules, all holds that is promised of a run.
+pub fn a_run_ends_in_its_opening<D: Disk, S: Source, K: Sink, A: Ambient, P: Plugin>(
+    old: &Around<D, S, K, A, P>,
+    now: &Around<D, S, K, A, P>,
+)
+    ensures { let from = world D.disk S.source K.sink A.ambient P.plugin old.now in let to = world D.disk S.source K.sink A.ambient P.plugin now.now in
+        (found : Cat) (end : RunEnd) → BeginsPlainly from found → (opens : Opens from to found) →
+        StopsSo from to found (begins opens.undone.opened.grid []) [] end → IsGoodIfNoneFailed from to end → Serves from to found end }
+{}
+
+/// A run that is begun over a catalogue without rules, in which what was pending is undone, and that has swept, has handled no request yet.
 pub fn a_run_is_begun<D: Disk, S: Source, K: Sink, A: Ambient, P: Plugin>(
     old: &Around<D, S, K, A, P>,
     mid: &Around<D, S, K, A, P>,
@@ -29,8 +36,8 @@ pub fn a_run_is_begun<D: Disk, S: Source, K: Sink, A: Ambient, P: Plugin>(
 )
     ensures { let from = world D.disk S.source K.sink A.ambient P.plugin old.now in let by = world D.disk S.source K.sink A.ambient P.plugin mid.now in
         let to = world D.disk S.source K.sink A.ambient P.plugin now.now in
-        (found c : Cat) → BeginsPlainly from found → AreInOrder from → Opened from by found → Sweeps by to (run_begun found) →
-        IsSwept by to (run_begun found) c → Sofar from to found c (begins (grid_of found) []) [] }
+        (found begun c : Cat) → BeginsPlainly from found → (opened : Opened from by found begun) → Sweeps by to begun →
+        IsSwept by to begun c → Sofar from to found c (begins opened.opens.undone.opened.grid []) [] }
 {}
 
 /// Where something ran out or failed in the sweep behind the opening, all holds that is promised of a run.
@@ -41,8 +48,8 @@ pub fn a_run_ends_in_its_sweep<D: Disk, S: Source, K: Sink, A: Ambient, P: Plugi
 )
     ensures { let from = world D.disk S.source K.sink A.ambient P.plugin old.now in let by = world D.disk S.source K.sink A.ambient P.plugin mid.now in
         let to = world D.disk S.source K.sink A.ambient P.plugin now.now in
-        (found : Cat) (end : RunEnd) → BeginsPlainly from found → AreInOrder from → Opened from by found → Sweeps by to (run_begun found) →
-        StopsSo from to found (begins (grid_of found) []) [] end → IsGoodIfNoneFailed from to end → Serves from to found end }
+        (found begun : Cat) (end : RunEnd) → BeginsPlainly from found → (opened : Opened from by found begun) → Sweeps by to begun →
+        StopsSo from to found (begins opened.opens.undone.opened.grid []) [] end → IsGoodIfNoneFailed from to end → Serves from to found end }
 {}
 
 /// Behind the requests that were handled comes one more, which is handled whole and does not end the input.
