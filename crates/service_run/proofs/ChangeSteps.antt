@@ -41,11 +41,11 @@ module _ {D A P : Type 0} (disk : D → DiskState) (ambient : A → AmbientState
   at = around disk ambient plugin o sink source
 
   ends_so : (after : Journal) (result : Result (Result ⊤ Failure) Ending) → StepEnds at at kept rows x call undo x after does result → IsStep at at kept rows x call undo x after does result
-  ends_so after result = step_still disk ambient plugin source o o sink kept rows x call undo x after held main_last sink_last refl refl (looks_same plugin o.stores.items) does result
+  ends_so after result = step_still disk ambient plugin source o o sink kept rows x call undo x after held main_last sink_last refl refl (looks_same plugin o.stores.items) (gave-none (ambient o.ambient)) does result
 
-  stays : (after : Journal) → IsHeld kept (disk o.main) after → after.cat.pending ≡ rows.cat.pending → StaysAway at at kept rows x call undo x after []
-  stays after held_after pending =
-      stays_away disk ambient plugin source o o sink kept rows x call undo x after held main_last sink_last refl refl (looks_same plugin o.stores.items) [] held_after pending (sym (append-nil x.untold))
+  stays : (after : Journal) → IsHeld kept (disk o.main) after → after.cat.pending ≡ rows.cat.pending → after.cat.numbers ≡ rows.cat.numbers → StaysAway at at kept rows x call undo x after []
+  stays after held_after pending numbers =
+      stays_away disk ambient plugin source o o sink kept rows x call undo x after held main_last sink_last refl refl (looks_same plugin o.stores.items) [] held_after pending numbers (sym (append-nil x.untold))
 
   later : EachPair (λ k before after. (plugin before).faults ≤ (plugin after).faults) o.stores.items o.stores.items
   later k before after was is = ((stores_same plugin o.moments o.stores.items).later k before after was is).faults
@@ -67,7 +67,8 @@ module _ {D A P : Type 0} (disk : D → DiskState) (ambient : A → AmbientState
         marks = [];
         marks_are = sym (append-nil x.marks);
         rest = refl;
-        is_kept = inl (stays after staged.held now.0.pending);
+        spelled = refl;
+        is_kept = inl (stays after staged.held now.0.pending now.0.numbers);
         told_of = tt;
         caused = caused_none at at refl later [] (λ slot. refl);
         gave = gave-none (ambient o.ambient);
@@ -82,7 +83,8 @@ module _ {D A P : Type 0} (disk : D → DiskState) (ambient : A → AmbientState
     marks = [];
     marks_are = sym (append-nil x.marks);
     rest = refl;
-    is_kept = inl (stays rows held refl);
+    spelled = refl;
+    is_kept = inl (stays rows held refl refl);
     told_of = tt;
     caused = caused_none at at refl later [] (λ slot. refl);
     gave = gave-none (ambient o.ambient);

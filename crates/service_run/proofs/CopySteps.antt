@@ -24,14 +24,14 @@ use Rattle.grid_deed.proofs.Wholes.{keep_more, whole_as, whole_turned_none}
 use Rattle.run_laws.specs.Passes.{Seen}
 use Rattle.service_run.specs.declared.ending.Ending.{Ending}
 use Rattle.service_run.specs.declared.ending.Ending.TheVariants as ending
-use Rattle.service_run.specs.Noting.{OneOfNote, IsNotedSo}
+use Rattle.service_run.specs.Noting.{IsNotedSo, NoteLeaves}
 use Rattle.service_run.specs.Copying.{IsCopiedNoted}
 
 module _ {D A P K : Type 0} (disk : D → DiskState) (plugin : P → StoreState) (sink : K → SinkState) {cat : Cat} {stores : ℕ} {plan : Plan} {from : OldFile} (p : IsCopyPlan cat cat stores plan from) (text : Text) (kept : Cat) where
   -- the first changes were not kept, or the text was not told
   pub copy_failed : (o n : Outside D A P) (k l : K) (e : Ending) (new : Journal) → IsNotedSo (disk o.main) (disk n.main) (sink k) (sink l) kept p.mid o.moments text (Err e) new
       → IsCopiedNoted disk plugin sink p text (record { outside = o; sink = k }) (record { outside = n; sink = l }) kept (Err e) new
-  copy_failed o n k l e new noted = record { ends = noted.ends; images = noted.images }
+  copy_failed o n k l e new noted = record { ends = noted.ends; leaves = noted.leaves }
 
   module _ (o m n : Outside D A P) (k l : K) (sm : Journal) (noted : IsNotedSo (disk o.main) (disk m.main) (sink k) (sink l) kept p.mid o.moments text (Ok tt) sm) (main_same : n.main ≡ m.main) where
     abbrev old : Seen D A P K
@@ -43,14 +43,12 @@ module _ {D A P K : Type 0} (disk : D → DiskState) (plugin : P → StoreState)
     kept_mid : IsKept p.mid (disk o.main) (disk m.main) sm
     kept_mid = noted.ends.main
 
-    images_on : IsTrue (disk o.main).tells → IsTrue (sink k).tells → IsSettled (disk o.main) → IsSettled (sink k) → (t : ℕ) (main shown : Text) → o.moments < t → (disk n.main).left t main → (sink l).left t shown → OneOfNote kept p.mid text (sink k).holds main shown
-    images_on told sink_told settled sink_settled t main shown late left shown_left =
-        let L : D → Type 0 = λ x. (disk x).left t main in
-        noted.images told sink_told settled sink_settled t main shown late (subst L main_same left) shown_left
+    leaves_on : NoteLeaves (disk o.main) (disk n.main) (sink k) (sink l) kept p.mid o.moments text
+    leaves_on = let L : D → Type 0 = λ x. NoteLeaves (disk o.main) (disk x) (sink k) (sink l) kept p.mid o.moments text in subst L (sym main_same) noted.leaves
 
     -- memory ran out behind that
     pub copy_cut : (sn : Journal) → IsCopiedNoted disk plugin sink p text old new kept (Err ending.Memory) sn
-    copy_cut sn = record { ends = tt; images = images_on }
+    copy_cut sn = record { ends = tt; leaves = leaves_on }
 
     -- main has the catalogue with the first changes still
     pub held_on : IsHeld p.mid (disk n.main) sm
@@ -98,7 +96,7 @@ module _ {D A P K : Type 0} (disk : D → DiskState) (plugin : P → StoreState)
               says = says_since copied.Done says;
               whole = λ by_memory told t late. (let W : Cat → Type 0 = λ c. AreWhole plugin t c n.stores.items in subst W (sym s.cat) (made refl t late (whole_mid by_memory told t late)));
             };
-            images = images_on;
+            leaves = leaves_on;
           }
       copy_staged (copied.Fault fault) sn says staged other made =
           let same = other (λ e. cc) in
@@ -114,7 +112,7 @@ module _ {D A P K : Type 0} (disk : D → DiskState) (plugin : P → StoreState)
               says = says_since (copied.Fault fault) says;
               whole = λ by_memory told t late. (let W : Cat → Type 0 = λ c. AreWhole plugin t c n.stores.items in subst W (sym cat_is) (whole_mid by_memory told t late));
             };
-            images = images_on;
+            leaves = leaves_on;
           }
       copy_staged (copied.Bad found) sn says staged other made =
           let same = other (λ e. cc) in
@@ -130,7 +128,7 @@ module _ {D A P K : Type 0} (disk : D → DiskState) (plugin : P → StoreState)
               says = says_since (copied.Bad found) says;
               whole = λ by_memory told t late. (let W : Cat → Type 0 = λ c. AreWhole plugin t c n.stores.items in subst W (sym cat_is) (whole_mid by_memory told t late));
             };
-            images = images_on;
+            leaves = leaves_on;
           }
 
       -- what stays whole at each moment

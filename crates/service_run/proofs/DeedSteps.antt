@@ -37,6 +37,7 @@ use Rattle.grid_model.specs.declared.refusal.Failure.{Failure}
 use Rattle.grid_model.specs.declared.refusal.Failure.TheVariants.{Refused}
 use Rattle.grid_model.specs.declared.refusal.Refusal.TheVariants as refusal
 use Rattle.grid_journal.specs.Journal.{Journal}
+use Rattle.grid_journal.specs.Stands.{StandsEither}
 use Rattle.grid_vault.specs.Copying.{Copies}
 use Rattle.grid_vault.specs.Vault.{HasSlot}
 use Rattle.grid_vault.specs.declared.reading.Found.{Found}
@@ -44,6 +45,7 @@ use Rattle.grid_vault.proofs.Writing.{all_at}
 use Rattle.file_laws.specs.Plans.{IsCopyPlan, Turns}
 use Rattle.file_laws.proofs.Members.{in_of}
 use Rattle.tables_laws.proofs.Rows.{in_from_all}
+use Rattle.grid_deed.specs.Deeds.{CopySays}
 use Rattle.grid_deed.specs.Frame.{StoresGo}
 use Rattle.grid_deed.specs.Held.{IsHeld}
 use Rattle.grid_deed.specs.Safe.{AreWhole, KeepBothWhole}
@@ -51,6 +53,7 @@ use Rattle.grid_deed.specs.declared.copying.Copied.{Copied}
 use Rattle.grid_deed.specs.declared.copying.Copied.TheVariants as copied
 use Rattle.grid_deed.proofs.Wholes.{whole_turned_none}
 use Rattle.grid_headline.specs.Causes.{AreCaused}
+use Rattle.grid_headline.specs.Files.{KeepsNamed}
 use Rattle.grid_headline.specs.Worlds.{World}
 use Rattle.chain_run.specs.Places.{course_at}
 use Rattle.plan_object.specs.CopyPlans.{MayCopy}
@@ -65,13 +68,14 @@ use Rattle.run_laws.proofs.Users.{KeepsUsers, users_apply_all, users_same, users
 use Rattle.service_run.specs.declared.command.Command.{Command}
 use Rattle.service_run.specs.declared.ending.Ending.{Ending}
 use Rattle.service_run.specs.declared.ending.Ending.TheVariants as ending
-use Rattle.service_run.specs.Changes.{with_mark}
+use Rattle.service_run.specs.Changes.{mark_fits, with_mark}
 use Rattle.service_run.specs.Commands.{IsNoted, KeepsBeside, WaitsAt, noted_in, place_by}
 use Rattle.service_run.specs.Copying.{IsCopiedMarked, IsCopiedNoted, copied_mark, copied_ran}
-use Rattle.service_run.specs.Noting.{OneOfNote, unnoted, noted, IsOutOfRoom, with_pending}
-use Rattle.service_run.specs.Steps.{ComesTo, IsKnownBy, IsStep, IsStepDone, IsWornSo, OneOfStep, in_call, unseen}
+use Rattle.service_run.specs.Noting.{NoteLeaves, OneOfNote, unnoted, noted, IsOutOfRoom, with_pending}
+use Rattle.service_run.specs.Steps.{ComesTo, IsKnownBy, IsStep, IsStepDone, IsWornSo, LeavesMain, OneOfStep, StepEnds, in_call, left_so, noted_so, unseen}
 use Rattle.service_run.proofs.NamedFiles.{IsNamedFile, differs_so, not_known}
 use Rattle.service_run.proofs.SameRows.{grid_pending, names_pending, turns_pending}
+use Rattle.service_run.proofs.StillSteps.{one_fits}
 
 -- ---- the file that is copied
 
@@ -155,9 +159,27 @@ module _ {B : Type 0} (old new : World B) (kept : Cat) (rows : Journal) (x : Com
   waits_there begun = (refl, refl)
 
   -- a stop in it leaves it waiting
-  pub one_of : (shown main sink : Text) → OneOfNote kept mid x.untold shown main sink → OneOfStep does kept rows.cat x call undo shown main sink
+  one_of : (shown main sink : Text) → OneOfNote kept mid x.untold shown main sink → OneOfStep does kept rows.cat x call undo shown main sink
   one_of shown main sink (unnoted stands same) = unseen stands same
   one_of shown main sink (noted stands part) = in_call mid its_note waits_there stands part
+
+  -- of main alone
+  leaves_one : (main : Text) → StandsEither kept mid main → LeavesMain kept rows.cat x call undo main
+  leaves_one main (inl stands) = left_so stands
+  leaves_one main (inr stands) = noted_so mid its_note stands
+
+  -- how it ended is to be said beside what the note leaves
+  pub step_noted : NoteLeaves old.main new.main old.sink new.sink kept mid old.moments x.untold → (IsTrue new.ambient.tells → Gave [] old.ambient new.ambient) → KeepBothWhole old.plugin old.moments kept rows.cat old.main new.main old.stores new.stores
+      → (y : Command) (after : Journal) (result : Result (Result ⊤ Failure) Ending) → StepEnds old new kept rows x call undo y after does result → IsStep old new kept rows x call undo y after does result
+  step_noted leaves asked whole y after result ends = record {
+    ends = ends;
+    asked = asked;
+    shown = leaves.shown;
+    main = λ told settled t main late left. leaves_one main (leaves.main told settled t main late left);
+    images = λ told sink_told settled sink_settled t main sink late left sink_left.
+        one_of old.sink.holds main sink (leaves.images told sink_told settled sink_settled t main sink late left sink_left);
+    whole = whole;
+  }
 
   -- how it came out of room
   pub worn_of : (y : Command) (after : Journal) (e : Ending) → IsOutOfRoom old.main new.main old.sink new.sink e → IsWornSo old new kept rows x call undo y after e
@@ -175,7 +197,8 @@ module _ {B : Type 0} (old new : World B) (kept : Cat) (rows : Journal) (x : Com
   -- one mark was taken
   module _ (m : Mark) (after : Journal) (ran : Result ⊤ Failure)
       (did : (more : List Mark) (begun : ℕ) (stopped : Bool) → ComesTo does ran (course_at (place_by rows.cat x) (m ∷ more) begun stopped) (course_at (place_by after.cat (with_mark told m)) more begun stopped))
-      (user : user_name after.cat x.user ≡ user_name rows.cat x.user) (beside : KeepsBeside rows.cat after.cat) (pending : after.cat.pending ≡ Some (noted_in x call undo)) (held : IsHeld mid new.main after)
+      (user : user_name after.cat x.user ≡ user_name rows.cat x.user) (beside : KeepsBeside rows.cat after.cat) (spelled : IsTrue (mark_fits m)) (pending : after.cat.pending ≡ Some (noted_in x call undo))
+      (numbers : after.cat.numbers ≡ mid.numbers) (held : IsHeld mid new.main after)
       (settled : IsTrue old.main.tells → IsSettled new.main) (sink_told : IsTrue old.sink.tells → new.sink.holds ≡ old.sink.holds ++ x.untold) (sink_settled : IsTrue old.sink.tells → IsSettled old.sink → IsSettled new.sink)
       (told_of : IsToldOf (IsKnownBy old rows.cat) (length old.stores) m) (caused : AreCaused old new (m ∷ [])) (gave : IsTrue new.ambient.tells → Gave (m ∷ []) old.ambient new.ambient)
       (whole : ((t : ℕ) → old.moments < t → AreWhole old.plugin t rows.cat old.stores) → IsTrue old.main.tells → (t : ℕ) → new.moments < t → AreWhole new.plugin t after.cat new.stores) where
@@ -186,10 +209,13 @@ module _ {B : Type 0} (old new : World B) (kept : Cat) (rows : Journal) (x : Com
       marks = m ∷ [];
       marks_are = refl;
       rest = refl;
+      spelled = one_fits m spelled;
       is_kept = inr (record {
         cat = mid;
         noted = its_note;
+        waits = waits_there;
         pending = pending;
+        numbers = numbers;
         held = held;
         settled = settled;
         sink = sink_told;
@@ -224,8 +250,8 @@ module _ (c : Cat) (x : Command) (call : Call) (undo : List Call) (c1 : Cat) (c1
     pub pending_since : d.pending ≡ Some (noted_in x call undo)
     pending_since = draws_since.pending
 
-    pub beside_since : KeepsBeside c d
-    beside_since =
+    pub beside_since : IsTrue (is_user c x.user) → KeepsNamed c1 d → KeepsBeside c d
+    beside_since user named =
         let all = users_then c c1 d users_before users in
         let s = draws_since in
         record {
@@ -237,6 +263,7 @@ module _ (c : Cat) (x : Command) (call : Call) (undo : List Call) (c1 : Cat) (c1
             rises = omega (arith, ap (λ (k : Numbers). k.next_vault) s.numbers);
             names = λ slot name row before named. (let was = s.names slot name row before named in (was.0, names_pending c p slot name was.0 was.1));
           };
+          named = λ slot name is. named slot name ((turns_before user).named slot name is);
           users = all.there;
           names = all.names;
         }
@@ -267,8 +294,13 @@ module _ {D A P K : Type 0} (disk : D → DiskState) (ambient : A → AmbientSta
   users_end : KeepsUsers s1.cat end
   users_end = users_then s1.cat mid end users_mid (users_apply_all plan.after mid end w.makes.is_plan.then)
 
+  -- files that were named before the last changes are so behind them
+  named_last : {olds news : List P} → CopySays plugin plan.files file olds news copied.Done → KeepsNamed mid end
+  named_last (inl idle) = (w.makes.is_plan.ends [] (λ some. absurd (some idle))).named
+  named_last (inr copies) = (w.makes.is_plan.ends copies.bytes (λ some. copies.says)).named
+
   beside_mid : KeepsBeside rows.cat mid
-  beside_mid = beside_since rows.cat x call undo s1.cat announced (length plan.files) mid w.makes.drawn_first users_mid
+  beside_mid = beside_since rows.cat x call undo s1.cat announced (length plan.files) mid w.makes.drawn_first users_mid user w.makes.is_plan.begins.named
 
   pending_mid : mid.pending ≡ Some (noted_in x call undo)
   pending_mid = pending_since rows.cat x call undo s1.cat announced (length plan.files) mid w.makes.drawn_first users_mid
@@ -279,8 +311,14 @@ module _ {D A P K : Type 0} (disk : D → DiskState) (ambient : A → AmbientSta
   pub its_note : IsNoted rows.cat x call undo mid
   its_note = record { grid = grid_mid; beside = beside_mid; pending = pending_mid }
 
-  beside_end : KeepsBeside rows.cat end
-  beside_end = beside_since rows.cat x call undo s1.cat announced (length plan.files) end w.makes.drawn users_end
+  -- where the file was copied
+  beside_end : {olds news : List P} → CopySays plugin plan.files file olds news copied.Done → KeepsBeside rows.cat end
+  beside_end says =
+      let p = w.makes.is_plan in
+      beside_since rows.cat x call undo s1.cat announced (length plan.files) end w.makes.drawn users_end user (λ slot name is. named_last says slot name (p.begins.named slot name is))
+
+  numbers_end : end.numbers ≡ mid.numbers
+  numbers_end = w.makes.drawn.numbers ∙ sym w.makes.drawn_first.numbers
 
   pending_end : end.pending ≡ Some (noted_in x call undo)
   pending_end = pending_since rows.cat x call undo s1.cat announced (length plan.files) end w.makes.drawn users_end
@@ -310,14 +348,10 @@ module _ {D A P K : Type 0} (disk : D → DiskState) (ambient : A → AmbientSta
 
   -- ---- it came to no end
 
-  cut_so : {r : Result Copied Ending} {s2 : Journal} → IsCopiedNoted disk plugin sink its_plan x.untold first last kept r s2 → KeepBothWhole plugin o.moments kept s1.cat (disk o.main) (disk n.main) o.stores.items n.stores.items
-      → (y : Command) (after : Journal) (e : Ending) → IsOutOfRoom (disk o.main) (disk n.main) (sink k) (sink l) e → IsStep old new kept rows x call undo y after its_does (Err e)
-  cut_so copied whole y after e out = record {
-    ends = worn_of old new kept rows x call undo w.of mid its_note y after e out;
-    images = λ told sink_told settled sink_settled t main shown late left shown_left.
-        one_of old new kept rows x call undo w.of mid its_note (sink k).holds main shown (copied.images told sink_told settled sink_settled t main shown late left shown_left);
-    whole = whole_before whole;
-  }
+  cut_so : {r : Result Copied Ending} {s2 : Journal} → IsCopiedNoted disk plugin sink its_plan x.untold first last kept r s2 → (IsTrue (ambient n.ambient).tells → Gave [] (ambient o.ambient) (ambient n.ambient))
+      → KeepBothWhole plugin o.moments kept s1.cat (disk o.main) (disk n.main) o.stores.items n.stores.items → (y : Command) (after : Journal) (e : Ending) → IsOutOfRoom (disk o.main) (disk n.main) (sink k) (sink l) e → IsStep old new kept rows x call undo y after its_does (Err e)
+  cut_so copied asked whole y after e out =
+      step_noted old new kept rows x call undo w.of mid its_note copied.leaves asked (whole_before whole) y after (Err e) (worn_of old new kept rows x call undo w.of mid its_note y after e out)
 
   -- ---- it came to its mark
 
@@ -325,6 +359,10 @@ module _ {D A P K : Type 0} (disk : D → DiskState) (ambient : A → AmbientSta
       (stores_last : EachMember (λ i store. (plugin store).last ≤ o.moments) o.stores.items) (go : StoresGo plugin o.moments o.stores.items n.stores.items) where
     later : EachPair (λ i before after. (plugin before).faults ≤ (plugin after).faults) o.stores.items n.stores.items
     later i before after was is = (go.later i before after was is).faults
+
+    -- the word and the time are told by no mark
+    asked_so : IsTrue (ambient n.ambient).tells → Gave [] (ambient o.ambient) (ambient n.ambient)
+    asked_so = gave_untold word now (ambient o.ambient) drawn (ambient n.ambient) gives_word gives_time [] refl refl
 
     slot_within : (slot : ℕ) → HasSlot plan.files slot ⊎ (slot ≡ file.slot) → slot < length o.stores.items
     slot_within slot (inl among) =
@@ -343,23 +381,20 @@ module _ {D A P K : Type 0} (disk : D → DiskState) (ambient : A → AmbientSta
 
     module _ (s2 : Journal) (whole : KeepBothWhole plugin o.moments kept s1.cat (disk o.main) (disk n.main) o.stores.items n.stores.items) where
       -- the catalogue behind it leads on from the noted one
-      done_so : (answer : Copied) → IsCopiedNoted disk plugin sink its_plan x.untold first last kept (Ok answer) s2 → (m : Mark) (ran : Result ⊤ Failure) (fin : Cat) → s2.cat ≡ fin → KeepsBeside rows.cat fin → fin.pending ≡ Some (noted_in x call undo)
+      done_so : (answer : Copied) → IsCopiedNoted disk plugin sink its_plan x.untold first last kept (Ok answer) s2 → (m : Mark) (ran : Result ⊤ Failure) (fin : Cat) → s2.cat ≡ fin → KeepsBeside rows.cat fin → IsTrue (mark_fits m) → fin.pending ≡ Some (noted_in x call undo) → fin.numbers ≡ mid.numbers
           → ((grid : Grid) → grid ≡ grid_of fin → (more : List Mark) (begun : ℕ) (stopped : Bool) → ComesTo its_does ran (course_at (place_by rows.cat x) (m ∷ more) begun stopped)
           (record (course_at (place_by fin (with_mark x m)) more begun stopped) { grid = grid }))
           → IsToldOf (IsKnownBy old rows.cat) (length o.stores.items) m → AreCaused old new (m ∷ []) → (IsTrue (ambient n.ambient).tells → Gave (m ∷ []) (ambient o.ambient) (ambient n.ambient))
           → IsStep old new kept rows x call undo (with_mark (record x { untold = [] }) m) s2 its_does (Ok ran)
-      done_so answer it m ran fin fin_is beside pending did told_of caused gave =
+      done_so answer it m ran fin fin_is beside spelled pending numbers did told_of caused gave =
           let Q : Cat → Type 0 = λ e. KeepsBeside rows.cat e in
           let N : Cat → Type 0 = λ e. e.pending ≡ Some (noted_in x call undo) in
+          let U : Cat → Type 0 = λ e. e.numbers ≡ mid.numbers in
           let beside_now = subst Q (sym fin_is) beside in
           let G : Cat → Type 0 = λ e. (more : List Mark) (begun : ℕ) (stopped : Bool) → ComesTo its_does ran (course_at (place_by rows.cat x) (m ∷ more) begun stopped) (course_at (place_by e (with_mark x m)) more begun stopped) in
-          record {
-            ends = step_done old new kept rows x call undo w.of mid its_note m s2 ran (subst G (sym fin_is) (did (grid_of fin) refl)) (beside_now.names x.user user) beside_now (subst N (sym fin_is) pending) it.ends.held it.ends.settled it.ends.told it.ends.sink_settled
-                told_of caused gave (λ by_memory. it.ends.whole (λ t late. whole_turned_none plugin t rows.cat s1.cat o.stores.items (turns_before rows.cat x call undo s1.cat announced user) (by_memory t late)));
-            images = λ told sink_told settled sink_settled t main shown late left shown_left.
-                one_of old new kept rows x call undo w.of mid its_note (sink k).holds main shown (it.images told sink_told settled sink_settled t main shown late left shown_left);
-            whole = whole_before whole;
-          }
+          step_noted old new kept rows x call undo w.of mid its_note it.leaves asked_so (whole_before whole) (with_mark (record x { untold = [] }) m) s2 (Ok ran)
+          (step_done old new kept rows x call undo w.of mid its_note m s2 ran (subst G (sym fin_is) (did (grid_of fin) refl)) (beside_now.names x.user user) beside_now spelled (subst N (sym fin_is) pending) (subst U (sym fin_is) numbers)
+          it.ends.held it.ends.settled it.ends.told it.ends.sink_settled told_of caused gave (λ by_memory. it.ends.whole (λ t late. whole_turned_none plugin t rows.cat s1.cat o.stores.items (turns_before rows.cat x call undo s1.cat announced user) (by_memory t late))))
 
       -- the grid stayed, and it failed so
       failed_so : (m : Mark) (f : Failure) → fits w.of m ≡ true → ((s : Course) (more : List Mark) → take_mark call s w.of (m ∷ more) ≡ where_mark_fits (fits w.of m) (did_fail (taking s m more) f)) → ((s : Course) (more : List Mark) → (taking s m more).stopped ≡ s.stopped)
@@ -378,25 +413,25 @@ module _ {D A P K : Type 0} (disk : D → DiskState) (ambient : A → AmbientSta
           ap (λ b. where_mark_fits b (did_well (record (taking s m more) { grid = w.of.ran word now [] }))) w.ran
           ∙ (λ i. gives (did_well (record (taking s m more) { grid = sym (grid_is ∙ w.makes.ran) i })))
 
-      by_answer : (answer : Copied) → IsCopiedNoted disk plugin sink its_plan x.untold first last kept (Ok answer) s2
+      by_answer : (answer : Copied) → IsTrue (mark_fits (copied_mark word now file answer)) → IsCopiedNoted disk plugin sink its_plan x.untold first last kept (Ok answer) s2
           → IsStep old new kept rows x call undo (with_mark (record x { untold = [] }) (copied_mark word now file answer)) s2 its_does (Ok (copied_ran file answer))
-      by_answer copied.Done it =
-          done_so copied.Done it (mark.Ran word now []) (Ok tt) end it.ends.cat_is beside_end pending_end ran_so tt
+      by_answer copied.Done spelled it =
+          done_so copied.Done it (mark.Ran word now []) (Ok tt) end it.ends.cat_is (beside_end it.ends.says) spelled pending_end numbers_end ran_so tt
           (caused_none old new go.count later (mark.Ran word now [] ∷ []) (λ slot. refl)) (gave_ran word now (ambient o.ambient) drawn (ambient n.ambient) gives_word gives_time [])
-      by_answer (copied.Fault fault) it =
+      by_answer (copied.Fault fault) spelled it =
           let m = mark.Fault fault.slot 0 in
           let says = it.ends.says in
-          done_so (copied.Fault fault) it m (Err (Refused (refusal.Fault fault.slot))) mid it.ends.cat_is beside_mid pending_mid
+          done_so (copied.Fault fault) it m (Err (Refused (refusal.Fault fault.slot))) mid it.ends.cat_is beside_mid spelled pending_mid refl
           (failed_so m (Refused (refusal.Fault fault.slot)) (fault_fits_so says.0 fault.slot says.1) (λ s more. refl) (λ s more. refl)) tt
           (caused_fault old new go.count later fault.slot 0 (slot_within fault.slot says.1) says.2) (gave_untold word now (ambient o.ambient) drawn (ambient n.ambient) gives_word gives_time (m ∷ []) refl refl)
-      by_answer (copied.Bad found) it =
+      by_answer (copied.Bad found) spelled it =
           let m = mark.Bad file.slot found.len found.digest 0 in
           let says = it.ends.says in
           let other : differs found.len found.digest w.of.size w.of.digest ≡ true = subst (λ i. differs found.len found.digest i w.of.digest ≡ true) (sym w.size) (subst (λ e. differs found.len found.digest file.size e ≡ true) (sym w.digest)
           (differs_so file says.1.bytes found says.1.says says.1.one_more)) in
           let R : Result (Result ⊤ Failure) Ending → Type 0 = λ r. IsStep old new kept rows x call undo (with_mark (record x { untold = [] }) m) s2 its_does r in
           subst R (λ i. Ok (Err (Refused (refusal.Damaged file.slot (w.size i) (w.digest i) found.len found.digest))))
-          (done_so (copied.Bad found) it m (Err (Refused (refusal.Damaged file.slot w.of.size w.of.digest found.len found.digest))) mid it.ends.cat_is beside_mid pending_mid
+          (done_so (copied.Bad found) it m (Err (Refused (refusal.Damaged file.slot w.of.size w.of.digest found.len found.digest))) mid it.ends.cat_is beside_mid spelled pending_mid refl
           (failed_so m (Refused (refusal.Damaged file.slot w.of.size w.of.digest found.len found.digest)) (w.bad says.0 found.len found.digest other) (λ s more. refl) (λ s more. refl)) (slot_within file.slot (inr refl), never found says.1)
           (caused_none old new go.count later (m ∷ []) (λ slot. refl)) (gave_untold word now (ambient o.ambient) drawn (ambient n.ambient) gives_word gives_time (m ∷ []) refl refl))
 
@@ -404,9 +439,9 @@ module _ {D A P K : Type 0} (disk : D → DiskState) (ambient : A → AmbientSta
     pub marked_step : (d : Deed) → row ≡ Ok (deed d) → (result : Result (Result ⊤ Failure) Ending) (y : Command) (s2 : Journal)
         → IsCopiedMarked disk plugin sink its_plan x.untold first last kept x (record { word = word; now = now }) result y s2
         → KeepBothWhole plugin o.moments kept s1.cat (disk o.main) (disk n.main) o.stores.items n.stores.items → IsStep old new kept rows x call undo y s2 (λ s. take_mark call s d s.marks) result
-    marked_step d row_is (Err e) y s2 it whole = of_row d row_is y s2 (Err e) (cut_so {r = Err e} {s2 = s2} (record { ends = it.ends; images = it.images }) whole y s2 e it.ends)
+    marked_step d row_is (Err e) y s2 it whole = of_row d row_is y s2 (Err e) (cut_so {r = Err e} {s2 = s2} (record { ends = it.ends; leaves = it.leaves }) asked_so whole y s2 e it.ends)
     marked_step d row_is (Ok ran) y s2 it whole =
         let took = it.ends in
         let Y : Command → Type 0 = λ c. IsStep old new kept rows x call undo c s2 its_does (Ok (copied_ran file took.answer)) in
         let R : Result ⊤ Failure → Type 0 = λ r. IsStep old new kept rows x call undo y s2 its_does (Ok r) in
-        of_row d row_is y s2 (Ok ran) (subst R (sym took.ran_is) (subst Y (sym took.command) (by_answer s2 whole took.answer (record { ends = took.staged; images = it.images }))))
+        of_row d row_is y s2 (Ok ran) (subst R (sym took.ran_is) (subst Y (sym took.command) (by_answer s2 whole took.answer took.spelled (record { ends = took.staged; leaves = it.leaves }))))

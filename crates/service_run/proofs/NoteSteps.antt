@@ -19,7 +19,7 @@ use Rattle.grid_deed.proofs.Keeping.{held_stands, either_of}
 use Rattle.service_run.specs.declared.ending.Ending.{Ending}
 use Rattle.service_run.specs.declared.ending.Ending.TheVariants as ending
 use Rattle.service_run.specs.Errors.{IsOfCommit, ending_of}
-use Rattle.service_run.specs.Noting.{OneOfNote, unnoted, noted, IsOutOfRoom, IsNotedSo}
+use Rattle.service_run.specs.Noting.{OneOfNote, unnoted, noted, IsOutOfRoom, IsNotedSo, NoteLeaves}
 
 -- none of a text was added
 pub adds_none : (text old : Text) → AddsPart text old old
@@ -82,8 +82,12 @@ module _ (kept after : Cat) (from : ℕ) (old : Journal) (main_old : DiskState) 
       let R : Ending → Type 0 = λ y. IsNotedSo main_old main_new sink_old sink_old kept after from text (Err y) new in
       subst R (sym is) (record {
         ends = room_of main_new sink_old e new c.ends;
-        images = λ told sink_told settled sink_settled t main sink late left sink_left.
-            untold_yet main sink (sink_settled t sink (omega (arith, late, sink_last)) sink_left) (either_of kept after (Err e) main (c.leaves told settled t main late left));
+        leaves = record {
+          shown = λ told. adds_none text sink_old.holds;
+          main = λ told settled t main late left. either_of kept after (Err e) main (c.leaves told settled t main late left);
+          images = λ told sink_told settled sink_settled t main sink late left sink_left.
+              untold_yet main sink (sink_settled t sink (omega (arith, late, sink_last)) sink_left) (either_of kept after (Err e) main (c.leaves told settled t main late left));
+        };
       })
 
   -- it was done, and then the text was told, or how far that came
@@ -99,8 +103,11 @@ module _ (kept after : Cat) (from : ℕ) (old : Journal) (main_old : DiskState) 
           untold_yet main sink (sink_settled t sink (omega (arith, late, sink_last)) ((told.earlier t sink before).0 sink_left)) (either_of kept after (Ok tt) main (c.leaves main_told settled t main late left))
     ]
 
+    leaves_told : NoteLeaves main_old main_new sink_old sink_new kept after from text
+    leaves_told = record { shown = told.holds; main = λ main_told settled t main late left. either_of kept after (Ok tt) main (c.leaves main_told settled t main late left); images = images_told }
+
     pub note_cut : IsNotedSo main_old main_new sink_old sink_new kept after from text (Err ending.Sink) new
-    note_cut = record { ends = tt; images = images_told }
+    note_cut = record { ends = tt; leaves = leaves_told }
 
     pub note_done : (IsTrue sink_old.tells → sink_new.holds ≡ sink_old.holds ++ text) → (IsTrue sink_old.tells → IsSettled sink_old → IsSettled sink_new) → IsNotedSo main_old main_new sink_old sink_new kept after from text (Ok tt) new
-    note_done all settles = record { ends = record { main = c.ends; sink = all; sink_settled = settles }; images = images_told }
+    note_done all settles = record { ends = record { main = c.ends; sink = all; sink_settled = settles }; leaves = leaves_told }

@@ -115,7 +115,7 @@ take_one_more (y ∷ xs) zero x is = let same : y ≡ x = cc in ap (λ z. z ∷ 
 take_one_more (y ∷ xs) (suc i) x is = ap (λ ys. y ∷ ys) (take_one_more xs i x is)
 take_one_more [] i x is = absurd cc
 
-take_next : {X : Type 0} (xs : List X) (i : ℕ) (x : X) → slice_get xs i ≡ Some x → take (i + 1) xs ≡ take i xs ++ x ∷ []
+pub take_next : {X : Type 0} (xs : List X) (i : ℕ) (x : X) → slice_get xs i ≡ Some x → take (i + 1) xs ≡ take i xs ++ x ∷ []
 take_next {X} xs i x is =
     let turned : suc i ≡ i + 1 = omega arith in
     let T : ℕ → Type 0 = λ n. take n xs ≡ take i xs ++ x ∷ [] in

@@ -43,14 +43,14 @@ use Rattle.run_laws.proofs.OneMark.{caused_fault, caused_none, gave_ran, gave_un
 use Rattle.service_run.specs.declared.command.Command.{Command}
 use Rattle.service_run.specs.declared.ending.Ending.{Ending}
 use Rattle.service_run.specs.declared.ending.Ending.TheVariants as ending
-use Rattle.service_run.specs.Changes.{LeadOn, LedOn, with_mark}
+use Rattle.service_run.specs.Changes.{LeadOn, LedOn, mark_fits, with_mark}
 use Rattle.service_run.specs.Commands.{KeepsBeside, place_by}
 use Rattle.service_run.specs.Steps.{IsStep, StaysAway, StepEnds, lines_of}
 use Rattle.service_run.specs.declared.looking.Looked.{Looked}
 use Rattle.service_run.specs.declared.looking.Looked.TheVariants as looked
 use Rattle.service_run.specs.Sums.{AreSeen, IsFileIn, LooksSay, TookLooked}
 use Rattle.service_run.proofs.SeenFiles.{at_all, found_so, slot_of_file, told_found}
-use Rattle.service_run.proofs.StillSteps.{beside_led, beside_same, stays_away, step_still, whole_looked}
+use Rattle.service_run.proofs.StillSteps.{beside_led, beside_same, one_fits, stays_away, step_still, whole_looked}
 
 -- ---- what it stages
 
@@ -107,19 +107,21 @@ module _ {D A P : Type 0} (disk : D → DiskState) (ambient : A → AmbientState
   abbrev IsSumStep : (y : Command) (after : Journal) → Result (Result ⊤ Failure) Ending → Type 0
   IsSumStep y after result = IsStep old new kept rows x call undo y after (λ s. take_mark call s may.of s.marks) result
 
-  ends_so : (y : Command) (after : Journal) (result : Result (Result ⊤ Failure) Ending) → StepEnds old new kept rows x call undo y after (λ s. take_mark call s may.of s.marks) result → IsSumStep y after result
-  ends_so y after result = step_still disk ambient plugin source o n sink kept rows x call undo y after held main_last sink_last main_same frame.stores.count looks (λ s. take_mark call s may.of s.marks) result
+  gives_last : IsTrue (ambient n.ambient).tells → GivesTime mid now (ambient n.ambient)
+  gives_last = let G : A → Type 0 = λ a. IsTrue (ambient a).tells → GivesTime mid now (ambient a) in subst G (sym frame.ambient) gives_time
 
-  stays : (m : Mark) (after : Journal) → IsHeld kept (disk n.main) after → after.cat.pending ≡ rows.cat.pending → StaysAway old new kept rows x call undo (with_mark x m) after (m ∷ [])
-  stays m after held_after pending =
-      stays_away disk ambient plugin source o n sink kept rows x call undo (with_mark x m) after held main_last sink_last main_same frame.stores.count looks (m ∷ []) held_after pending (untold_more x m)
+  ends_so : (y : Command) (after : Journal) (result : Result (Result ⊤ Failure) Ending) → StepEnds old new kept rows x call undo y after (λ s. take_mark call s may.of s.marks) result → IsSumStep y after result
+  ends_so y after result =
+      step_still disk ambient plugin source o n sink kept rows x call undo y after held main_last sink_last main_same frame.stores.count looks
+      (gave_untold word now (ambient o.ambient) mid (ambient n.ambient) gives_word gives_last [] refl refl) (λ s. take_mark call s may.of s.marks) result
+
+  stays : (m : Mark) (after : Journal) → IsHeld kept (disk n.main) after → after.cat.pending ≡ rows.cat.pending → after.cat.numbers ≡ rows.cat.numbers → StaysAway old new kept rows x call undo (with_mark x m) after (m ∷ [])
+  stays m after held_after pending numbers =
+      stays_away disk ambient plugin source o n sink kept rows x call undo (with_mark x m) after held main_last sink_last main_same frame.stores.count looks (m ∷ []) held_after pending numbers (untold_more x m)
 
   whole_after : (after : Journal) → Turns [] [] rows.cat after.cat → ((t : ℕ) → o.moments < t → AreWhole plugin t rows.cat o.stores.items) → (t : ℕ) → n.moments < t → AreWhole plugin t after.cat n.stores.items
   whole_after after turns whole t late =
       whole_looked plugin t after.cat o.stores.items n.stores.items frame.stores.count looks (whole_turned_none plugin t rows.cat after.cat o.stores.items turns (whole t (omega (arith, late, frame.drawn))))
-
-  gives_last : IsTrue (ambient n.ambient).tells → GivesTime mid now (ambient n.ambient)
-  gives_last = let G : A → Type 0 = λ a. IsTrue (ambient a).tells → GivesTime mid now (ambient a) in subst G (sym frame.ambient) gives_time
 
   later : EachPair (λ k before after. (plugin before).faults ≤ (plugin after).faults) o.stores.items n.stores.items
   later k before after was is = (frame.stores.later k before after was is).faults
@@ -131,7 +133,7 @@ module _ {D A P : Type 0} (disk : D → DiskState) (ambient : A → AmbientState
 
   -- ---- a call of this slot failed
 
-  module _ (slot : ℕ) (there : IsFileIn files slot) (rose : RoseAt plugin slot o.stores.items n.stores.items) where
+  module _ (slot : ℕ) (there : IsFileIn files slot) (rose : RoseAt plugin slot o.stores.items n.stores.items) (spelled : IsTrue (mark_fits (mark.Fault slot 0))) where
     abbrev fault : Mark
     fault = mark.Fault slot 0
 
@@ -154,7 +156,8 @@ module _ {D A P : Type 0} (disk : D → DiskState) (ambient : A → AmbientState
       marks = fault ∷ [];
       marks_are = refl;
       rest = refl;
-      is_kept = inl (stays fault rows (let H : D → Type 0 = λ m. IsHeld kept (disk m) rows in subst H (sym main_same) held) refl);
+      spelled = one_fits fault spelled;
+      is_kept = inl (stays fault rows (let H : D → Type 0 = λ m. IsHeld kept (disk m) rows in subst H (sym main_same) held) refl refl);
       told_of = (tt, tt);
       caused = caused_fault old new frame.stores.count later slot 0 fault_within rose;
       gave = gave_untold word now (ambient o.ambient) mid (ambient n.ambient) gives_word gives_last (fault ∷ []) refl refl;
@@ -164,7 +167,7 @@ module _ {D A P : Type 0} (disk : D → DiskState) (ambient : A → AmbientState
 
   -- ---- all were read
 
-  module _ (bad : List BadReplica) (seen : AreSeen plugin o.stores.items files bad) (after : Journal) (led : LedOn kept rows.cat (may.of.ran word now bad) (disk n.main) after) where
+  module _ (bad : List BadReplica) (seen : AreSeen plugin o.stores.items files bad) (after : Journal) (led : LedOn kept rows.cat (may.of.ran word now bad) (disk n.main) after) (spelled : IsTrue (mark_fits (mark.Ran word now bad))) where
     abbrev ran : Mark
     ran = mark.Ran word now bad
 
@@ -197,7 +200,8 @@ module _ {D A P : Type 0} (disk : D → DiskState) (ambient : A → AmbientState
       marks = ran ∷ [];
       marks_are = refl;
       rest = refl;
-      is_kept = inl (stays ran after held_after leads.pending);
+      spelled = one_fits ran spelled;
+      is_kept = inl (stays ran after held_after leads.pending leads.numbers);
       told_of = (told_found old rows.cat slots stores_last word now may.read bad may.files_are seen, tt);
       caused = caused_none old new frame.stores.count later (ran ∷ []) (λ slot. refl);
       gave = gave_ran word now (ambient o.ambient) mid (ambient n.ambient) gives_word gives_last bad;
@@ -221,7 +225,7 @@ module _ {D A P : Type 0} (disk : D → DiskState) (ambient : A → AmbientState
         → IsStep old new kept rows x call undo y after (λ s. take_mark call s d s.marks) (Ok ran)
     sum_took (looked.Fault slot) ran says took =
         let S : Result ⊤ Failure → Command → Journal → Type 0 = λ r z j. IsSumStep z j (Ok r) in
-        of_row (Ok ran) (subst (λ r. S r y after) (sym took.0) (subst (λ z. S (Err (Refused (refusal.Fault slot))) z after) (sym took.1) (subst (λ j. S (Err (Refused (refusal.Fault slot))) (with_mark x (mark.Fault slot 0)) j) (sym took.2) (failed slot says.0 says.1))))
+        of_row (Ok ran) (subst (λ r. S r y after) (sym took.0) (subst (λ z. S (Err (Refused (refusal.Fault slot))) z after) (sym took.1) (subst (λ j. S (Err (Refused (refusal.Fault slot))) (with_mark x (mark.Fault slot 0)) j) (sym took.2) (failed slot says.0 says.1 took.3))))
     sum_took (looked.Found bad) ran says took =
         let S : Result ⊤ Failure → Command → Type 0 = λ r z. IsSumStep z after (Ok r) in
-        of_row (Ok ran) (subst (λ r. S r y) (sym took.0) (subst (λ z. S (Ok tt) z) (sym took.1) (sums bad says after took.2)))
+        of_row (Ok ran) (subst (λ r. S r y) (sym took.0) (subst (λ z. S (Ok tt) z) (sym took.1) (sums bad says after took.2 took.3)))

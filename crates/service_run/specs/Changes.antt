@@ -1,11 +1,12 @@
 -- Changes of rows that a call makes, and leaves to the next commit.
-use Rattle.std.specs.Prelude.{◌≡◌, ◌++◌, ◌∷◌, [], List, Ok, IsTrue}
+use Rattle.std.specs.Prelude.{◌≡◌, ◌++◌, ◌∷◌, [], Bool, List, Ok, IsTrue}
 use Rattle.std.specs.List.{list_all}
 use Rattle.grid_outside.specs.Disk.{DiskState}
 use Rattle.grid_model.specs.Grid.{Grid}
 use Rattle.grid_model.specs.Rows.{Cat}
 use Rattle.grid_model.specs.RowGrids.{grid_of}
 use Rattle.grid_model.specs.Applying.{apply_all}
+use Rattle.grid_model.specs.Deltas.{all_fit, mark as mark_parts}
 use Rattle.grid_model.specs.Meanings.{Meaning, gives}
 use Rattle.grid_model.specs.Doing.{Course, Did, did_well}
 use Rattle.grid_model.specs.Replies.{mark_line}
@@ -40,6 +41,10 @@ pub record LedOn (kept c : Cat) (g : Grid) (main : DiskState) (new : Journal) : 
 -- What is done makes the grid of the one catalogue that of the other, and takes no mark.
 abbrev pub MakesGridOf : Cat → Cat → (Course → Meaning Did) → Type 0
 MakesGridOf c after does = (s : Course) → s.grid ≡ grid_of c → does s ≡ gives (did_well (record s { grid = grid_of after }))
+
+-- whether a mark may be kept
+abbrev pub mark_fits : Mark → Bool
+mark_fits m = all_fit (mark_parts m)
 
 -- the command with one mark more, whose line is still to be told
 abbrev pub with_mark : Command → Mark → Command

@@ -7,6 +7,7 @@ use Rattle.grid_model.specs.Meanings.{Meaning, Waiting, waits}
 use Rattle.grid_model.specs.Doing.{Course, Did}
 use Rattle.grid_model.specs.declared.calls.Call.{Call}
 use Rattle.grid_model.specs.declared.deltas.Pending.{Pending}
+use Rattle.grid_headline.specs.Files.{KeepsNamed}
 use Rattle.grid_headline.specs.Numbers.{KeepsNumbers}
 use Rattle.chain_run.specs.Places.{Place, course_at}
 use Rattle.service_run.specs.declared.command.Command.{Command}
@@ -29,13 +30,14 @@ noted_in x call undo = record {
 }
 
 -- What rows have beside the grid and the pending command is as it was, and each user that is there keeps the name. No number of a
--- vault file is given again.
+-- vault file is given again, and no file is lost track of.
 pub record KeepsBeside (before after : Cat) : Type 0 where
   pub run : after.numbers.run ≡ before.numbers.run
   pub last : after.numbers.last ≡ before.numbers.last
   pub rules : after.rules ≡ before.rules
   pub stores : after.stores ≡ before.stores
   pub keeps : KeepsNumbers before after
+  pub named : KeepsNamed before after
   pub users : (id : ℕ) → IsTrue (is_user before id) → IsTrue (is_user after id)
   pub names : (id : ℕ) → IsTrue (is_user before id) → user_name after id ≡ user_name before id
 
@@ -51,4 +53,5 @@ waiting_at p call = record { call = call; grid = p.grid; taken = p.taken; passed
 
 -- It waits there for a mark, before any is taken.
 abbrev pub WaitsAt : (Course → Meaning Did) → Place → Call → Type 0
-WaitsAt does p call = (begun : ℕ) → (does (course_at p [] begun false) ≡ waits (waiting_at p call)) × (does (course_at p [] begun true) ≡ waits (waiting_at p call))
+WaitsAt does p call = (begun : ℕ)
+    → (does (course_at p [] begun false) ≡ waits (waiting_at p call)) × (does (course_at p [] begun true) ≡ waits (waiting_at p call))

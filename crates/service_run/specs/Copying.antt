@@ -24,8 +24,8 @@ use Rattle.grid_deed.specs.declared.copying.Copied.TheVariants as copied
 use Rattle.run_laws.specs.Passes.{Seen}
 use Rattle.service_run.specs.declared.command.Command.{Command}
 use Rattle.service_run.specs.declared.ending.Ending.{Ending}
-use Rattle.service_run.specs.Changes.{with_mark}
-use Rattle.service_run.specs.Noting.{OneOfNote, IsOutOfRoom}
+use Rattle.service_run.specs.Changes.{mark_fits, with_mark}
+use Rattle.service_run.specs.Noting.{IsOutOfRoom, NoteLeaves}
 use Rattle.service_run.specs.Sums.{Drawn}
 
 -- the mark of a deed that copied this file, of this word and this time
@@ -65,25 +65,24 @@ module _ {D A P K : Type 0} (disk : D → DiskState) (plugin : P → StoreState)
   CopyEnds (Ok answer) journal = IsCopyStaged answer journal
   CopyEnds (Err e) journal = IsOutOfRoom (disk old.outside.main) (disk new.outside.main) (sink old.sink) (sink new.sink) e
 
-  -- what a stop leaves, where main has this catalogue
-  abbrev pub CopyImages : Cat → Type 0
-  CopyImages kept = IsTrue (disk old.outside.main).tells → IsTrue (sink old.sink).tells → IsSettled (disk old.outside.main) → IsSettled (sink old.sink)
-      → (t : ℕ) (main shown : Text) → old.outside.moments < t → (disk new.outside.main).left t main → (sink new.sink).left t shown
-      → OneOfNote kept p.mid text (sink old.sink).holds main shown
+  -- what was shown and what a stop leaves, where main has this catalogue
+  abbrev pub CopyLeaves : Cat → Type 0
+  CopyLeaves kept = NoteLeaves (disk old.outside.main) (disk new.outside.main) (sink old.sink) (sink new.sink) kept p.mid old.outside.moments text
 
   -- It was carried out, or how far that came, where main has this catalogue.
   pub record IsCopiedNoted (kept : Cat) (result : Result Copied Ending) (journal : Journal) : Type 0 where
     pub ends : CopyEnds result journal
-    pub images : CopyImages kept
+    pub leaves : CopyLeaves kept
 
   -- ---- its mark
 
-  -- The command told what it had to tell, and took the mark of how the copying ended.
+  -- The command told what it had to tell, and took the mark of how the copying ended, which may be kept.
   pub record TookCopied (x : Command) (drawn : Drawn) (ran : Result Unit Failure) (y : Command) (journal : Journal) : Type 0 where
     pub answer : Copied
     pub staged : IsCopyStaged answer journal
     pub ran_is : ran ≡ copied_ran from answer
     pub command : y ≡ with_mark (record x { untold = [] }) (copied_mark drawn.word drawn.now from answer)
+    pub spelled : IsTrue (mark_fits (copied_mark drawn.word drawn.now from answer))
 
   -- how it ended
   abbrev pub MarkEnds : Command → Drawn → Result (Result Unit Failure) Ending → Command → Journal → Type 0
@@ -94,4 +93,4 @@ module _ {D A P K : Type 0} (disk : D → DiskState) (plugin : P → StoreState)
   pub record IsCopiedMarked (kept : Cat) (x : Command) (drawn : Drawn) (result : Result (Result Unit Failure) Ending)
       (y : Command) (journal : Journal) : Type 0 where
     pub ends : MarkEnds x drawn result y journal
-    pub images : CopyImages kept
+    pub leaves : CopyLeaves kept

@@ -8,7 +8,7 @@ use Rattle.grid_model.specs.Names.{Text}
 use Rattle.grid_model.specs.Rows.{Cat}
 use Rattle.grid_model.specs.declared.deltas.Pending.{Pending}
 use Rattle.grid_journal.specs.Journal.{Journal, ClosesAt}
-use Rattle.grid_journal.specs.Stands.{StandsFor}
+use Rattle.grid_journal.specs.Stands.{StandsEither, StandsFor}
 use Rattle.grid_deed.specs.Held.{IsKept}
 use Rattle.service_run.specs.declared.ending.Ending.{Ending}
 use Rattle.service_run.specs.declared.ending.Ending.TheVariants.{Worn}
@@ -40,9 +40,15 @@ module _ (main_old main_new : DiskState) (sink_old sink_new : SinkState) where
   NoteEnds after text (Ok done) new = IsTold after text new
   NoteEnds after text (Err e) new = IsOutOfRoom e
 
+  -- what of the text was shown, and what a stop leaves, of main alone and of both, from so many moments on
+  pub record NoteLeaves (kept after : Cat) (from : ℕ) (text : Text) : Type 0 where
+    pub shown : IsTrue sink_old.tells → AddsPart text sink_old.holds sink_new.holds
+    pub main : IsTrue main_old.tells → IsSettled main_old → (t : ℕ) (main : Text) → from < t → main_new.left t main → StandsEither kept after main
+    pub images : IsTrue main_old.tells → IsTrue sink_old.tells → IsSettled main_old → IsSettled sink_old → (t : ℕ) (main sink : Text)
+        → from < t → main_new.left t main → sink_new.left t sink → OneOfNote kept after text sink_old.holds main sink
+
   -- Changes that lead from the one catalogue to the other were committed, and then the text was told, or how far that came, from so
   -- many moments on.
   pub record IsNotedSo (kept after : Cat) (from : ℕ) (text : Text) (result : Result ⊤ Ending) (new : Journal) : Type 0 where
     pub ends : NoteEnds after text result new
-    pub images : IsTrue main_old.tells → IsTrue sink_old.tells → IsSettled main_old → IsSettled sink_old → (t : ℕ) (main sink : Text)
-        → from < t → main_new.left t main → sink_new.left t sink → OneOfNote kept after text sink_old.holds main sink
+    pub leaves : NoteLeaves kept after from text

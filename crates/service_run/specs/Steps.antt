@@ -1,11 +1,12 @@
 -- What one call of a command leaves, done, refused or cut short.
-use Rattle.std.specs.Prelude.{◌≡◌, ◌⊎◌, ℕ, ◌^◌, ◌<◌, List, ◌++◌, Some, Result, Ok, Err, IsTrue, flat_map, length}
-use Rattle.std.specs.List.{AllByRecursion}
+use Rattle.std.specs.Prelude.{◌≡◌, ◌⊎◌, ℕ, ◌^◌, ◌<◌, List, [], ◌++◌, Some, Result, Ok, Err, IsTrue, flat_map, length}
+use Rattle.std.specs.List.{AllByRecursion, list_all}
 use Rattle.grid_outside.specs.Device.{DeviceState, IsSettled, Looks}
 use Rattle.grid_outside.specs.Sink.{AddsPart}
 use Rattle.grid_outside.specs.declared.outside.Wear.TheVariants as wear
 use Rattle.grid_model.specs.Names.{Text}
 use Rattle.grid_model.specs.Rows.{Cat}
+use Rattle.grid_model.specs.Deltas.{all_fit, mark as mark_parts}
 use Rattle.grid_model.specs.Meanings.{Meaning, gives}
 use Rattle.grid_model.specs.Doing.{Course, Did}
 use Rattle.grid_model.specs.Replies.{mark_line}
@@ -63,6 +64,11 @@ pub data OneOfStep (does : Course → Meaning Did) (kept rows : Cat) (x : Comman
   in_call : (c : Cat) → IsNoted rows x call undo c → WaitsAt does (place_by rows x) call → StandsFor main c → AddsPart x.untold shown sink
       → OneOfStep does kept rows x call undo shown main sink
 
+-- what it leaves of main alone: what was there, or the catalogue that notes the command
+pub data LeavesMain (kept rows : Cat) (x : Command) (call : Call) (undo : List Call) (main : Text) : Type 0 where
+  left_so : StandsFor main kept → LeavesMain kept rows x call undo main
+  noted_so : (c : Cat) → IsNoted rows x call undo c → StandsFor main c → LeavesMain kept rows x call undo main
+
 module _ {B : Type 0} (old new : World B) (kept : Cat) (rows : Journal) (x : Command) (call : Call) (undo : List Call) (y : Command) (after : Journal) where
   -- ---- how it ended
 
@@ -73,13 +79,16 @@ module _ {B : Type 0} (old new : World B) (kept : Cat) (rows : Journal) (x : Com
     pub sink : IsStill old.sink new.sink
     pub held : IsHeld kept new.main after
     pub pending : after.cat.pending ≡ rows.cat.pending
+    pub numbers : after.cat.numbers ≡ rows.cat.numbers
     pub untold : y.untold ≡ x.untold ++ lines_of x.number marks
 
-  -- it was noted and all that was still to be told was: main has the catalogue that notes it, and in memory it is pending so
-  pub record WasNoted (marks : List Mark) : Type 0 where
+  -- it was noted where it waits, and all that was still to be told was: main has the catalogue that notes it, and in memory it is pending so
+  pub record WasNoted (does : Course → Meaning Did) (marks : List Mark) : Type 0 where
     pub cat : Cat
     pub noted : IsNoted rows.cat x call undo cat
+    pub waits : WaitsAt does (place_by rows.cat x) call
     pub pending : after.cat.pending ≡ Some (noted_in x call undo)
+    pub numbers : after.cat.numbers ≡ cat.numbers
     pub held : IsHeld cat new.main after
     pub settled : IsTrue old.main.tells → IsSettled new.main
     pub sink : IsTrue old.sink.tells → new.sink.holds ≡ old.sink.holds ++ x.untold
@@ -94,7 +103,9 @@ module _ {B : Type 0} (old new : World B) (kept : Cat) (rows : Journal) (x : Com
     pub marks : List Mark
     pub marks_are : y.marks ≡ x.marks ++ marks
     pub rest : y ≡ record x { marks = y.marks; untold = y.untold }
-    pub is_kept : StaysAway marks ⊎ WasNoted marks
+    -- they may be kept
+    pub spelled : IsTrue (list_all (λ m. all_fit (mark_parts m)) marks)
+    pub is_kept : StaysAway marks ⊎ WasNoted does marks
     pub told_of : AllByRecursion (IsToldOf (IsKnownBy old rows.cat) (length old.stores)) marks
     pub caused : AreCaused old new marks
     pub gave : IsTrue new.ambient.tells → Gave marks old.ambient new.ambient
@@ -117,6 +128,12 @@ module _ {B : Type 0} (old new : World B) (kept : Cat) (rows : Journal) (x : Com
   -- A call of a command, from the rows in memory on, where main has this catalogue.
   pub record IsStep (does : Course → Meaning Did) (result : Result (Result Unit Failure) Ending) : Type 0 where
     pub ends : StepEnds does result
+    -- what the ambient gave, where no mark of it is told
+    pub asked : IsTrue new.ambient.tells → Gave [] old.ambient new.ambient
+    -- no more is shown than what was still to be told
+    pub shown : IsTrue old.sink.tells → AddsPart x.untold old.sink.holds new.sink.holds
+    pub main : IsTrue old.main.tells → IsSettled old.main → (t : ℕ) (main : Text) → old.moments < t → new.main.left t main
+        → LeavesMain kept rows.cat x call undo main
     pub images : IsTrue old.main.tells → IsTrue old.sink.tells → IsSettled old.main → IsSettled old.sink → (t : ℕ) (main sink : Text)
         → old.moments < t → new.main.left t main → new.sink.left t sink → OneOfStep does kept rows.cat x call undo old.sink.holds main sink
     pub whole : KeepBothWhole old.plugin old.moments kept rows.cat old.main new.main old.stores new.stores

@@ -17,7 +17,7 @@ use Rattle.grid_vault.specs.Vault.{RoseAt}
 use Rattle.service_run.specs.declared.command.Command.{Command}
 use Rattle.service_run.specs.declared.looking.Looked.{Looked}
 use Rattle.service_run.specs.declared.looking.Looked.TheVariants as looked
-use Rattle.service_run.specs.Changes.{LedOn, with_mark}
+use Rattle.service_run.specs.Changes.{LedOn, mark_fits, with_mark}
 
 module _ {B : Type 0} (plugin : B → StoreState) (stores : List B) where
   -- These bytes of the file were read in its store, at most one past the recorded size, and they are not what is recorded.
@@ -69,8 +69,11 @@ pub record Drawn : Type 0 where
   pub now : ℕ
 
 module _ (kept : Cat) (main : DiskState) (rows : Journal) (x y : Command) (after : Journal) (of : Deed) (drawn : Drawn) where
-  -- The command took the mark of that, and failed where it tells of a fault. Else the grid is that of the deed, by changes that are staged.
+  -- The command took the mark of that, which may be kept, and failed where it tells of a fault. Else the grid is that of the deed, by
+  -- changes that are staged.
   abbrev pub TookLooked : Looked → Result Unit Failure → Type 0
-  TookLooked (looked.Fault slot) ran = (ran ≡ Err (Refused (refusal.Fault slot))) × (y ≡ with_mark x (mark.Fault slot 0)) × (after ≡ rows)
+  TookLooked (looked.Fault slot) ran =
+      (ran ≡ Err (Refused (refusal.Fault slot))) × (y ≡ with_mark x (mark.Fault slot 0)) × (after ≡ rows) × IsTrue (mark_fits (mark.Fault slot 0))
   TookLooked (looked.Found bad) ran =
       (ran ≡ Ok tt) × (y ≡ with_mark x (mark.Ran drawn.word drawn.now bad)) × LedOn kept rows.cat (of.ran drawn.word drawn.now bad) main after
+      × IsTrue (mark_fits (mark.Ran drawn.word drawn.now bad))

@@ -15,7 +15,7 @@ fn copy_texts(alloc: Global, texts: &Texts) -> Result<Texts, AllocError>
 }
 
 /// A copy of a call. Fails for want of memory alone.
-pub(crate) fn copy_call(alloc: Global, call: &Call) -> Result<Call, AllocError>
+pub fn copy_call(alloc: Global, call: &Call) -> Result<Call, AllocError>
     ensures { IfOk result (λ copy. copy ≡ call.now) }
 {
     let name = Text::copy_of(alloc, call.name.as_slice())?;
@@ -24,7 +24,7 @@ pub(crate) fn copy_call(alloc: Global, call: &Call) -> Result<Call, AllocError>
 }
 
 /// A copy of some calls. Fails for want of memory alone.
-pub(crate) fn copy_calls(alloc: Global, calls: &Calls) -> Result<Calls, AllocError>
+pub fn copy_calls(alloc: Global, calls: &Calls) -> Result<Calls, AllocError>
     ensures { IfOk result (λ copy. copy ≡ calls.now) }
 {
     let mut copy = Vec::new(alloc);
@@ -82,7 +82,7 @@ fn copy_mark(alloc: Global, mark: &Mark) -> Result<Mark, AllocError>
 }
 
 /// A copy of some marks. Fails for want of memory alone.
-pub(crate) fn copy_marks(alloc: Global, marks: &Marks) -> Result<Marks, AllocError>
+pub fn copy_marks(alloc: Global, marks: &Marks) -> Result<Marks, AllocError>
     ensures { IfOk result (λ copy. copy ≡ marks.now) }
 {
     let mut copy = Vec::new(alloc);
@@ -102,7 +102,7 @@ fn copy_passed(alloc: Global, passed: &Passed) -> Result<Passed, AllocError>
 }
 
 /// A copy of some of them. Fails for want of memory alone.
-pub(crate) fn copy_passeds(alloc: Global, passeds: &Passeds) -> Result<Passeds, AllocError>
+pub fn copy_passeds(alloc: Global, passeds: &Passeds) -> Result<Passeds, AllocError>
     ensures { IfOk result (λ copy. copy ≡ passeds.now) }
 {
     let mut copy = Vec::new(alloc);

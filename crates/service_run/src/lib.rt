@@ -18,6 +18,7 @@ mod summing;
 
 pub use changing::change;
 pub use command::Command;
+pub use copies::{copy_call, copy_calls, copy_marks, copy_passeds};
 pub use copying_objects::copy_object;
 pub use ending::Ending;
 pub use looking::{Looked, look_at_all, numbers_of};

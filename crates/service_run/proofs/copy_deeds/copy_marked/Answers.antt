@@ -1,4 +1,4 @@
-use Rattle.std.proofs.Common.{◌≡◌, Err, ap, ◌∙◌, arith}
+use Rattle.std.proofs.Common.{◌≡◌, Err, IsTrue, ap, ◌∙◌, subst, arith}
 use Rattle.std.specs.Prelude.{⊤, Result, [], IsErrOf}
 use Rattle.grid_outside.specs.declared.outside.Wear.TheVariants as wear
 use Rattle.grid_model.specs.declared.marks.Mark.{Mark}
@@ -6,7 +6,7 @@ use Rattle.grid_model.specs.declared.refusal.Failure.{Failure}
 use Rattle.service_run.specs.declared.command.Command.{Command}
 use Rattle.service_run.specs.declared.ending.Ending.{Ending}
 use Rattle.service_run.specs.declared.ending.Ending.TheVariants as ending
-use Rattle.service_run.specs.Changes.{with_mark}
+use Rattle.service_run.specs.Changes.{mark_fits, with_mark}
 use Rattle.service_run.proofs.NoteSteps.{no_vaults}
 use Rattle.service_run.proofs.Passing.{passes_as}
 use Rattle.service_run.proofs.copy_deeds.copy_marked.Goals as goal
@@ -25,7 +25,7 @@ copy_noted-requires-clause-ready g c =
 -- ---- it came to no end
 
 pub returns-in-Err-clause-marked : goal.returns-in-Err-clause-marked
-returns-in-Err-clause-marked g c kept held p = let it = c.in-Err.ensures.copied kept held p in record { ends = it.ends; images = it.images }
+returns-in-Err-clause-marked g c kept held p = let it = c.in-Err.ensures.copied kept held p in record { ends = it.ends; leaves = it.leaves }
 
 pub returns-in-Err-clause-passes : goal.returns-in-Err-clause-passes
 returns-in-Err-clause-passes g c =
@@ -41,7 +41,7 @@ returns-in-Err-clause-left g c place is =
     (c.in-Err.ensures.copied c.requires.held.0 c.requires.held.1 c.requires.plan).ends place same
 
 pub returns-in_default-clause-marked : goal.returns-in_default-clause-marked
-returns-in_default-clause-marked g c kept held p = record { ends = tt; images = (c.in-Ok.ensures.copied kept held p).images }
+returns-in_default-clause-marked g c kept held p = record { ends = tt; leaves = (c.in-Ok.ensures.copied kept held p).leaves }
 
 pub returns-in_default-clause-passes : goal.returns-in_default-clause-passes
 returns-in_default-clause-passes g c =
@@ -55,12 +55,14 @@ pub returns-clause-marked : goal.returns-clause-marked
 returns-clause-marked g c kept held p =
     let x = c.args.command.now in
     let it = c.in-Ok.ensures.copied kept held p in
+    let F : Mark → Type 0 = λ m. IsTrue (mark_fits m) in
     record {
       ends = record {
         answer = c.in-Ok.copied;
         staged = it.ends;
         ran_is = c.copied_ran.ensures;
-        command = c.in-Ok-take_mark.ensures ∙ ap (λ (z : Command). with_mark z c.copied_mark.result) c.in-Ok.ensures.command ∙ ap (λ (m : Mark). with_mark (record x { untold = [] }) m) c.copied_mark.ensures;
+        command = c.in-Ok-take_mark.ensures.taken ∙ ap (λ (z : Command). with_mark z c.copied_mark.result) c.in-Ok.ensures.command ∙ ap (λ (m : Mark). with_mark (record x { untold = [] }) m) c.copied_mark.ensures;
+        spelled = subst F c.copied_mark.ensures c.in-Ok-take_mark.ensures.kept;
       };
-      images = it.images;
+      leaves = it.leaves;
     }

@@ -1,5 +1,5 @@
-use Rattle.std.proofs.Common.{IsTrue, Err, Ok, refl, sym, ap, ◌∙◌, subst, arith}
-use Rattle.std.specs.Prelude.{⊤, Result, IsErrOf}
+use Rattle.std.proofs.Common.{IsTrue, Err, refl, sym, ap, ◌∙◌, subst, arith}
+use Rattle.std.specs.Prelude.{⊤, [], Result, IsErrOf}
 use Rattle.grid_outside.specs.Ambient.{GivesTime}
 use Rattle.grid_outside.specs.declared.outside.Wear.TheVariants as wear
 use Rattle.grid_model.specs.Rows.{Cat}
@@ -10,6 +10,8 @@ use Rattle.grid_model.specs.Doing.{take_mark}
 use Rattle.grid_model.specs.declared.refusal.Failure.{Failure}
 use Rattle.grid_deed.proofs.Keeping.{made_more}
 use Rattle.plan_object.specs.ReplPlans.{MayRepl}
+use Rattle.run_laws.proofs.Draws.{gave-none}
+use Rattle.run_laws.proofs.OneMark.{gave_untold}
 use Rattle.service_run.specs.declared.ending.Ending.{Ending}
 use Rattle.service_run.specs.declared.ending.Ending.TheVariants as ending
 use Rattle.service_run.specs.Commands.{noted_in}
@@ -31,7 +33,7 @@ returns-in-Some-clause-step g c source kept d held row_is =
     let r : Result (Result ⊤ Failure) Ending = Err (ending.Worn wear.Vaults c.in-Some.at) in
     let spent = c.spent_vaults.ensures.spent c.in-Some.at c.in-Some.is in
     step_still g.D.Disk.disk g.A.Ambient.ambient g.P.Plugin.plugin source o o k kept s x call c.args.undo.now x s held c.requires.ready.outside.main_last c.requires.ready.sink_last refl refl (looks_same g.P.Plugin.plugin o.stores.items)
-    (λ t. take_mark call t d t.marks) r (spent.0, spent.1, still_same (g.D.Disk.disk o.main), still_same k)
+    (gave-none (g.A.Ambient.ambient o.ambient)) (λ t. take_mark call t d t.marks) r (spent.0, spent.1, still_same (g.D.Disk.disk o.main), still_same k)
 
 pub returns-in-Some-clause-passes : goal.returns-in-Some-clause-passes
 returns-in-Some-clause-passes g c =
@@ -50,7 +52,7 @@ returns-in_default-clause-step g c source kept d held row_is =
     let call = c.args.call.now in
     let r : Result (Result ⊤ Failure) Ending = Err ending.Memory in
     step_still g.D.Disk.disk g.A.Ambient.ambient g.P.Plugin.plugin source o n k kept c.args.store.now x call c.args.undo.now x c.announce.new.store held c.requires.ready.outside.main_last c.requires.ready.sink_last refl refl (looks_same g.P.Plugin.plugin o.stores.items)
-    (λ t. take_mark call t d t.marks) r tt
+    (gave_untold c.word-word.result c.now-now.result (g.A.Ambient.ambient o.ambient) (g.A.Ambient.ambient c.word-word.new.self) (g.A.Ambient.ambient c.now-now.new.self) c.word-word.ensures c.now-now.ensures [] refl refl) (λ t. take_mark call t d t.marks) r tt
 
 pub returns-in_default-clause-passes : goal.returns-in_default-clause-passes
 returns-in_default-clause-passes g c =
@@ -66,7 +68,7 @@ returns-in_default-repl_plan-clause-step g c source kept d held row_is =
     let call = c.args.call.now in
     let r : Result (Result ⊤ Failure) Ending = Err ending.Memory in
     step_still g.D.Disk.disk g.A.Ambient.ambient g.P.Plugin.plugin source o n k kept c.args.store.now x call c.args.undo.now x c.announce.new.store held c.requires.ready.outside.main_last c.requires.ready.sink_last refl refl (looks_same g.P.Plugin.plugin o.stores.items)
-    (λ t. take_mark call t d t.marks) r tt
+    (gave_untold c.word-word.result c.now-now.result (g.A.Ambient.ambient o.ambient) (g.A.Ambient.ambient c.word-word.new.self) (g.A.Ambient.ambient c.now-now.new.self) c.word-word.ensures c.now-now.ensures [] refl refl) (λ t. take_mark call t d t.marks) r tt
 
 pub returns-in_default-repl_plan-clause-passes : goal.returns-in_default-repl_plan-clause-passes
 returns-in_default-repl_plan-clause-passes g c =
