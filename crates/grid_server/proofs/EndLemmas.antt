@@ -133,4 +133,4 @@ pub stops_before : {B : Type 0} {old mid : World B} {found : Cat} (before : Serv
     → IsTrue mid.main.tells → IsWorn mid before request (Err (ending.Worn wear.Vaults place)) → Serves old mid found (worn wear.Vaults place)
 stops_before {old = old} before {asked = asked} {a = a} {request = request} place plain so means first short told wears =
     let w = wears wear.Vaults place refl in
-    ends_idle plain so short ((w.1, record { cat = before.store.cat; stands = w.2 told _; holds = sym w.0 }), makes_file old.source.left (state_of before) asked a request first means w.3) (λ none fits. tt)
+    ends_idle plain so short ((w.1, record { cat = before.store.cat; stands = w.2 told _; holds = sym w.0 }), inl (makes_file old.source.left (state_of before) asked a request first means w.3)) (λ none fits. tt)

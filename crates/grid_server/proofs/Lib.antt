@@ -1,10 +1,7 @@
 pub mod AnsweredLemmas
 pub mod AskLemmas
 pub mod EndLemmas
-pub mod OpenedLemmas
 pub mod OpensLemmas
-pub mod OpeningLemmas
-pub mod ReopeningLemmas
 pub mod RestLemmas
 pub mod RunLemmas
 pub mod ServingLemmas
@@ -12,4 +9,5 @@ pub mod StatusLemmas
 pub mod SweepingLemmas
 pub mod TaskLemmas
 pub mod TurnLemmas
+pub mod UnopenedLemmas
 pub mod ViewLemmas

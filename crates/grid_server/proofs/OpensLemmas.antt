@@ -1,156 +1,129 @@
--- A run that is begun, or not, over a catalogue that was read.
-use Rattle.std.proofs.Common.{◌≡◌, ◌⊎◌, inl, inr, ℕ, ◌<◌, ◌≤◌, [], Some, Result, Ok, Err, refl, sym, ◌∙◌, subst, arith, IsTrue}
-use Rattle.std.proofs.lemmas.List.{append-nil}
-use Rattle.grid_outside.specs.Device.{IsSettled}
-use Rattle.grid_outside.specs.Sink.{AddsPart}
+-- A run that is opened, or not, over a catalogue that was read.
+use Rattle.std.proofs.Common.{◌≡◌, ◌⊎◌, inl, inr, ℕ, [], length, Some, Ok, refl, sym, ◌∙◌, subst, arith, IsTrue}
 use Rattle.grid_outside.specs.Disk.{DiskState}
 use Rattle.grid_outside.specs.Fault.{Rose}
-use Rattle.grid_outside.proofs.Spans.{same_place}
+use Rattle.grid_outside.specs.declared.outside.Wear.{Wear}
 use Rattle.grid_outside.specs.declared.outside.Wear.TheVariants as wear
 use Rattle.grid_model.specs.Beginning.{begins}
 use Rattle.grid_model.specs.Names.{Text}
 use Rattle.grid_model.specs.Rows.{Cat}
-use Rattle.grid_model.specs.RowGrids.{grid_of}
-use Rattle.grid_journal.specs.Stands.{StandsFor}
-use Rattle.grid_deed.specs.Frame.{Goes}
-use Rattle.grid_deed.proofs.Frames.{goes_nowhere, goes_more}
-use Rattle.grid_deed.proofs.Keeping.{held_stands}
+use Rattle.grid_model.specs.declared.grid.Side.{Side}
+use Rattle.grid_journal.specs.Stands.{Stands}
 use Rattle.grid_headline.specs.Ends.{RunEnd, no_memory, disk_failed, sink_failed, worn, HasRunOut, HasOneMore}
+use Rattle.grid_headline.specs.Files.{DisksAreSettled, IsKnown, WereWhole}
 use Rattle.grid_headline.specs.Headline.{Serves}
+use Rattle.grid_headline.specs.Worlds.{World}
 use Rattle.run_laws.specs.declared.around.Around.{Around}
 use Rattle.run_laws.specs.Ends.{StopsSo, IsGoodIfNoneFailed}
-use Rattle.run_laws.specs.Handled.{report_begun, whole_report}
-use Rattle.run_laws.specs.Opening.{Opens}
+use Rattle.run_laws.specs.Opening.{Opened, Opens}
 use Rattle.run_laws.specs.Sofar.{BeginsPlainly}
-use Rattle.run_laws.specs.Went.{Rests, StoreGoes, AreInOrder}
-use Rattle.run_laws.proofs.Goings.{rests-settled}
+use Rattle.run_laws.specs.Steps.{IsToldOf}
+use Rattle.run_laws.specs.Went.{AreInOrder, Rests}
+use Rattle.run_laws.proofs.Goings.{rests-settled, rests-then}
+use Rattle.run_laws.proofs.Known.{told-less}
+use Rattle.run_laws.proofs.Lists.{all-map}
 use Rattle.run_laws.proofs.RunLaws.{ends_before}
-use Rattle.cmd_run.specs.declared.server.Server.{Server}
-use Rattle.grid_server.specs.Opening.{BeginEnds, OpensRun, Outputs}
-use Rattle.grid_server.specs.RunEnds.{run_end_of}
+use Rattle.run_open.specs.Preparing.{OpenStops}
+use Rattle.run_open.specs.declared.error.OpenError.{OpenError}
+use Rattle.run_open.specs.declared.error.OpenError.TheVariants as error
+use Rattle.run_open.proofs.Fronts.{opens-still}
+use Rattle.grid_server.specs.RunEnds.{run_end_of, unopened}
 use Rattle.grid_server.specs.Serving.{WasOpened}
-use Rattle.grid_outside.specs.declared.outside.Wear.{Wear}
-use Rattle.grid_server.specs.Wearing.{HasWorn}
 use Rattle.grid_server.specs.Views.{Views, world_of}
-use Rattle.grid_server.specs.declared.opening.BeginError.{BeginError}
-use Rattle.grid_server.specs.declared.opening.BeginError.TheVariants as opening
+use Rattle.grid_server.specs.Wearing.{HasWorn}
 use Rattle.grid_server.specs.declared.status.Status.{Status}
 use Rattle.grid_server.specs.declared.status.Status.TheVariants as status
-use Rattle.grid_model.specs.declared.grid.Side.{Side}
-use Rattle.grid_journal.specs.Journal.{ClosesAt}
-use Rattle.grid_server.proofs.AnsweredLemmas.{any_spare}
-use Rattle.grid_server.proofs.RestLemmas.{rests_same, rests_on}
+use Rattle.grid_server.proofs.RestLemmas.{rests_where}
 
--- the status of a run that was not begun
-abbrev pub unbegun : BeginError → Status
-unbegun (opening.Runs place) = status.Worn wear.Runs place
-unbegun (opening.Log place) = status.Worn wear.Log place
-unbegun opening.Disk = status.DiskFault
-unbegun opening.Sink = status.SinkFault
-unbegun opening.Memory = status.Memory
+-- ---- behind a look at the disks
 
-goes_rest : (from : ℕ) (old new : DiskState) → Rests old new → Goes from old new
-goes_rest from old new rests = record { faults = rests.faults; tells = rests.tells; earlier = λ t image le left. rests.left t image left }
+module _ {B : Type 0} (start : World B) (main spare : DiskState) (looked : Rests main start.main) (spare_looked : Rests spare start.spare) (main_tells : IsTrue main.tells) (spare_tells : IsTrue spare.tells) where
+  -- what was before the disks were looked at
+  abbrev pub first_world : World B
+  first_world = record start { main = main; spare = spare }
 
--- nothing was added
-pub adds_none : (bytes old : Text) → AddsPart bytes old old
-adds_none bytes old = record { count = 0; within = omega arith; is = sym (append-nil old) }
+  settled-so : DisksAreSettled first_world → DisksAreSettled start
+  settled-so settled = record {
+    of_main = rests-settled main start.main main_tells looked settled.of_main;
+    of_spare = rests-settled spare start.spare spare_tells spare_looked settled.of_spare;
+  }
 
-module _ {D S K A P : Type 0} (v : Views D S K A P) where
-  -- what a run is shown by
-  abbrev pub outputs : D → K → Outputs
-  outputs main sink = record { main = v.disk main; sink = v.sink sink }
+  module _ (found : Cat) where
+    whole-so : WereWhole first_world start.moments found → WereWhole start start.moments found
+    whole-so whole t late =
+        let was = whole t late in
+        record { rows = was.rows; call = was.call; files = λ slot files its. was.files slot files (record { store = its.store; is = its.is; tells = its.tells; of_store = its.of_store }) }
 
-module _ {D S K A P : Type 0} (v : Views D S K A P) (start : Around D S K A P) (main spare : D) (found : Cat) where
-  -- what was before main was read
-  abbrev pub first : Around D S K A P
-  first = record start { outside = record start.outside { main = main; spare = spare } }
+    known-so : (slot : ℕ) → IsKnown first_world found slot → IsKnown start found slot
+    known-so slot known = record {
+      settled = settled-so known.settled;
+      whole = whole-so known.whole;
+      there = record { store = known.there.store; is = known.there.is; tells = known.there.tells };
+    }
 
-  module _ (main_new spare_new : D) (sink_new : K) (moments_new : ℕ) (plain : BeginsPlainly (world_of v first) found) (order : AreInOrder (world_of v first))
-      (looked : Rests (v.disk main) (v.disk start.outside.main)) (spare_looked : Rests (v.disk spare) (v.disk start.outside.spare)) (same : spare_new ≡ start.outside.spare) (drawn : start.outside.moments ≤ moments_new) where
-    abbrev pub now : Around D S K A P
-    now = record start { outside = record start.outside { main = main_new; spare = spare_new; moments = moments_new }; sink = sink_new }
+    order-so : AreInOrder first_world → AreInOrder start
+    order-so order = record {
+      main_last = omega (arith, order.main_last, looked.last);
+      spare_last = omega (arith, order.spare_last, spare_looked.last);
+      sink_last = order.sink_last;
+      stores_last = order.stores_last;
+    }
 
-    told : IsTrue (v.disk start.outside.main).tells
-    told = subst IsTrue (sym looked.tells) plain.begin.main_tells
+    plain-so : BeginsPlainly first_world found → BeginsPlainly start found
+    plain-so plain = record {
+      begin = record {
+        main_tells = subst IsTrue (sym looked.tells) main_tells;
+        spare_tells = subst IsTrue (sym spare_looked.tells) spare_tells;
+        source_tells = plain.begin.source_tells;
+        stands = (let S : Text → Type 0 = λ m. Stands m start.spare.holds (Ok found) in
+            let T : Text → Type 0 = λ s. Stands main.holds s (Ok found) in
+            subst S (sym (looked.holds main_tells)) (subst T (sym (spare_looked.holds spare_tells)) plain.begin.stands));
+        stores = plain.begin.stores;
+      };
+      rules = plain.rules;
+    }
 
-    settled_so : IsSettled (v.disk main) → IsSettled (v.disk start.outside.main)
-    settled_so = rests-settled (v.disk main) (v.disk start.outside.main) plain.begin.main_tells looked
-
-    module _ (r : Result Server BeginError) (o : OpensRun found start.outside.moments (outputs v start.outside.main start.sink) (outputs v main_new sink_new) r) where
-      opens_by : Opens (world_of v first) (world_of v now) found
-      opens_by = record {
+    module _ (now : World B) where
+      pub opens-before : Opens start now found → Opens first_world now found
+      opens-before o = record {
+        undone = o.undone;
+        taken = o.taken;
+        first = o.first;
+        told_of = all-map (IsToldOf (IsKnown start found) (length start.stores)) (IsToldOf (IsKnown first_world found) (length start.stores))
+            (told-less (IsKnown start found) (IsKnown first_world found) known-so (length start.stores)) o.undone.report o.told_of;
         went = record {
-          drawn = drawn;
-          main = goes_more start.outside.moments start.outside.moments (v.disk main) (v.disk start.outside.main) (v.disk main_new) (omega arith) (goes_rest start.outside.moments (v.disk main) (v.disk start.outside.main) looked) o.main;
-          sink = o.sink;
-          spare = rests_on v.disk (v.disk spare) start.outside.spare spare_new same spare_looked;
-          count = refl;
-          stores = λ slot before after was is. (
-              let one : after ≡ before = same_place start.outside.stores.items slot before after was is in
-              let G : P → Type 0 = λ b. StoreGoes (world_of v first) (world_of v now) slot before b in
-              subst G (sym one) (record { goes = goes_nowhere start.outside.moments (v.plugin before) })
-              );
+          drawn = o.went.drawn;
+          main = record {
+            faults = omega (arith, looked.faults, o.went.main.faults);
+            tells = o.went.main.tells ∙ looked.tells;
+            earlier = λ t image early left. looked.left t image (o.went.main.earlier t image early left);
+          };
+          sink = o.went.sink;
+          spare = rests-then spare start.spare now.spare spare_looked o.went.spare;
+          count = o.went.count;
+          stores = λ slot was here is_was is_here. record { goes = (o.went.stores slot was here is_was is_here).goes };
         };
+        caused = record { counted = o.caused.counted; there = o.caused.there };
+        gave = o.gave;
         shown = o.shown;
-        stores = λ slot before after was is. (
-            let one : after ≡ before = same_place start.outside.stores.items slot before after was is in
-            let G : P → Type 0 = λ b. Rests (v.plugin before) (v.plugin b) in
-            subst G (sym one) (rests_same (v.plugin before))
-            );
-        ambient = refl;
-        main = λ settled t image late left. o.leaves told (settled_so settled) t image late left;
-        images = λ sink_told settled sink_settled t main sink late main_left sink_left. o.images told sink_told (settled_so settled) sink_settled t main sink late main_left sink_left;
+        whole = λ settled whole. o.whole (settled-so settled) (whole-so whole);
+        named = λ free settled. o.named free (rests-settled main start.main main_tells looked settled);
+        images = λ tells settled of_sink. o.images tells (rests-settled main start.main main_tells looked settled) of_sink;
       }
 
-      -- it was not begun
-      pub serves_not : (x : RunEnd) → StopsSo (world_of v first) (world_of v now) found (begins (grid_of found) []) [] x → IsGoodIfNoneFailed (world_of v first) (world_of v now) x
-          → Serves (world_of v first) (world_of v now) found x
-      serves_not x stops good = ends_before plain order opens_by stops good
-
-    -- it was opened
-    pub opens_now : (s : Server) → OpensRun found start.outside.moments (outputs v start.outside.main start.sink) (outputs v main_new sink_new) (Ok s) → WasOpened v first now found
-    opens_now s o =
-        let b = o.ends.0 in
-        record {
-          plain = plain;
-          order = order;
-          opened = record {
-            opens = opens_by (Ok s) o;
-            text = o.ends.1;
-            stands = (let S : Cat → Type 0 = λ c. StandsFor (v.disk main_new).holds c in subst S b.1 (held_stands s.store.cat (v.disk main_new) s.store b.0.held (subst IsTrue (sym o.main.tells) told)));
-            settled = λ settled. b.3 told;
-            sink_settled = o.ends.2;
-            one = subst (λ (x : Text). HasOneMore x (v.disk main_new).holds) (looked.holds plain.begin.main_tells) (b.5 told);
-          };
-        }
-
-    closes_now : (place : ℕ) → Rests (v.disk start.outside.main) (v.disk main_new) → ClosesAt (v.disk start.outside.main).holds place → ClosesAt (v.disk main_new).holds place
-    closes_now place rests closes = let C : Text → Type 0 = λ m. ClosesAt m place in subst C (sym (rests.holds told)) closes
-
-    pub serves_unbegun : (e : BeginError) (end : RunEnd) → OpensRun found start.outside.moments (outputs v start.outside.main start.sink) (outputs v main_new sink_new) (Err e) → run_end_of (unbegun e) ≡ Some end
-        → (e ≡ opening.Disk → Rose (v.disk start.outside.main).faults (v.disk main_new).faults) → (e ≡ opening.Sink → Rose (v.sink start.sink).faults (v.sink sink_new).faults) → Serves (world_of v first) (world_of v now) found end
-    serves_unbegun (opening.Runs place) end o its cause sink_cause =
-        let is : worn wear.Runs place ≡ end = cc in
-        let S : RunEnd → Type 0 = λ x. Serves (world_of v first) (world_of v now) found x in
-        subst S is (serves_not (Err (opening.Runs place)) o (worn wear.Runs place) ((o.ends.1, o.ends.2), refl) (λ none fits. tt))
-    serves_unbegun (opening.Log place) end o its cause sink_cause =
-        let is : worn wear.Log place ≡ end = cc in
-        let S : RunEnd → Type 0 = λ x. Serves (world_of v first) (world_of v now) found x in
-        let closes = closes_now place o.ends.0 (o.ends.3 told) in
-        subst S is (serves_not (Err (opening.Log place)) o (worn wear.Log place) ((o.ends.2, record { records = closes.records; log = closes.log; place_is = closes.place_is }), tt) (λ none fits. tt))
-    serves_unbegun opening.Disk end o its cause sink_cause =
-        let is : disk_failed ≡ end = cc in
-        let S : RunEnd → Type 0 = λ x. Serves (world_of v first) (world_of v now) found x in
-        subst S is (serves_not (Err opening.Disk) o disk_failed tt (λ none fits. absurd (none.of_main (let rose = cause refl in omega (arith, rose, looked.faults)))))
-    serves_unbegun opening.Sink end o its cause sink_cause =
-        let is : sink_failed ≡ end = cc in
-        let S : RunEnd → Type 0 = λ x. Serves (world_of v first) (world_of v now) found x in
-        subst S is (serves_not (Err opening.Sink) o sink_failed tt (λ none fits. absurd (none.of_sink (sink_cause refl))))
-    serves_unbegun opening.Memory end o its cause sink_cause =
-        let is : no_memory ≡ end = cc in
-        let S : RunEnd → Type 0 = λ x. Serves (world_of v first) (world_of v now) found x in
-        subst S is (serves_not (Err opening.Memory) o no_memory tt (λ none fits. tt))
+      pub opened-before : (c : Cat) → Opened start now found c → Opened first_world now found c
+      unfolding opens-before
+      opened-before c o = record {
+        opens = opens-before o.opens;
+        all = o.all;
+        text = o.text;
+        begun = o.begun;
+        stands = o.stands;
+        settled = λ settled. o.settled (rests-settled main start.main main_tells looked settled);
+        sink_settled = o.sink_settled;
+        one = λ none. subst (λ (x : Text). HasOneMore x now.main.holds) (looked.holds main_tells) (o.one none);
+        orphans = o.orphans;
+      }
 
 -- ---- what has run out
 
@@ -159,17 +132,61 @@ run_out found main spare wear.Runs place w = absurd w
 run_out found main spare wear.Vaults place w = (w.0, w.1 spare)
 run_out found main spare wear.Log place w = w
 
--- the room of the log, before a run was begun
-pub log_out : (found : Cat) (at place : ℕ) (what : Wear) (main_old main_new : DiskState) (spare : Text) → BeginEnds found main_old main_new (Err (opening.Log at)) → status.Worn wear.Log at ≡ status.Worn what place → IsTrue main_old.tells
-    → HasRunOut found main_new.holds spare place what
-log_out found at place what main_old main_new spare ends is told =
+-- before a run was begun
+pub open_out : (found : Cat) (main_old main_new : DiskState) (spare : Text) (e : OpenError) (what : Wear) (place : ℕ) → unopened e ≡ status.Worn what place → IsTrue main_old.tells
+    → OpenStops found main_old main_new e → HasRunOut found main_new.holds spare place what
+open_out found main_old main_new spare (error.Runs at) what place is told stops =
+    let whats : wear.Runs ≡ what = cc in
+    let places : at ≡ place = cc in
+    let W : Wear → Type 0 = λ w. HasRunOut found main_new.holds spare place w in
+    let N : ℕ → Type 0 = λ n. HasRunOut found main_new.holds spare n wear.Runs in
+    subst W whats (subst N places stops)
+open_out found main_old main_new spare (error.Vaults at) what place is told stops =
+    let whats : wear.Vaults ≡ what = cc in
+    let places : at ≡ place = cc in
+    let W : Wear → Type 0 = λ w. HasRunOut found main_new.holds spare place w in
+    let N : ℕ → Type 0 = λ n. HasRunOut found main_new.holds spare n wear.Vaults in
+    let stood = stops.2 told in
+    subst W whats (subst N places (stops.1, record { cat = stood.0; stands = stood.1 spare; holds = stood.2 }))
+open_out found main_old main_new spare (error.Log at) what place is told stops =
     let whats : wear.Log ≡ what = cc in
     let places : at ≡ place = cc in
-    let C : Text → Type 0 = λ m. ClosesAt m at in
-    let closes = subst C (sym (ends.0.holds told)) (ends.3 told) in
     let W : Wear → Type 0 = λ w. HasRunOut found main_new.holds spare place w in
     let N : ℕ → Type 0 = λ n. HasRunOut found main_new.holds spare n wear.Log in
-    subst W whats (subst N places (ends.2, record { records = closes.records; log = closes.log; place_is = closes.place_is }))
+    let closes = stops.1 told in
+    subst W whats (subst N places (stops.0, record { records = closes.records; log = closes.log; place_is = closes.place_is }))
+open_out found main_old main_new spare error.Disk what place is told stops = absurd (cc is)
+open_out found main_old main_new spare error.Sink what place is told stops = absurd (cc is)
+open_out found main_old main_new spare error.Memory what place is told stops = absurd (cc is)
+
+-- ---- how a run ends that was not opened
+
+module _ {B : Type 0} (old now : World B) (found : Cat) (plain : BeginsPlainly old found) (opens : Opens old now found) where
+  ends_so : (x : RunEnd) → StopsSo old now found (begins opens.undone.opened.grid []) [] x → IsGoodIfNoneFailed old now x → Serves old now found x
+  ends_so x stops good = ends_before plain opens stops good
+
+  pub serves_unopened : (e : OpenError) (end : RunEnd) → run_end_of (unopened e) ≡ Some end → OpenStops found old.main now.main e
+      → (e ≡ error.Disk → Rose old.main.faults now.main.faults) → (e ≡ error.Sink → Rose old.sink.faults now.sink.faults) → Serves old now found end
+  serves_unopened (error.Runs place) end its stops cause sink_cause =
+      let is : worn wear.Runs place ≡ end = cc in
+      subst (λ (x : RunEnd). Serves old now found x) is (ends_so (worn wear.Runs place) (stops, refl) (λ none fits. tt))
+  serves_unopened (error.Vaults place) end its stops cause sink_cause =
+      let is : worn wear.Vaults place ≡ end = cc in
+      let out = open_out found old.main now.main now.spare.holds (error.Vaults place) wear.Vaults place refl plain.begin.main_tells stops in
+      subst (λ (x : RunEnd). Serves old now found x) is (ends_so (worn wear.Vaults place) (out, inr stops.0) (λ none fits. tt))
+  serves_unopened (error.Log place) end its stops cause sink_cause =
+      let is : worn wear.Log place ≡ end = cc in
+      let out = open_out found old.main now.main now.spare.holds (error.Log place) wear.Log place refl plain.begin.main_tells stops in
+      subst (λ (x : RunEnd). Serves old now found x) is (ends_so (worn wear.Log place) (out, tt) (λ none fits. tt))
+  serves_unopened error.Disk end its stops cause sink_cause =
+      let is : disk_failed ≡ end = cc in
+      subst (λ (x : RunEnd). Serves old now found x) is (ends_so disk_failed tt (λ none fits. absurd (none.of_main (cause refl))))
+  serves_unopened error.Sink end its stops cause sink_cause =
+      let is : sink_failed ≡ end = cc in
+      subst (λ (x : RunEnd). Serves old now found x) is (ends_so sink_failed tt (λ none fits. absurd (none.of_sink (sink_cause refl))))
+  serves_unopened error.Memory end its stops cause sink_cause =
+      let is : no_memory ≡ end = cc in
+      subst (λ (x : RunEnd). Serves old now found x) is (ends_so no_memory tt (λ none fits. tt))
 
 -- the numbers of stores that are named
 pub stores_named : (kept handed had given m n : ℕ) (s : Status) → (s ≡ status.Stores kept handed) ⊎ (s ≡ status.Memory) ⊎ (s ≡ status.SinkFault) → s ≡ status.Stores had given → kept ≡ n → handed ≡ m → (kept ≡ handed → ⊥)
@@ -196,44 +213,69 @@ module _ {D S K A P : Type 0} (v : Views D S K A P) (start : Around D S K A P) w
       let S : Cat → Type 0 = λ c. Serves (world_of v start) (world_of v new) c end in
       subst S same (serves (subst B (sym same) plain))
 
+  -- what was before the disks were looked at
+  abbrev pub first : D → D → Around D S K A P
+  first main spare = record start { outside = record start.outside { main = main; spare = spare } }
+
+  module _ (main spare : D) (found : Cat) (plain : BeginsPlainly (world_of v (first main spare)) found) (order : AreInOrder (world_of v (first main spare)))
+      (looked : Rests (v.disk main) (v.disk start.outside.main)) (spare_looked : Rests (v.disk spare) (v.disk start.outside.spare)) where
+    pub order_now : AreInOrder (world_of v start)
+    order_now = order-so (world_of v start) (v.disk main) (v.disk spare) looked spare_looked plain.begin.main_tells plain.begin.spare_tells found order
+
+    pub plain_now : BeginsPlainly (world_of v start) found
+    plain_now = plain-so (world_of v start) (v.disk main) (v.disk spare) looked spare_looked plain.begin.main_tells plain.begin.spare_tells found plain
+
+    -- it was opened
+    pub opens_now : (now : Around D S K A P) (begun : Cat) → Opened (world_of v start) (world_of v now) found begun → WasOpened v (first main spare) now found begun
+    opens_now now begun o = record {
+      plain = plain;
+      opened = opened-before (world_of v start) (v.disk main) (v.disk spare) looked spare_looked plain.begin.main_tells plain.begin.spare_tells found (world_of v now) begun o;
+    }
+
+    -- or not
+    pub serves_not : (now : Around D S K A P) (e : OpenError) (end : RunEnd) → Opens (world_of v start) (world_of v now) found → run_end_of (unopened e) ≡ Some end
+        → OpenStops found (v.disk start.outside.main) (v.disk now.outside.main) e → (e ≡ error.Disk → Rose (v.disk start.outside.main).faults (v.disk now.outside.main).faults)
+        → (e ≡ error.Sink → Rose (v.sink start.sink).faults (v.sink now.sink).faults) → Serves (world_of v (first main spare)) (world_of v now) found end
+    serves_not now e end o its stops cause sink_cause =
+        serves_unopened (world_of v (first main spare)) (world_of v now) found plain
+        (opens-before (world_of v start) (v.disk main) (v.disk spare) looked spare_looked plain.begin.main_tells plain.begin.spare_tells found (world_of v now) o)
+        e end its (stops_first e stops) (λ d. (let rose = cause d in omega (arith, rose, looked.faults))) sink_cause
+      where
+        stops_first : (x : OpenError) → OpenStops found (v.disk start.outside.main) (v.disk now.outside.main) x → OpenStops found (v.disk main) (v.disk now.outside.main) x
+        stops_first (error.Runs place) s = s
+        stops_first (error.Vaults place) s = (s.0, s.1, λ told. s.2 (subst IsTrue (sym looked.tells) told))
+        stops_first (error.Log place) s = (s.0, λ told. s.1 (subst IsTrue (sym looked.tells) told))
+        stops_first error.Disk s = s
+        stops_first error.Sink s = s
+        stops_first error.Memory s = s
+
+    -- nothing was called
+    pub serves_still : (end : RunEnd) → run_end_of status.Memory ≡ Some end → Serves (world_of v (first main spare)) (world_of v start) found end
+    serves_still end its =
+        serves_not start error.Memory end (opens-still (world_of v start) found plain_now.begin order_now) its tt (λ e. cc e) (λ e. cc e)
+
+  -- the disks were only looked at
   module _ (found : Cat) (main spare : D) (plain : BeginsPlainly (world_of v start) found) (order : AreInOrder (world_of v start)) (looked : Rests (v.disk start.outside.main) (v.disk main)) (same : spare ≡ start.outside.spare) where
-    -- main was only looked at
     abbrev pub seen : Around D S K A P
     seen = record start { outside = record start.outside { main = main; spare = spare } }
 
-    leaves_looked : IsTrue (v.disk start.outside.main).tells → IsSettled (v.disk start.outside.main) → (t : ℕ) (image : Text) → start.outside.moments < t → (v.disk main).left t image → StandsFor image found
-    leaves_looked told settled t image late left =
-        let T : Text → Type 0 = λ m. StandsFor m found in
-        subst T (sym (settled t image (omega (arith, late, order.main_last)) (looked.left t image left))) (any_spare plain.begin.stands)
+    spare_looked : Rests (v.disk start.outside.spare) (v.disk spare)
+    spare_looked = rests_where v.disk start.outside.spare spare same
 
-    opens_looked : OpensRun found start.outside.moments (outputs v start.outside.main start.sink) (outputs v main start.sink) (Err opening.Memory)
-    opens_looked = record {
-      ends = looked;
-      main = goes_rest start.outside.moments (v.disk start.outside.main) (v.disk main) looked;
-      sink = goes_nowhere start.outside.moments (v.sink start.sink);
-      shown = λ tells. adds_none (whole_report found) (v.sink start.sink).holds;
-      leaves = λ told settled t image late left. inl (leaves_looked told settled t image late left);
-      images = λ told sink_told settled sink_settled t image bytes late main_left sink_left. inl (
-        leaves_looked told settled t image late main_left,
-        subst (AddsPart (report_begun found) (v.sink start.sink).holds) (sym (sink_settled t bytes (omega (arith, late, order.sink_last)) sink_left)) (adds_none (report_begun found) (v.sink start.sink).holds),
-      );
-    }
+    seen_plain : BeginsPlainly (world_of v seen) found
+    seen_plain = plain-so (world_of v seen) (v.disk start.outside.main) (v.disk start.outside.spare) looked spare_looked plain.begin.main_tells plain.begin.spare_tells found plain
 
-    serves_looked : (x : RunEnd) → StopsSo (world_of v start) (world_of v seen) found (begins (grid_of found) []) [] x → IsGoodIfNoneFailed (world_of v start) (world_of v seen) x
-        → Serves (world_of v start) (world_of v seen) found x
-    serves_looked x stops good =
-        serves_not v start start.outside.main start.outside.spare found main spare start.sink start.outside.moments plain order (rests_same (v.disk start.outside.main)) (rests_same (v.disk start.outside.spare)) same (omega arith)
-        (Err opening.Memory) opens_looked x stops good
+    seen_order : AreInOrder (world_of v seen)
+    seen_order = order-so (world_of v seen) (v.disk start.outside.main) (v.disk start.outside.spare) looked spare_looked plain.begin.main_tells plain.begin.spare_tells found order
+
+    opens_looked : Opens (world_of v start) (world_of v seen) found
+    opens_looked =
+        opens-before (world_of v seen) (v.disk start.outside.main) (v.disk start.outside.spare) looked spare_looked plain.begin.main_tells plain.begin.spare_tells found (world_of v seen)
+        (opens-still (world_of v seen) found seen_plain.begin seen_order)
 
     pub serves_looked_memory : (end : RunEnd) → run_end_of status.Memory ≡ Some end → Serves (world_of v start) (world_of v seen) found end
-    serves_looked_memory end its =
-        let is : no_memory ≡ end = cc in
-        let S : RunEnd → Type 0 = λ x. Serves (world_of v start) (world_of v seen) found x in
-        subst S is (serves_looked no_memory tt (λ none fits. tt))
+    serves_looked_memory end its = serves_unopened (world_of v start) (world_of v seen) found plain opens_looked error.Memory end its tt (λ e. cc e) (λ e. cc e)
 
     pub serves_looked_fault : (end : RunEnd) → run_end_of status.DiskFault ≡ Some end → Rose (v.disk start.outside.main).faults (v.disk main).faults
         → Serves (world_of v start) (world_of v seen) found end
-    serves_looked_fault end its rose =
-        let is : disk_failed ≡ end = cc in
-        let S : RunEnd → Type 0 = λ x. Serves (world_of v start) (world_of v seen) found x in
-        subst S is (serves_looked disk_failed tt (λ none fits. absurd (none.of_main rose)))
+    serves_looked_fault end its rose = serves_unopened (world_of v start) (world_of v seen) found plain opens_looked error.Disk end its tt (λ d. rose) (λ e. cc e)

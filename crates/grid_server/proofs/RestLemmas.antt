@@ -1,18 +1,7 @@
--- Devices that rest, and what a failed commit may be.
+-- Devices that rest.
 use Rattle.std.proofs.Common.{◌≡◌, ℕ, ◌≤◌, refl, sym, subst, arith}
 use Rattle.grid_outside.specs.Device.{DeviceState, Looks}
-use Rattle.grid_model.specs.Names.{Text}
-use Rattle.grid_model.specs.Rows.{Cat}
-use Rattle.cmd_run.specs.Errors.{IsOfCommit}
-use Rattle.grid_journal.specs.Journal.{Journal, Keeps}
-use Rattle.grid_journal.specs.Stands.{StandsFor}
-use Rattle.grid_journal.proofs.KeepingLemmas.{keeps_stands as journal_stands}
-use Rattle.grid_journal.specs.declared.error.JournalError.{JournalError}
-use Rattle.grid_journal.specs.declared.error.JournalError.TheVariants as journal
 use Rattle.run_laws.specs.Went.{Rests}
-
-pub keeps_stands : (was : Cat) (j : Journal) (main : Text) → Keeps was j main → StandsFor main was
-keeps_stands was j main k spare = journal_stands was j main spare k
 
 module _ {C : Type 0} where
   pub rests_same : (s : DeviceState C) → Rests s s
@@ -29,10 +18,3 @@ module _ {C : Type 0} where
   -- one that was only looked at
   pub looked_rests : (old new : DeviceState C) → Looks old new → old.faults ≤ new.faults → Rests old new
   looked_rests old new looks later = record { faults = later; tells = looks.tells; last = looks.last; holds = looks.holds; left = λ t image left. (looks.left t image).0 left }
-
-pub of_commit : (e : JournalError) → ((side : _) (at : ℕ) → (¬ (e ≡ journal.NotEmpty side at)) × (¬ (e ≡ journal.NotACatalogue side at))) → IsOfCommit e
-of_commit journal.Memory other = tt
-of_commit journal.DiskFault other = tt
-of_commit (journal.Worn what at) other = tt
-of_commit (journal.NotEmpty side len) other = absurd ((other side len).0 refl)
-of_commit (journal.NotACatalogue side at) other = absurd ((other side at).1 refl)

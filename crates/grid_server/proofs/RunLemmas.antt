@@ -15,7 +15,7 @@ use Rattle.grid_model.specs.Names.{Text, is_name}
 use Rattle.grid_model.specs.Rows.{Cat}
 use Rattle.grid_model.specs.declared.grid.Side.{Side}
 use Rattle.grid_model.specs.declared.grid.Side.TheVariants.{Main, Spare}
-use Rattle.grid_journal.specs.Stands.{Stands, stands, StandsFor}
+use Rattle.grid_journal.specs.Stands.{Stands}
 use Rattle.grid_journal.specs.Store.{IsNotEmpty}
 use Rattle.grid_journal.proofs.StandsLemmas.{Stands-same}
 use Rattle.run_laws.specs.Went.{Rests}
@@ -33,10 +33,6 @@ one_cat main spare c d one other = let same : Result.Ok d ≡ Ok c = Stands-same
 
 pub no_both : (main spare : Text) (c : Cat) (side : Side) (place : ℕ) → Stands main spare (Ok c) → Stands main spare (Err (side, place)) → ⊥
 no_both main spare c side place one other = let same = Stands-same main spare (Ok c) (Err (side, place)) one other in cc
-
--- spare has no part in it
-pub stands_for : (main spare : Text) (c : Cat) → Stands main spare (Ok c) → StandsFor main c
-stands_for main spare c (stands records d head log replays zone) other = stands records d head log replays zone
 
 -- ---- where a catalogue is refused
 

@@ -8,11 +8,11 @@ use Rattle.grid_outside.specs.declared.outside.Wear.{Wear}
 use Rattle.grid_outside.specs.declared.outside.Wear.TheVariants as wear
 use Rattle.grid_model.specs.Beginning.{begins}
 use Rattle.grid_model.specs.Maps.{empty}
+use Rattle.grid_model.specs.Grid.{Grid}
 use Rattle.grid_model.specs.Names.{Text}
 use Rattle.grid_model.specs.Rows.{Cat}
 use Rattle.grid_model.specs.RowGrids.{grid_of, user_name}
 use Rattle.grid_model.specs.Sessions.{State}
-use Rattle.tables_laws.proofs.Grids.{grid-same}
 use Rattle.sess.specs.Places.{Places, at, sessions_from, with_place}
 use Rattle.sess.specs.declared.sessions.Session.{Session}
 use Rattle.grid_journal.specs.Journal.{ClosesAt}
@@ -22,8 +22,8 @@ use Rattle.grid_deed.proofs.Frames.{goes_nowhere}
 use Rattle.grid_headline.specs.Ends.{RunEnd, worn, no_memory, disk_failed}
 use Rattle.grid_headline.specs.Headline.{Serves}
 use Rattle.run_laws.specs.declared.around.Around.{Around}
-use Rattle.run_laws.specs.Silent.{IsSwept, Sweeps}
-use Rattle.run_laws.specs.Sofar.{run_begun, Sofar}
+use Rattle.run_laws.specs.Silent.{Sweeps}
+use Rattle.run_laws.specs.Sofar.{Sofar}
 use Rattle.run_laws.specs.Went.{AreInOrder}
 use Rattle.run_laws.proofs.RunLaws.{none_yet, ends_swept}
 use Rattle.cmd_run.specs.Fits.{state_by, state_of}
@@ -46,11 +46,11 @@ sessions_none names n [] none = refl
 sessions_none names n (x ∷ xs) none =
     ap (λ (o : Option Session). with_place names n o (sessions_from names (n + 1) xs)) (none 0) ∙ sessions_none names (n + 1) xs (λ k. none (suc k))
 
-state_none : (found : Cat) (places : Places) → ((k : ℕ) → at places k ≡ None) → state_by (run_begun found) places ≡ begins (grid_of found) []
-state_none found places none = λ i. record {
-  grid = grid-same found (run_begun found) refl (grid_of found) refl i;
+state_none : (c : Cat) (g : Grid) (places : Places) → grid_of c ≡ g → ((k : ℕ) → at places k ≡ None) → state_by c places ≡ begins g []
+state_none c g places grid none = λ i. record {
+  grid = grid i;
   rules = [];
-  sessions = sessions_none (user_name (run_begun found)) 0 places none i;
+  sessions = sessions_none (user_name c) 0 places none i;
 }
 
 -- a run ends in the sweep so
@@ -120,17 +120,15 @@ module _ {D S K A P : Type 0} (v : Views D S K A P) (start : Around D S K A P) (
 
   module _ (whole : KeepWhole v.plugin start.outside.moments was.store.cat (v.disk start.outside.main) (v.disk swept.main) start.outside.stores.items swept.stores.items)
       (leaves : LeavesLike was.store.cat start.outside.moments (v.disk start.outside.main) (v.disk swept.main)) (none : was.store.cat.pending ≡ None) where
-    module _ (e : Around D S K A P) (found : Cat) (opened : WasOpened v (before v e start) start found) (cat : was.store.cat ≡ run_begun found) where
+    module _ (e : Around D S K A P) (found : Cat) (opened : WasOpened v (before v e start) start found was.store.cat) where
       abbrev old : Around D S K A P
       old = before v e start
 
       told : IsTrue (v.disk start.outside.main).tells
       told = subst IsTrue (sym opened.opened.opens.went.main.tells) opened.plain.begin.main_tells
 
-      sweeps_begun : Sweeps (world_of v start) (world_of v behind) (run_begun found)
-      sweeps_begun =
-          subst (λ (c : Cat). Sweeps (world_of v start) (world_of v behind) c) cat
-          (sweeps v.disk v.ambient v.plugin (v.sink start.sink) (v.source start.source) start.outside swept was.store.cat failed frame leaves order told none whole)
+      sweeps_begun : Sweeps (world_of v start) (world_of v behind) was.store.cat
+      sweeps_begun = sweeps v.disk v.ambient v.plugin (v.sink start.sink) (v.source start.source) start.outside swept was.store.cat failed frame leaves order told none whole
 
       -- the run is begun
       pub begun_by : (now : Server) → StandsAsBefore (v.disk start.outside.main) (v.disk swept.main) was now → ((n : ℕ) → at was.sessions n ≡ None) → was.store.cat.stores ≡ vec_len start.outside.stores
@@ -138,12 +136,12 @@ module _ {D S K A P : Type 0} (v : Views D S K A P) (start : Around D S K A P) (
           → IsBegun v (before v e behind) behind found now
       begun_by now stands nobody slots fewer still =
           let done = is_swept v.disk v.ambient v.plugin (v.sink start.sink) (v.source start.source) start.outside swept failed frame was now stands slots fewer still in
-          let swept_begun = subst (λ (c : Cat). IsSwept (world_of v start) (world_of v behind) c now.store.cat) cat done in
-          let state : state_of now ≡ begins (grid_of found) [] = stands.state ∙ ap (λ (c : Cat). state_by c was.sessions) cat ∙ state_none found was.sessions nobody in
+          let grid = opened.opened.opens.undone.opened.grid in
+          let state : state_of now ≡ begins grid [] = stands.state ∙ state_none was.store.cat grid was.sessions opened.opened.begun.grid nobody in
           record {
             plain = opened.plain;
             so = subst (λ (s : State). Sofar (world_of v old) (world_of v behind) found now.store.cat s []) (sym state)
-                (none_yet opened.plain opened.order opened.opened sweeps_begun swept_begun);
+                (none_yet opened.plain opened.opened sweeps_begun done);
           }
 
       -- something ran out or failed in it
@@ -155,11 +153,11 @@ module _ {D S K A P : Type 0} (v : Views D S K A P) (start : Around D S K A P) (
       serves_swept ending.Memory end its disk sink wears vaults =
           let is : no_memory ≡ end = cc in
           let S : RunEnd → Type 0 = λ y. Serves (world_of v old) (world_of v behind) found y in
-          subst S is (ends_swept opened.plain opened.order opened.opened sweeps_begun tt (λ none fits. tt))
+          subst S is (ends_swept opened.plain opened.opened sweeps_begun tt (λ none fits. tt))
       serves_swept ending.Disk end its disk sink wears vaults =
           let is : disk_failed ≡ end = cc in
           let S : RunEnd → Type 0 = λ y. Serves (world_of v old) (world_of v behind) found y in
-          subst S is (ends_swept opened.plain opened.order opened.opened sweeps_begun tt
+          subst S is (ends_swept opened.plain opened.opened sweeps_begun tt
           (λ none fits. absurd (none.of_main (let rose = disk refl in omega (arith, rose, opened.opened.opens.went.main.faults)))))
       serves_swept ending.Sink end its disk sink wears vaults = absurd (sink refl)
       serves_swept (ending.Worn wear.Runs place) end its disk sink wears vaults = absurd (wears wear.Runs place refl told)
@@ -168,5 +166,5 @@ module _ {D S K A P : Type 0} (v : Views D S K A P) (start : Around D S K A P) (
           let is : worn wear.Log place ≡ end = cc in
           let S : RunEnd → Type 0 = λ y. Serves (world_of v old) (world_of v behind) found y in
           let w = wears wear.Log place refl told in
-          subst S is (ends_swept opened.plain opened.order opened.opened sweeps_begun
+          subst S is (ends_swept opened.plain opened.opened sweeps_begun
           ((w.0, record { records = w.1.records; log = w.1.log; place_is = w.1.place_is }), tt) (λ none fits. tt))

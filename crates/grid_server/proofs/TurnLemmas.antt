@@ -10,18 +10,6 @@ use Rattle.grid_server.specs.declared.status.Status.TheVariants as status
 
 -- ---- what a status tells of the request
 
-status_disk : (e : Ending) → status_of e ≡ status.DiskFault → e ≡ ending.Disk
-status_disk ending.Disk is = refl
-status_disk ending.Sink is = absurd (cc is)
-status_disk ending.Memory is = absurd (cc is)
-status_disk (ending.Worn what place) is = absurd (cc is)
-
-status_sink : (e : Ending) → status_of e ≡ status.SinkFault → e ≡ ending.Sink
-status_sink ending.Sink is = refl
-status_sink ending.Disk is = absurd (cc is)
-status_sink ending.Memory is = absurd (cc is)
-status_sink (ending.Worn what place) is = absurd (cc is)
-
 status_worn : (what : Wear) (place : ℕ) (e : Ending) → status_of e ≡ status.Worn what place → e ≡ ending.Worn what place
 status_worn what place (ending.Worn w p) is = let a : w ≡ what = cc in let b : p ≡ place = cc in cc
 status_worn what place ending.Disk is = absurd (cc is)
@@ -37,12 +25,6 @@ module _ (s : Status) (other : s ≡ status.Done → ⊥) where
   ending_behind last (Err e) is = (e, refl, some_is is)
   ending_behind true (Ok done) is = absurd (other (sym (some_is is)))
   ending_behind false (Ok done) is = absurd (cc is)
-
-pub after_disk : (last : Bool) (r : Result ⊤ Ending) → after last r ≡ Some status.DiskFault → r ≡ Err ending.Disk
-after_disk last r is = let b = ending_behind status.DiskFault (λ e. cc) last r is in b.1 ∙ ap Err (status_disk b.0 b.2)
-
-pub after_sink : (last : Bool) (r : Result ⊤ Ending) → after last r ≡ Some status.SinkFault → r ≡ Err ending.Sink
-after_sink last r is = let b = ending_behind status.SinkFault (λ e. cc) last r is in b.1 ∙ ap Err (status_sink b.0 b.2)
 
 pub after_worn : (what : Wear) (place : ℕ) (last : Bool) (r : Result ⊤ Ending) → after last r ≡ Some (status.Worn what place) → r ≡ Err (ending.Worn what place)
 after_worn what place last r is = let b = ending_behind (status.Worn what place) (λ e. cc) last r is in b.1 ∙ ap Err (status_worn what place b.0 b.2)

@@ -38,19 +38,6 @@ module _ {D S K A P : Type 0} (v : Views D S K A P) where
     sink_cause = λ f. absurd (not_sink f);
   }
 
-  -- main and the sink were called
-  pub passes_opened : (disk_failed sink_failed : Type 0) (a : Around D S K A P) (main spare : D) (sink : K) (moments : ℕ) → a.outside.moments ≤ moments → (v.disk main).last ≤ moments → (v.sink sink).last ≤ moments
-      → Goes a.outside.moments (v.disk a.outside.main) (v.disk main) → Goes a.outside.moments (v.sink a.sink) (v.sink sink) → spare ≡ a.outside.spare
-      → (disk_failed → Rose (v.disk a.outside.main).faults (v.disk main).faults) → ((¬ disk_failed) → AddsInRoom (v.disk a.outside.main) (v.disk main))
-      → (sink_failed → Rose (v.sink a.sink).faults (v.sink sink).faults)
-      → PassesOn v disk_failed sink_failed a (record a { outside = record a.outside { main = main; spare = spare; moments = moments }; sink = sink })
-  passes_opened disk_failed sink_failed a main spare sink moments drawn last sink_last goes sink_goes same cause room sink_cause = record {
-    frame = frame_main v.disk v.plugin disk_failed a.outside main spare moments drawn last goes same cause room;
-    sink_last = λ was. sink_last;
-    goes = sink_goes;
-    sink_cause = sink_cause;
-  }
-
   -- a sink was called
   pub passes_sink : (disk_failed sink_failed : Type 0) (a : Around D S K A P) (sink : K) (moments : ℕ) → SinkWent a.outside.moments moments (v.sink a.sink) (v.sink sink) → (¬ disk_failed) → (sink_failed → Rose (v.sink a.sink).faults (v.sink sink).faults)
       → (v.disk a.outside.main).last ≤ a.outside.moments → PassesOn v disk_failed sink_failed a (record a { outside = record a.outside { moments = moments }; sink = sink })

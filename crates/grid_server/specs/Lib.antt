@@ -1,11 +1,9 @@
 pub mod Asking
 pub mod Files
-pub mod Opening
 pub mod RunEnds
 pub mod Running
 pub mod Serving
 pub mod Starting
-pub mod Stopping
 pub mod Tasks
 pub mod Turning
 pub mod Views

@@ -3,12 +3,17 @@ use Rattle.std.specs.Prelude.{◌≡◌, ◌≢◌, ◌⊎◌, ℕ, [], ◌++◌
 use Rattle.grid_outside.specs.Disk.{DiskState}
 use Rattle.grid_outside.specs.Sink.{SinkState, AddsPart}
 use Rattle.grid_model.specs.Names.{Text}
+use Rattle.grid_model.specs.Rows.{Cat}
 use Rattle.grid_model.specs.declared.grid.Side.{Side}
 use Rattle.grid_journal.specs.Store.{IsNotEmpty}
 use Rattle.grid_server.specs.declared.status.Status.{Status}
 use Rattle.grid_server.specs.declared.status.Status.TheVariants as status
 use Rattle.run_laws.specs.Went.{Rests}
 use Rattle.grid_server.specs.Starting.{Started, ok_line, not_empty_line, not_a_catalogue_line, stores_line}
+
+-- there are no rules
+abbrev pub IsPlain : Cat → Type 0
+IsPlain c = c.rules ≡ []
 
 -- the device holds what it held, and this behind it
 abbrev pub AddsLine : Text → SinkState → SinkState → Type 0

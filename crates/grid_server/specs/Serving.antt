@@ -11,7 +11,6 @@ use Rattle.grid_headline.specs.Reads.{EndsInput}
 use Rattle.run_laws.specs.declared.around.Around.{Around}
 use Rattle.run_laws.specs.Opening.{Opened}
 use Rattle.run_laws.specs.Sofar.{BeginsPlainly, Sofar}
-use Rattle.run_laws.specs.Went.{AreInOrder}
 use Rattle.req_lines.specs.Progress.{HasHeard}
 use Rattle.cmd_run.specs.Fits.{state_of, FitsMain}
 use Rattle.cmd_run.specs.declared.server.Server.{Server}
@@ -50,11 +49,10 @@ module _ {D S K A P : Type 0} (v : Views D S K A P) where
   abbrev pub before : Around D S K A P → Around D S K A P → Around D S K A P
   before e a = record e { source = a.source }
 
-  -- the run was opened in between, over this catalogue
-  pub record WasOpened (old now : Around D S K A P) (found : Cat) : Type 0 where
+  -- the run was opened in between, over the first catalogue, with the second
+  pub record WasOpened (old now : Around D S K A P) (found begun : Cat) : Type 0 where
     pub plain : BeginsPlainly (world_of v old) found
-    pub order : AreInOrder (world_of v old)
-    pub opened : Opened (world_of v old) (world_of v now) found
+    pub opened : Opened (world_of v old) (world_of v now) found begun
 
   -- it was begun in between, over this catalogue: this is the server, and nothing was asked of it yet
   pub record IsBegun (old now : Around D S K A P) (found : Cat) (s : Server) : Type 0 where

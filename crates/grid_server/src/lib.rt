@@ -1,9 +1,6 @@
 //! The top call: `run` does what the words of the program say, over devices that are known by their traits alone.
 #![tactic(auto)]
 
-mod opening;
-mod reopening;
-mod reporting;
 mod running;
 mod service;
 mod serving;

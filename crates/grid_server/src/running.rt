@@ -18,12 +18,12 @@ ghost use Rattle.run_laws.specs.Sofar.{BeginsPlainly};
 ghost use Rattle.run_laws.specs.Went.{AreInOrder, Rests};
 ghost use Rattle.run_laws.specs.Passes.{AreReady, CallsPass};
 ghost use Rattle.grid_server.specs.Files.{HaveNoFiles};
-ghost use Rattle.grid_server.specs.Opening.{HasRoom, IsPlain};
-ghost use Rattle.grid_server.specs.RunEnds.{run_end_of};
+ghost use Rattle.run_open.specs.Preparing.{HasRoom};
+ghost use Rattle.grid_server.specs.RunEnds.{run_end_of, unopened};
 ghost use Rattle.grid_server.specs.Starting.{usage_line as usage_text, not_empty_line as not_empty_text};
 ghost use Rattle.grid_server.specs.Starting.{not_a_catalogue_line as not_a_catalogue_text, stores_line as stores_text};
 ghost use Rattle.grid_server.specs.Starting.{side_name as side_text};
-ghost use Rattle.grid_server.specs.Running.{SaysLine, HoldsStill, RefusesDisks, RefusesStores, Inits, IsComplete, EndsServing, IsNotBegun, IsHeldBack};
+ghost use Rattle.grid_server.specs.Running.{SaysLine, HoldsStill, IsPlain, RefusesDisks, RefusesStores, Inits, IsComplete, EndsServing, IsNotBegun, IsHeldBack};
 ghost use Rattle.grid_server.specs.Serving.{SinkWent, TookFew};
 ghost use Rattle.run_laws.specs.declared.around.Around.{Around};
 ghost use Rattle.grid_server.specs.Views.{Views, world_of};
@@ -31,14 +31,15 @@ ghost use Rattle.grid_server.specs.Tasks as task;
 ghost use Rattle.grid_server.specs.Tasks.{AsksForTask, AsksNothing};
 
 use crate::Status;
-use crate::opening::BeginError;
-use crate::reopening::open_run;
 use crate::sweeping::sweep_and_serve;
 use crate::words::{Asked, read_words};
+use cmd_run::Server;
 use grid_journal::{JournalError, Store};
 use grid_model::{Side, Text};
 use grid_outside::{Ambient, Disk, Moments, Outside, Plugin, Sink, Source, Wear};
 use grid_tables::Tables;
+use run_open::{OpenError, open_run};
+use sess::Sessions;
 use std::alloc::{AllocError, Global};
 
 /// Does what the words of the program ask for.
@@ -86,7 +87,7 @@ pub fn run<D: Disk, S: Source, K: Sink, A: Ambient, P: Plugin>(
         let old = seen D.disk A.ambient S.source K.sink P.plugin outside.old source.old sink.old in BeginsPlainly old found → run_end_of result ≡ Some end →
         Serves old (seen D.disk A.ambient S.source K.sink P.plugin outside.new source.new sink.new) found end }
 
-    // The catalogue has rules, or a pending command with recoveries.
+    // The catalogue has rules.
     ensures not_plain { (found : Cat) → AsksForTask words.now task.serve → IsTrue (D.disk outside.old.main).tells →
         Stands (D.disk outside.old.main).holds (D.disk outside.old.spare).holds (Ok found) → found.stores ≡ vec_len outside.old.stores → ¬ IsPlain found →
         IsHeldBack result × Rests (D.disk outside.old.main) (D.disk outside.new.main) × (source.new ≡ source.old) × (sink.new ≡ sink.old)
@@ -104,7 +105,7 @@ pub fn run<D: Disk, S: Source, K: Sink, A: Ambient, P: Plugin>(
         → Stands (D.disk outside.old.main).holds (D.disk outside.old.spare).holds (Ok found) →
         found.stores ≡ vec_len outside.old.stores → ¬ HasRoom found (D.disk outside.old.main) →
         IsNotBegun result × Rests (D.disk outside.old.main) (D.disk outside.new.main) × (source.new ≡ source.old)
-        × (found.pending ≡ None → sink.new ≡ sink.old) × (outside.new.stores ≡ outside.old.stores) }
+        × (sink.new ≡ sink.old) × (outside.new.stores ≡ outside.old.stores) }
 
     ensures worn_only { (found : Cat) (what : Wear) (place : ℕ) → result ≡ Status.Worn what place → IsTrue (D.disk outside.old.main).tells →
         Stands (D.disk outside.old.main).holds (D.disk outside.old.spare).holds (Ok found) →
@@ -211,7 +212,7 @@ fn serve<D: Disk, S: Source, K: Sink, A: Ambient, P: Plugin>(
     ensures worn { (found : Cat) → IsTrue (D.disk outside.old.main).tells → Stands (D.disk outside.old.main).holds (D.disk outside.old.spare).holds (Ok found) →
         found.stores ≡ vec_len outside.old.stores → ¬ HasRoom found (D.disk outside.old.main) →
         IsNotBegun result × Rests (D.disk outside.old.main) (D.disk outside.new.main) × (source.new ≡ source.old)
-        × (found.pending ≡ None → sink.new ≡ sink.old) × (outside.new.stores ≡ outside.old.stores) }
+        × (sink.new ≡ sink.old) × (outside.new.stores ≡ outside.old.stores) }
     ensures worn_only { (found : Cat) (what : Wear) (place : ℕ) → result ≡ Status.Worn what place → IsTrue (D.disk outside.old.main).tells →
         Stands (D.disk outside.old.main).holds (D.disk outside.old.spare).holds (Ok found) →
         HasRunOut found (D.disk outside.new.main).holds (D.disk outside.new.spare).holds place what }
@@ -276,7 +277,7 @@ fn serve_over<D: Disk, S: Source, K: Sink, A: Ambient, P: Plugin>(
     ensures not_plain_only { result ≡ Status.NotPlain → ¬ IsPlain store.cat }
     ensures worn { store.cat.stores ≡ vec_len outside.old.stores → ¬ HasRoom store.cat (D.disk outside.old.main) →
         IsNotBegun result × Rests (D.disk outside.old.main) (D.disk outside.new.main) × (source.new ≡ source.old)
-        × (store.cat.pending ≡ None → sink.new ≡ sink.old) × (outside.new.stores ≡ outside.old.stores) }
+        × (sink.new ≡ sink.old) × (outside.new.stores ≡ outside.old.stores) }
     ensures worn_only { (what : Wear) (place : ℕ) → result ≡ Status.Worn what place → IsTrue (D.disk outside.old.main).tells →
         HasRunOut store.cat (D.disk outside.new.main).holds (D.disk outside.new.spare).holds place what }
     ensures stores { store.cat.stores ≢ vec_len outside.old.stores →
@@ -301,42 +302,44 @@ fn serve_over<D: Disk, S: Source, K: Sink, A: Ambient, P: Plugin>(
     if !can_be_served(store.tables()) {
         return Status::NotPlain;
     }
-    match open_run(
-        alloc,
-        store,
-        &mut outside.main,
-        &mut outside.spare,
-        &mut outside.moments,
-        sink,
-    ) {
-        Ok(server) => sweep_and_serve(alloc, server, outside, source, sink),
-        Err(BeginError::Runs { at }) => Status::Worn {
-            what: Wear::Runs,
-            at,
-        },
-        Err(BeginError::Log { at }) => Status::Worn {
-            what: Wear::Log,
-            at,
-        },
-        Err(BeginError::Disk) => Status::DiskFault,
-        Err(BeginError::Sink) => Status::SinkFault,
-        Err(BeginError::Memory) => Status::Memory,
+    let Ok(sessions) = Sessions::new(alloc) else {
+        return Status::Memory;
+    };
+    let mut store = store;
+    match open_run(alloc, &mut store, outside, sink) {
+        Ok(()) => sweep_and_serve(alloc, Server { store, sessions }, outside, source, sink),
+        Err(error) => unopened(error),
     }
 }
 
-// Whether the catalogue has neither rules nor a pending command with recoveries.
+// The status of a run that was not opened.
+fn unopened(error: OpenError) -> Status
+    ensures { result ≡ unopened error }
+{
+    match error {
+        OpenError::Runs { at } => Status::Worn {
+            what: Wear::Runs,
+            at,
+        },
+        OpenError::Vaults { at } => Status::Worn {
+            what: Wear::Vaults,
+            at,
+        },
+        OpenError::Log { at } => Status::Worn {
+            what: Wear::Log,
+            at,
+        },
+        OpenError::Disk => Status::DiskFault,
+        OpenError::Sink => Status::SinkFault,
+        OpenError::Memory => Status::Memory,
+    }
+}
+
+// Whether the catalogue has no rules.
 fn can_be_served(tables: &Tables) -> bool
     ensures { IsTrue result ↔ IsPlain tables.now }
 {
-    match tables.pending() {
-        None => tables.rules().as_slice().is_empty(),
-        Some(pending) => {
-            if !pending.undo.as_slice().is_empty() {
-                return false;
-            }
-            tables.rules().as_slice().is_empty()
-        }
-    }
+    tables.rules().as_slice().is_empty()
 }
 
 // Says that the disks hold no catalogue, which shows at this place.

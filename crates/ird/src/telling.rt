@@ -58,9 +58,7 @@ pub fn complaint(
         Status::Stores { kept, given } => {
             format!(in alloc; "{main}: made for {kept} stores, and there are {given}")?
         }
-        Status::NotPlain => format!(in alloc;
-            "{main}: it has rules, or a command that is not done and has recoveries"
-        )?,
+        Status::NotPlain => format!(in alloc; "{main}: it has rules, which are not run yet")?,
         Status::DiskFault => disk_failure(alloc, failures)?,
         Status::SourceFault => failure(alloc, "standard input", failures.source)?,
         Status::SinkFault => failure(alloc, "standard output", failures.sink)?,

@@ -92,7 +92,7 @@ fn each_end_is_told(rt: HostRuntime) -> Result<(), Fail> {
         told(
             Status::NotPlain,
             3,
-            "catalogue.a: it has rules, or a command that is not done and has recoveries",
+            "catalogue.a: it has rules, which are not run yet",
         ),
         told(Status::DiskFault, 4, "catalogue.b: Input/output error"),
         told(Status::SourceFault, 5, "standard input: Is a directory"),

@@ -4,7 +4,6 @@ use Rattle.grid_outside.specs.declared.outside.Wear.TheVariants.{Log}
 use Rattle.grid_journal.specs.declared.error.JournalError.TheVariants as journal
 use Rattle.grid_model.specs.declared.grid.Side.TheVariants.{Main}
 use Rattle.grid_server.specs.Starting.{Started}
-use Rattle.grid_server.proofs.OpenedLemmas.{grid_start}
 use Rattle.grid_server.proofs.RestLemmas.{looked_rests}
 use Rattle.grid_server.proofs.running.init.Goals as goal
 
@@ -24,7 +23,7 @@ returns-in-Ok-clause-inits g c =
             main_empty = c.in-Ok.ensures.was_empty.0;
             spare_empty = c.in-Ok.ensures.was_empty.1;
             stands = c.in-Ok.ensures.stands;
-            grid = grid_start c.args.zone.now c.args.admin.now c.len-stores.result;
+            grid = refl;
             settled = c.in-Ok.ensures.settled;
           }
           ),

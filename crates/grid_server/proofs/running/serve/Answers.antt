@@ -4,7 +4,8 @@ use Rattle.grid_outside.specs.declared.outside.Wear.TheVariants.{Log}
 use Rattle.grid_model.specs.declared.grid.Side.TheVariants.{Main}
 use Rattle.grid_journal.specs.Journal.{ClosesAt}
 use Rattle.grid_headline.specs.Ends.{HasRunOut}
-use Rattle.grid_server.specs.Opening.{HasRoom, IsPlain}
+use Rattle.run_open.specs.Preparing.{HasRoom}
+use Rattle.grid_server.specs.Running.{IsPlain}
 use Rattle.grid_server.specs.declared.status.Status.TheVariants as status
 use Rattle.grid_server.proofs.OpensLemmas.{serves_looked_memory, serves_looked_fault, serves_held, not_disk}
 use Rattle.grid_server.proofs.RestLemmas.{looked_rests, rests_on, rests_same}
@@ -81,7 +82,7 @@ returns-in-Ok-clause-worn g c = λ found told stood stores none.
     let worn =
     c.serve_over.ensures.worn (ap (λ (x : Cat). x.stores) same ∙ stores)
     (λ room. none_held (room.0, λ told place closes. room.1 (subst IsTrue (sym c.open.ensures.looks.tells) told) place (let C : List ℕ → Type 0 = λ m. ClosesAt m place in subst C (sym (c.open.ensures.looks.holds told)) closes))) in
-    (worn.0, rests_more main_old main_new (g.D.Disk.disk c.serve_over.new.outside.main) (looked_rests main_old main_new c.open.ensures.looks c.open.ensures.later) worn.1, worn.2, (λ idle. worn.3 (ap (λ (x : Cat). x.pending) same ∙ idle)), worn.4)
+    (worn.0, rests_more main_old main_new (g.D.Disk.disk c.serve_over.new.outside.main) (looked_rests main_old main_new c.open.ensures.looks c.open.ensures.later) worn.1, worn.2, worn.3, worn.4)
 
 pub returns-in-Err-NotACatalogue-clause-worn : goal.returns-in-Err-NotACatalogue-clause-worn
 returns-in-Err-NotACatalogue-clause-worn g c = λ found told stood.
@@ -90,11 +91,11 @@ returns-in-Err-NotACatalogue-clause-worn g c = λ found told stood.
 
 pub returns-in-Err-DiskFault-clause-worn : goal.returns-in-Err-DiskFault-clause-worn
 returns-in-Err-DiskFault-clause-worn g c = λ found told stood stores none.
-    (tt, looked_rests (g.D.Disk.disk c.args.outside.now.main) (g.D.Disk.disk c.open.new.main) c.open.ensures.looks c.open.ensures.later, refl, (λ idle. refl), refl)
+    (tt, looked_rests (g.D.Disk.disk c.args.outside.now.main) (g.D.Disk.disk c.open.new.main) c.open.ensures.looks c.open.ensures.later, refl, refl, refl)
 
 pub returns-in-Err-Memory-clause-worn : goal.returns-in-Err-Memory-clause-worn
 returns-in-Err-Memory-clause-worn g c = λ found told stood stores none.
-    (tt, looked_rests (g.D.Disk.disk c.args.outside.now.main) (g.D.Disk.disk c.open.new.main) c.open.ensures.looks c.open.ensures.later, refl, (λ idle. refl), refl)
+    (tt, looked_rests (g.D.Disk.disk c.args.outside.now.main) (g.D.Disk.disk c.open.new.main) c.open.ensures.looks c.open.ensures.later, refl, refl, refl)
 
 pub returns-in-Ok-clause-not_plain : goal.returns-in-Ok-clause-not_plain
 returns-in-Ok-clause-not_plain g c = λ found told stood stores not.

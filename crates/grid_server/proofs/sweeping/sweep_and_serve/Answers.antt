@@ -33,9 +33,9 @@ serve_all-requires-clause-ready g c = record {
 }
 
 pub returns-in-Ok-clause-serves : goal.returns-in-Ok-clause-serves
-returns-in-Ok-clause-serves g c = λ e found end opened cat its.
+returns-in-Ok-clause-serves g c = λ e found end opened its.
     c.serve_all.ensures.serves e found end
-    (begun_by (record { disk = g.D.Disk.disk; source = g.S.Source.source; sink = g.K.Sink.sink; ambient = g.A.Ambient.ambient; plugin = g.P.Plugin.plugin }) (record { outside = c.args.outside.now; source = c.args.source.now; sink = c.args.sink.now }) c.sweep_orphans.new.outside c.args.server (record { main_last = c.requires.ready.outside.main_last; spare_last = c.requires.spare_last; sink_last = c.requires.ready.sink_last; stores_last = c.requires.ready.outside.stores_last }) _ c.in-Ok.ensures.frame c.in-Ok.ensures.whole c.in-Ok.ensures.leaves c.requires.fits.pending e found opened cat
+    (begun_by (record { disk = g.D.Disk.disk; source = g.S.Source.source; sink = g.K.Sink.sink; ambient = g.A.Ambient.ambient; plugin = g.P.Plugin.plugin }) (record { outside = c.args.outside.now; source = c.args.source.now; sink = c.args.sink.now }) c.sweep_orphans.new.outside c.args.server (record { main_last = c.requires.ready.outside.main_last; spare_last = c.requires.spare_last; sink_last = c.requires.ready.sink_last; stores_last = c.requires.ready.outside.stores_last }) _ c.in-Ok.ensures.frame c.in-Ok.ensures.whole c.in-Ok.ensures.leaves c.requires.fits.pending e found opened
     c.sweep_orphans.new.self c.in-Ok.ensures.stands c.requires.nobody c.requires.slots c.in-Ok.ensures.few (λ none. c.in-Ok.ensures.still none)) its
 
 pub returns-in-Ok-clause-worn_only : goal.returns-in-Ok-clause-worn_only
@@ -47,8 +47,8 @@ returns-in-Ok-clause-passes g c =
     (passes_swept (record { disk = g.D.Disk.disk; source = g.S.Source.source; sink = g.K.Sink.sink; ambient = g.A.Ambient.ambient; plugin = g.P.Plugin.plugin }) (record { outside = c.args.outside.now; source = c.args.source.now; sink = c.args.sink.now }) c.sweep_orphans.new.outside c.args.server (record { main_last = c.requires.ready.outside.main_last; spare_last = c.requires.spare_last; sink_last = c.requires.ready.sink_last; stores_last = c.requires.ready.outside.stores_last }) _ c.in-Ok.ensures.frame) c.serve_all.ensures.passes
 
 pub returns-in-Err-clause-serves : goal.returns-in-Err-clause-serves
-returns-in-Err-clause-serves g c = λ e found end opened cat its.
-    serves_swept (record { disk = g.D.Disk.disk; source = g.S.Source.source; sink = g.K.Sink.sink; ambient = g.A.Ambient.ambient; plugin = g.P.Plugin.plugin }) (record { outside = c.args.outside.now; source = c.args.source.now; sink = c.args.sink.now }) c.sweep_orphans.new.outside c.args.server (record { main_last = c.requires.ready.outside.main_last; spare_last = c.requires.spare_last; sink_last = c.requires.ready.sink_last; stores_last = c.requires.ready.outside.stores_last }) _ c.in-Err.ensures.frame c.in-Err.ensures.whole c.in-Err.ensures.leaves c.requires.fits.pending e found opened cat
+returns-in-Err-clause-serves g c = λ e found end opened its.
+    serves_swept (record { disk = g.D.Disk.disk; source = g.S.Source.source; sink = g.K.Sink.sink; ambient = g.A.Ambient.ambient; plugin = g.P.Plugin.plugin }) (record { outside = c.args.outside.now; source = c.args.source.now; sink = c.args.sink.now }) c.sweep_orphans.new.outside c.args.server (record { main_last = c.requires.ready.outside.main_last; spare_last = c.requires.spare_last; sink_last = c.requires.ready.sink_last; stores_last = c.requires.ready.outside.stores_last }) _ c.in-Err.ensures.frame c.in-Err.ensures.whole c.in-Err.ensures.leaves c.requires.fits.pending e found opened
     c.in-Err.ending end (ap run_end_of (sym c.status_of.ensures) ∙ its) (λ d. c.in-Err.ensures.frame.cause (ap Err d)) (λ d. c.in-Err.ensures.not_sink (ap Err d))
     (λ what place is told. worn_swept (g.D.Disk.disk c.args.outside.now.main) (g.D.Disk.disk c.sweep_orphans.new.outside.main) what place (c.in-Err.ensures.worn what place (ap Err is)) told)
     (λ place is. let not : wear.Vaults ≡ wear.Log = (c.in-Err.ensures.worn wear.Vaults place (ap Err is)).0 in cc)

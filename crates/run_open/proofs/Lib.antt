@@ -1,0 +1,11 @@
+pub mod Parts
+pub mod Passing
+pub mod ToldMarks
+pub mod VaultNumbers
+pub mod Commits
+pub mod Rooms
+pub mod Fronts
+pub mod Undones
+pub mod Begins
+pub mod Tells
+pub mod Ways

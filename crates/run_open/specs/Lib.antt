@@ -1,0 +1,4 @@
+pub mod Beginning
+pub mod Errors
+pub mod Opening
+pub mod Preparing

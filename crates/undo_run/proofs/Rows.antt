@@ -1,0 +1,40 @@
+-- Rows and the command, from one call to the next.
+use Rattle.std.proofs.Common.{List, [], ◌++◌, sym, ap, ◌∙◌, append_assoc}
+use Rattle.std.proofs.lemmas.List.{append-nil}
+use Rattle.grid_model.specs.Rows.{Cat}
+use Rattle.grid_model.specs.declared.marks.Mark.{Mark}
+use Rattle.grid_headline.specs.Files.{KeepsNamed}
+use Rattle.grid_headline.specs.Stops.{AreFirst}
+use Rattle.run_laws.proofs.Images.{keeps-then}
+use Rattle.service_run.specs.Commands.{KeepsBeside}
+
+-- ---- rows
+
+pub named_then : (a b c : Cat) → KeepsNamed a b → KeepsNamed b c → KeepsNamed a c
+named_then a b c one two slot name named = two slot name (one slot name named)
+
+pub beside_then : (a b c : Cat) → KeepsBeside a b → KeepsBeside b c → KeepsBeside a c
+beside_then a b c one two = record {
+  run = two.run ∙ one.run;
+  last = two.last ∙ one.last;
+  rules = two.rules ∙ one.rules;
+  stores = two.stores ∙ one.stores;
+  keeps = keeps-then a b c one.keeps two.keeps;
+  named = named_then a b c one.named two.named;
+  users = λ id is. two.users id (one.users id is);
+  names = λ id is. two.names id (one.users id is) ∙ one.names id is;
+}
+
+-- ---- the first of some marks
+
+pub first_all : (marks : List Mark) → AreFirst marks marks
+first_all marks = record { rest = []; are = sym (append-nil marks) }
+
+pub first_front : (some more all : List Mark) → AreFirst (some ++ more) all → AreFirst some all
+first_front some more all first = record { rest = more ++ first.rest; are = first.are ∙ append_assoc some more first.rest }
+
+pub first_then : (some more all : List Mark) → AreFirst some more → AreFirst more all → AreFirst some all
+first_then some more all one two = record {
+  rest = one.rest ++ two.rest;
+  are = two.are ∙ ap (λ (ms : List Mark). ms ++ two.rest) one.are ∙ append_assoc some one.rest two.rest;
+}

@@ -1,0 +1,2 @@
+pub mod OneRecovery
+pub mod Undoing
