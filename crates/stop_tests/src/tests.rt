@@ -1,9 +1,14 @@
 mod catalogues;
 mod fronts;
 mod images;
+mod pendings;
+mod recoveries;
 mod reopening;
+mod reports;
 mod rows;
 mod serving;
 mod session;
 mod stops;
+mod undoing;
+mod undone;
 mod whole;

@@ -34,12 +34,13 @@ const O: &[u8] = b"/tempZone/home/rods/o\n";
 // The greatest number for a vault file that is begun, and the next one: the numbers, the first run, and no command.
 const LAST_VAULT: &[u8] = b"\x13\xFF\xFF\xFF\xFE\0\0\0\0\0\0\0\0\0\0\0\x01\0\0\0\0\0\0\0\0";
 
-const WORN_VAULT: &[u8] = b"\x13\xFF\xFF\xFF\xFE\0\0\0\x01\0\0\0\0\0\0\0\x01\0\0\0\0\0\0\0\0";
+pub(crate) const WORN_VAULT: &[u8] =
+    b"\x13\xFF\xFF\xFF\xFE\0\0\0\x01\0\0\0\0\0\0\0\x01\0\0\0\0\0\0\0\0";
 
 const NO_VAULT: &[u8] = b"\x13\xFF\xFF\xFF\xFF\xFF\xFF\xFF\xFF\0\0\0\0\0\0\0\x01\0\0\0\0\0\0\0\0";
 
 // The number of the second of these.
-const PAST_LAST: u64 = 18_446_744_065_119_617_025;
+pub(crate) const PAST_LAST: u64 = 18_446_744_065_119_617_025;
 
 // Two bodies of no bytes, and the replies where only the first is put.
 const TWO_PUT: &[u8] =

@@ -6,7 +6,7 @@ use std::test::Fail;
 const SIX: &[u8] = b"\x05\0\0\0\0\0\0\0\x06\0\0\0\0\0\0\0\0\0\0\0\0\0\0\0\x03six\0";
 
 // The user `alice`, no administrator, and the group `lab`.
-const ALICE_AND_LAB: &[u8] = b"\x02\0\0\0\x07\x02\0\0\0\0\0\0\0\x05alice\
+pub(crate) const ALICE_AND_LAB: &[u8] = b"\x02\0\0\0\x07\x02\0\0\0\0\0\0\0\x05alice\
 \x02\0\0\0\x08\x03\0\0\0\0\0\0\0\x03lab";
 
 // The object `/tempZone/o`: its id, its collection, its name, its size, a digest of 32 bytes and a time.

@@ -2,6 +2,8 @@
 use super::playing::{
     Outcome, PLAIN, SERVE, Setting, begun, compare, done, play, refuses, serves, with_record,
 };
+use super::runs::LAST_RUN;
+use grid_outside::Wear;
 use grid_server::Status;
 use std::test::Fail;
 
@@ -17,7 +19,7 @@ const WITH_A_MARK: &[u8] =
 \0\0\0\0\0\0\0\x01\0\0\0\0\0\0\0\x10msiDataObjUnlink\0\0\0\0\0\0\0\x01\0\0\0\0\0\0\0\x04/a b\
 \0\0\0\0\0\0\0\x08NoObject\0\0\0\0\0\0\0\0\0";
 
-// The same with one recovery, which is not run yet.
+// The same with one recovery, which does nothing.
 const WITH_A_RECOVERY: &[u8] =
     b"\x14\0\0\0\0\0\0\0\x01\0\0\0\0\0\0\0\x02\0\0\0\x01\0\0\0\0\0\0\0\x0A0 mkdir /x\
 \0\0\0\0\0\0\0\0\0\0\0\0\0\0\0\0\0\0\0\0\0\0\0\0\x01\0\0\0\0\0\0\0\x03nop\0\0\0\0\0\0\0\0";
@@ -35,7 +37,11 @@ const LONG: &[u8] = b"stopped 1 2\n2 mark ran 7 1000\n2 mark stop\n\
 fn a_command_that_was_stopped_is_reported_once(rt: HostRuntime) -> Result<(), Fail> {
     let alloc = rt.alloc();
     let new = begun(alloc)?;
-    for (pending, replies) in [(PENDING, SHORT), (WITH_A_MARK, LONG)] {
+    for (pending, replies) in [
+        (PENDING, SHORT),
+        (WITH_A_MARK, LONG),
+        (WITH_A_RECOVERY, SHORT),
+    ] {
         let main = with_record(alloc, &new, pending)?;
         let main = serves(&rt, alloc, &main, INPUT, done(1, replies, 2, b"/x\n"))?;
         serves(&rt, alloc, &main, b"", done(2, b"", 0, b"/x\n"))?;
@@ -76,30 +82,34 @@ fn a_report_may_be_cut_short(rt: HostRuntime) -> Result<(), Fail> {
     Ok(())
 }
 
+// Nothing is read of an input, which would fail, and nothing is told of what is pending.
 #[test]
-fn a_command_with_recoveries_is_not_gone_on_with(rt: HostRuntime) -> Result<(), Fail> {
+fn a_run_that_does_not_begin_tells_of_no_command(rt: HostRuntime) -> Result<(), Fail> {
     let alloc = rt.alloc();
-    let main = with_record(alloc, &begun(alloc)?, WITH_A_RECOVERY)?;
-    // Nothing is read of an input, which would fail. Another number of stores is told before.
+    let new = begun(alloc)?;
     let setting = Setting {
         source_fails: 1,
         ..PLAIN
     };
-    refuses(&rt, alloc, SERVE, &main, setting, Status::NotPlain, b"")?;
     let two = Setting {
         has_two_stores: true,
         ..setting
     };
+    let main = with_record(alloc, &new, WITH_A_RECOVERY)?;
     let status = Status::Stores { kept: 1, given: 2 };
     refuses(&rt, alloc, SERVE, &main, two, status, b"err Stores 1 2\n")?;
-    // Once it is done the catalogue is served.
+    let worn = with_record(alloc, &new, LAST_RUN)?;
+    let status = Status::Worn {
+        what: Wear::Runs,
+        at: u64::MAX,
+    };
+    for pending in [PENDING, WITH_A_MARK, WITH_A_RECOVERY] {
+        let main = with_record(alloc, &worn, pending)?;
+        refuses(&rt, alloc, SERVE, &main, setting, status, b"")?;
+    }
+    // Once the command is pending no longer the catalogue is served.
     let main = with_record(alloc, &main, NO_PENDING)?;
-    serves(
-        &rt,
-        alloc,
-        &main,
-        INPUT,
-        done(1, b"1 ok\n2 ok\n", 2, b"/x\n"),
-    )?;
+    let served = done(1, b"1 ok\n2 ok\n", 2, b"/x\n");
+    serves(&rt, alloc, &main, INPUT, served)?;
     Ok(())
 }

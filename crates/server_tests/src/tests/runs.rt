@@ -8,7 +8,8 @@ use std::test::Fail;
 
 // The numbers of a run of the number 2^64 - 1, or of the one before: the tag, the next vault number 1, the run, and no
 // command.
-const LAST_RUN: &[u8] = b"\x13\0\0\0\0\0\0\0\x01\xFF\xFF\xFF\xFF\xFF\xFF\xFF\xFF\0\0\0\0\0\0\0\0";
+pub(crate) const LAST_RUN: &[u8] =
+    b"\x13\0\0\0\0\0\0\0\x01\xFF\xFF\xFF\xFF\xFF\xFF\xFF\xFF\0\0\0\0\0\0\0\0";
 
 const RUN_BEFORE: &[u8] = b"\x13\0\0\0\0\0\0\0\x01\xFF\xFF\xFF\xFF\xFF\xFF\xFF\xFE\0\0\0\0\0\0\0\0";
 

@@ -1,4 +1,5 @@
 // The catalogue that main has, and the files of the stores beside it.
+use super::reports::{count_making, lines_of};
 use super::rows::rows_of;
 use super::serving::Left;
 use super::whole::are_whole;
@@ -9,12 +10,14 @@ use std::alloc::Global;
 use std::process::Abort;
 use std::test::Fail;
 
-// The number of the run, the number of the command that is pending, or 0, how many files are named that no replica has, and
-// what the rows tell of the grid.
+// The number of the run, the number of the command that is pending, or 0, the lines of its marks, how many of its recoveries make a
+// file, how many files are named that no replica has, and what the rows tell of the grid.
 #[derive(Drop)]
 pub(crate) struct Kept {
     pub(crate) run: u64,
     pub(crate) pending: u64,
+    pub(crate) marks: Vec<u8>,
+    pub(crate) making: usize,
     pub(crate) orphans: usize,
     pub(crate) rows: Vec<u8>,
 }
@@ -29,13 +32,19 @@ fn kept_by(
     are_whole(rt, alloc, tables, stores)?;
     let numbers = tables.numbers();
     let mut pending: u64 = 0;
+    let mut marks = Vec::new(alloc);
+    let mut making: usize = 0;
     if let Some(command) = tables.pending() {
         assert_eq!(rt; command.run, numbers.run);
         pending = command.number;
+        marks = lines_of(alloc, pending, command.marks.as_slice())?;
+        making = count_making(&command.undo);
     }
     Ok(Kept {
         run: numbers.run,
         pending,
+        marks,
+        making,
         orphans: tables.orphans().len(),
         rows: rows_of(alloc, tables)?,
     })

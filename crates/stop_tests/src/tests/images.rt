@@ -119,7 +119,7 @@ fn bytes_after(
 }
 
 // How many bytes are the same at the front of both.
-fn count_same(bytes: &[u8], others: &[u8]) -> usize {
+pub(crate) fn count_same(bytes: &[u8], others: &[u8]) -> usize {
     let mut count: usize = 0;
     for (byte, other) in bytes.iter().zip(others) {
         if byte != other {

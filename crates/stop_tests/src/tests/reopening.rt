@@ -1,28 +1,16 @@
 // What the server makes of what a stop left.
-use super::catalogues::{Kept, Seen, see};
+use super::catalogues::{Seen, see};
 use super::fronts::Front;
 use super::images::{Stop, WAYS, count_calls, left_at, left_behind};
+use super::reports::report_of;
 use super::serving::{Served, serve};
 use super::session::LISTS;
-use std::alloc::{AllocError, Global};
+use std::alloc::Global;
 use std::process::Abort;
 use std::test::Fail;
 
 // Whether a run has the files removed that no replica has, right behind its opening.
 const SWEEPS_AT_OPENING: bool = true;
-
-// What is told first over a catalogue in which this command is pending, or 0.
-fn report_of(alloc: Global, kept: &Kept) -> Result<Vec<u8>, AllocError> {
-    let mut report = Vec::new(alloc);
-    if kept.pending != 0 {
-        let Kept { run, pending, .. } = kept;
-        let text = format!(in alloc;
-            "stopped {run} {pending}\n{pending} mark stop\n{pending} err Stopped\n"
-        )?;
-        report.extend_from_slice(text.as_bytes())?;
-    }
-    Ok(report)
-}
 
 // Serves these requests over what was left, which is the grid of this front: what was pending is reported first.
 fn serve_again(
@@ -35,7 +23,7 @@ fn serve_again(
 ) -> Result<Served, Fail> {
     assert!(rt; seen.kept.rows == front.rows);
     let served = serve(rt, alloc, &seen.left, input)?;
-    let mut told = report_of(alloc, &seen.kept)?;
+    let mut told = report_of(alloc, &seen.kept, b"")?;
     told.extend_from_slice(replies)?;
     assert_eq!(rt; served.sink.bytes(), told.as_slice());
     Ok(served)

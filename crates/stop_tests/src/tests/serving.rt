@@ -14,7 +14,7 @@ use std::process::Abort;
 use std::rc::Rc;
 use std::test::Fail;
 
-pub(crate) const SERVE: &[&[u8]] = &[b"serve"];
+const SERVE: &[&[u8]] = &[b"serve"];
 
 const INIT: &[&[u8]] = &[b"init", b"tempZone", b"rods"];
 
@@ -44,11 +44,16 @@ fn watch_on(alloc: Global, files: &MemFiles) -> Result<Watch, AllocError> {
     Ok(Rc::new(alloc, RefCell::new(record))?)
 }
 
-// A store with these files, whose calls are recorded there.
-fn store_on(alloc: Global, files: &MemFiles, watch: &Watch) -> Result<MemStore, AllocError>
+// A store with these files, of which the calls of these numbers fail. Its calls are recorded there.
+fn store_on(
+    alloc: Global,
+    files: &MemFiles,
+    fails: &[u64],
+    watch: &Watch,
+) -> Result<MemStore, AllocError>
     ensures { IfOk result (λ store. (store_of store).last ≡ 0) }
 {
-    MemStore::watched(alloc, files.clone()?, Vec::new(alloc), watch.clone()?)
+    MemStore::watched(alloc, files.clone()?, fails.to_vec(alloc)?, watch.clone()?)
 }
 
 fn outside_on(
@@ -95,12 +100,13 @@ fn run_over(
     Ok((status, sink))
 }
 
-// Runs these words over what was left, with an input of these bytes.
-pub(crate) fn play(
+// Runs these words over what was left, with an input of these bytes. The calls of these numbers of the second store fail.
+fn play(
     alloc: Global,
     words: &[&[u8]],
     left: &Left,
     input: &[u8],
+    fails: &[u64],
 ) -> Result<Served, AllocError> {
     let [first, second, third] = &left.stores;
     let watches = [
@@ -109,11 +115,11 @@ pub(crate) fn play(
         watch_on(alloc, third)?,
     ];
     let mut stores: Vec<Box<dyn Plugin>> = Vec::new(alloc);
-    let store = store_on(alloc, first, &watches[0])?;
+    let store = store_on(alloc, first, &[], &watches[0])?;
     add_store(&mut stores, Box::new(alloc, store)?)?;
-    let store = store_on(alloc, second, &watches[1])?;
+    let store = store_on(alloc, second, fails, &watches[1])?;
     add_store(&mut stores, Box::new(alloc, store)?)?;
-    let store = store_on(alloc, third, &watches[2])?;
+    let store = store_on(alloc, third, &[], &watches[2])?;
     add_store(&mut stores, Box::new(alloc, store)?)?;
     let mut outside = outside_on(alloc, &left.main, stores)?;
     let (status, sink) = run_over(alloc, words, &mut outside, input)?;
@@ -134,7 +140,26 @@ pub(crate) fn serve(
     left: &Left,
     input: &[u8],
 ) -> Result<Served, Fail> {
-    let served = play(alloc, SERVE, left, input)?;
+    let served = play(alloc, SERVE, left, input, &[])?;
+    assert_eq!(rt; served.status, Status::Done);
+    Ok(served)
+}
+
+// More calls than any run makes of a store.
+const MANY_CALLS: u64 = 64;
+
+// The same where each call of the second store fails.
+pub(crate) fn serve_failing(
+    rt: &impl Abort,
+    alloc: Global,
+    left: &Left,
+    input: &[u8],
+) -> Result<Served, Fail> {
+    let mut fails = Vec::new(alloc);
+    for call in 1..=MANY_CALLS {
+        fails.push(call)?;
+    }
+    let served = play(alloc, SERVE, left, input, &fails)?;
     assert_eq!(rt; served.status, Status::Done);
     Ok(served)
 }
@@ -150,7 +175,7 @@ pub(crate) fn begun(rt: &impl Abort, alloc: Global) -> Result<Left, Fail> {
         stores: [no_files(alloc), no_files(alloc), no_files(alloc)],
         told: Vec::new(alloc),
     };
-    let served = play(alloc, INIT, &nothing, b"")?;
+    let served = play(alloc, INIT, &nothing, b"", &[])?;
     assert_eq!(rt; served.status, Status::Done);
     assert_eq!(rt; served.sink.bytes(), b"ok\n".as_slice());
     Ok(Left {
