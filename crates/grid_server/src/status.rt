@@ -14,7 +14,7 @@ pub enum Status {
     NotEmpty { side: Side, len: u64 },
     /// The catalogue is of a grid with `kept` stores, and `given` were handed in.
     Stores { kept: u8, given: u8 },
-    /// The catalogue has rules, or a command that is not done and has recoveries. What goes on from these is not built yet.
+    /// The catalogue has rules. What goes on from these is not built yet.
     NotPlain,
     /// A disk failed.
     DiskFault,
