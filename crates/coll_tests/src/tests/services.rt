@@ -1,6 +1,6 @@
 //! What calls of micro-services come to in a small grid, and why they fail.
 
-ghost use Rattle.grid_journal.specs.Journal.{AreSpelled, can_be_kept};
+ghost use Rattle.grid_journal.specs.Journal.{HasSpelledRows, IsSpelledPending, can_be_kept};
 ghost use Rattle.grid_model.specs.Applying.{IsMade};
 ghost use Rattle.grid_model.specs.Names.{Text as TextOf};
 ghost use Rattle.grid_model.specs.Words.{is_word_byte};
@@ -51,6 +51,16 @@ fn has_words(call: &Call) -> bool
     call.args.as_slice().iter().all(|arg| is_word(arg))
 }
 
+// Whether no command is pending.
+fn has_no_pending(tables: &Tables) -> bool
+    ensures { IsTrue result → IsSpelledPending tables.now.pending }
+{
+    match tables.pending() {
+        None => true,
+        Some(_) => false,
+    }
+}
+
 // What is planned of the administrator's call.
 fn planned(
     rt: &impl Abort,
@@ -59,7 +69,7 @@ fn planned(
     line: &str,
 ) -> Result<Result<ServicePlan, ServiceError>, Fail>
     requires made { IsMade tables.now }
-    requires spelled { AreSpelled tables.now.triples }
+    requires spelled { HasSpelledRows tables.now }
     ensures { IfOk result (λ planned. (user : TextOf) × (call : CallOf) × PlansCall tables.now user call planned) }
 {
     let user = user_of(rt, alloc, tables, "rods")?;
@@ -73,10 +83,10 @@ fn planned(
 // Makes changes that may be kept.
 fn make_all(tables: &mut Tables, deltas: Deltas) -> Result<(), TableError>
     requires made { IsMade tables.old }
-    requires spelled { AreSpelled tables.old.triples }
+    requires spelled { HasSpelledRows tables.old }
     requires kept { IsTrue (list_all can_be_kept deltas) }
     ensures made { IsMade tables.new }
-    ensures spelled { AreSpelled tables.new.triples }
+    ensures spelled { HasSpelledRows tables.new }
 {
     for delta in deltas.into_vec() {
         make(tables, delta)?;
@@ -86,10 +96,10 @@ fn make_all(tables: &mut Tables, deltas: Deltas) -> Result<(), TableError>
 
 fn make(tables: &mut Tables, delta: Delta) -> Result<(), TableError>
     requires made { IsMade tables.old }
-    requires spelled { AreSpelled tables.old.triples }
+    requires spelled { HasSpelledRows tables.old }
     requires kept { IsTrue (can_be_kept delta) }
     ensures made { IsMade tables.new }
-    ensures spelled { AreSpelled tables.new.triples }
+    ensures spelled { HasSpelledRows tables.new }
 {
     tables.apply(delta)
 }
@@ -97,9 +107,9 @@ fn make(tables: &mut Tables, delta: Delta) -> Result<(), TableError>
 // Does the call, which changes rows alone.
 fn call(rt: &impl Abort, alloc: Global, tables: &mut Tables, line: &str) -> Result<(), Fail>
     requires made { IsMade tables.old }
-    requires spelled { AreSpelled tables.old.triples }
+    requires spelled { HasSpelledRows tables.old }
     ensures made { IsMade tables.new }
-    ensures spelled { AreSpelled tables.new.triples }
+    ensures spelled { HasSpelledRows tables.new }
 {
     match planned(rt, alloc, tables, line)? {
         Ok(ServicePlan::Changes(deltas)) => {
@@ -156,7 +166,7 @@ fn plan_shown(alloc: Global, plan: &ServicePlan) -> Result<String, AllocError> {
 
 fn shown(rt: &impl Abort, alloc: Global, tables: &Tables, line: &str) -> Result<String, Fail>
     requires made { IsMade tables.now }
-    requires spelled { AreSpelled tables.now.triples }
+    requires spelled { HasSpelledRows tables.now }
 {
     match planned(rt, alloc, tables, line)? {
         Ok(plan) => Ok(plan_shown(alloc, &plan)?),
@@ -174,6 +184,8 @@ fn calls_come_to_what_is_wanted(
 {
     let bare = has_no_metadata(tables);
     assert!(rt; bare);
+    let is_done = has_no_pending(tables);
+    assert!(rt; is_done);
     call(rt, alloc, tables, "msiCollCreate /z/home/rods/c")?;
     call(rt, alloc, tables, "msiAddAVU -C /z/home/rods/c a b u")?;
     for (line, wanted) in [
