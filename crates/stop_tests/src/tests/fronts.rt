@@ -23,10 +23,12 @@ fn front_of(rt: &impl Abort, alloc: Global, new: &Left, count: usize) -> Result<
     let seen = see(rt, alloc, left_behind(alloc, &served)?)?;
     assert_eq!(rt; seen.kept.pending, 0);
     let listed = serve(rt, alloc, &seen.left, LISTS)?;
+    let listed = listed.sink.bytes().to_vec(alloc)?;
+    let kept = seen.kept;
     Ok(Front {
         told: wanted.len(),
-        rows: seen.kept.rows,
-        listed: listed.sink.bytes().to_vec(alloc)?,
+        rows: kept.rows,
+        listed,
     })
 }
 
