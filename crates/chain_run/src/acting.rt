@@ -91,7 +91,9 @@ fn compute_args<O: Doer>(
 
 /// Has a micro-service run.
 fn run_call<O: Doer>(frames: &Frames, call: &Call, doer: &mut O) -> Result<Acted, RunStop<O::Stop>>
-    requires { asked frames.now ≡ action.Run call.now }
+    requires asked { asked frames.now ≡ action.Run call.now }
+    requires ready { O.ready doer.old }
+    ensures ready { IfOk result (λ acted. O.ready doer.new) }
     ensures acts { IfOk result (λ acted. (rules : List Rule) (env : values.Env) → env.user ≡ (O.place doer.old).user →
         DoesAction rules env frames.now acted (O.place doer.old) (O.place doer.new)) }
     ensures makes { MakesCallsUntil O.went (IsCallAskedFor frames.now (O.place doer.old)) O.no_size (stop_of result) doer.old doer.new }
@@ -116,6 +118,8 @@ fn last_recovery(frames: &Frames) -> &Call
 fn run_recovery<O: Doer>(frames: &Frames, doer: &mut O) -> Result<Acted, RunStop<O::Stop>>
     requires asked { asked frames.now ≡ action.Undo }
     requires listed { 0 < length (listed_recoveries frames.now) }
+    requires ready { O.ready doer.old }
+    ensures ready { IfOk result (λ acted. O.ready doer.new) }
     ensures acts { IfOk result (λ acted. (rules : List Rule) (env : values.Env) → env.user ≡ (O.place doer.old).user →
         DoesAction rules env frames.now acted (O.place doer.old) (O.place doer.new)) }
     ensures makes { MakesCallsUntil O.went (IsCallAskedFor frames.now (O.place doer.old)) O.no_size (stop_of result) doer.old doer.new }
@@ -141,6 +145,8 @@ pub(crate) fn act<O: Doer>(
     requires checked { first_fault (rules_faults (map rule_of rules.now.rules)) ≡ None }
     requires asked { action.now ≡ asked frames.now }
     requires tells { Tells (rules_of rules.now) frames.now action.now }
+    requires ready { O.ready doer.old }
+    ensures ready { IfOk result (λ acted. O.ready doer.new) }
     ensures acts { IfOk result (λ acted. DoesAction (rules_of rules.now) (env_of env.now) frames.now acted (O.place doer.old) (O.place doer.new)) }
     ensures makes { MakesCallsUntil O.went (IsCallAskedFor frames.now (O.place doer.old)) O.no_size (stop_of result) doer.old doer.new }
 {

@@ -33,6 +33,8 @@ fn go_on<O: Doer>(
     requires usable { IsUsable (rules_of rules.now) frames.old }
     requires asked { action ≡ asked frames.old }
     requires tells { Tells (rules_of rules.now) frames.old action }
+    requires ready { O.ready doer.old }
+    ensures ready { IfOk result (λ outcome. O.ready doer.new) }
     ensures ends { IfOk result (λ outcome.
         ReachesEnd (rest_from (rules_of rules.now) (env_of env.now) frames.old (O.place doer.old)) (O.place doer.old) outcome frames.new (O.place doer.new)) }
     ensures makes { let whole = rest_from (rules_of rules.now) (env_of env.now) frames.old (O.place doer.old) in
@@ -51,7 +53,7 @@ fn go_on<O: Doer>(
     }
 }
 
-/// Runs the rules of a point, whose name this is, without arguments. Rules are checked ones, and the doer works for the user of
+/// Runs the rules of a point, whose name this is, without arguments. Rules are checked ones, and the doer is ready and works for the user of
 /// the session variables. One `frames` serves all points of a command, whose steps it counts.
 ///
 /// # Errors
@@ -67,6 +69,8 @@ pub fn run_point<O: Doer>(
 ) -> Result<Outcome, RunStop<O::Stop>>
     requires user { (O.place doer.old).user ≡ env.now.user }
     requires checked { first_fault (rules_faults (map rule_of rules.now.rules)) ≡ None }
+    requires ready { O.ready doer.old }
+    ensures ready { IfOk result (λ outcome. O.ready doer.new) }
     ensures ends { let point = call_rule (rules_of rules.now) (env_of env.now) name [] in
         IfOk result (λ outcome. ReachesEnd (whole_from point frames.old (O.place doer.old)) (O.place doer.old) outcome frames.new (O.place doer.new)) }
     ensures makes { let point = call_rule (rules_of rules.now) (env_of env.now) name [] in
@@ -94,6 +98,8 @@ pub fn run_rule<O: Doer>(
 ) -> Result<Outcome, RunStop<O::Stop>>
     requires user { (O.place doer.old).user ≡ env.now.user }
     requires checked { first_fault (rules_faults (map rule_of rules.now.rules)) ≡ None }
+    requires ready { O.ready doer.old }
+    ensures ready { IfOk result (λ outcome. O.ready doer.new) }
     ensures ends { IfOk result (λ outcome. (vs : List Value) → HasValues call vs →
         let alone = by_itself (rules_of rules.now) (env_of env.now) call vs in
         ReachesEnd (whole_from alone frames.old (O.place doer.old)) (O.place doer.old) outcome frames.new (O.place doer.new)) }

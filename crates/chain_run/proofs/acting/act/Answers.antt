@@ -26,8 +26,8 @@ compute_args-requires-clause-there g c = subst (Tells (rules_of c.args.rules.now
 pub compute_args-requires-clause-checked : goal.compute_args-requires-clause-checked
 compute_args-requires-clause-checked g c = c.requires.checked
 
-pub run_call-requires : goal.run_call-requires
-run_call-requires g c = sym c.requires.asked ∙ c.in-Run.is
+pub run_call-requires-clause-asked : goal.run_call-requires-clause-asked
+run_call-requires-clause-asked g c = sym c.requires.asked ∙ c.in-Run.is
 
 pub run_recovery-requires-clause-asked : goal.run_recovery-requires-clause-asked
 run_recovery-requires-clause-asked g c = sym c.requires.asked ∙ c.in-Undo.is

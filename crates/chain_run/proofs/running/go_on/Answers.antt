@@ -15,6 +15,7 @@ actions-init g c = record {
   usable = c.requires.usable;
   asked = c.requires.asked;
   tells = c.requires.tells;
+  ready = c.requires.ready;
   reached = at_entry (rules_of c.args.rules.now) (env_of c.args.env.now) c.args.frames.now (g.O.Doer.place c.args.doer.now);
   made = none_made g.O.Doer.went _ c.args.doer.now (g.met.O.Doer.begins c.args.doer.now);
 }
@@ -30,6 +31,9 @@ act-requires-clause-asked g c = c.actions.invariant.asked
 
 pub act-requires-clause-tells : goal.act-requires-clause-tells
 act-requires-clause-tells g c = c.actions.invariant.tells
+
+pub act-requires-clause-ready : goal.act-requires-clause-ready
+act-requires-clause-ready g c = c.actions.invariant.ready
 
 pub next-requires : goal.next-requires
 next-requires g c = c.actions.invariant.usable
@@ -92,6 +96,7 @@ actions-preserved g c =
       usable = c.in-Ok.ensures.usable;
       asked = c.in-Ok.ensures.asked;
       tells = c.in-Ok.ensures.tells;
+      ready = c.in-Ok-Came.ensures.ready;
       reached = one_on rules env whole entry c.actions.frames (g.O.Doer.place c.actions.doer) c.in-Ok-Came.event c.next.new.self (g.O.Doer.place c.act.new.doer)
           inv.reached acts c.in-Ok.ensures.continues;
       made = acted_until g.O.Doer.went g.O.Doer.no_size rules env whole entry c.actions.frames (g.O.Doer.place c.actions.doer) None c.args.doer.now c.actions.doer

@@ -13,6 +13,7 @@ invariant-actions g l = record {
   usable : IsUsable (rules_of l.rules) l.frames;
   asked : l.action ≡ asked l.frames;
   tells : Tells (rules_of l.rules) l.frames l.action;
+  ready : g.O.Doer.ready l.doer;
   reached : Reaches (rules_of l.rules) (env_of l.env) (rest_from (rules_of l.rules) (env_of l.env) l.fn.frames (g.O.Doer.place l.fn.doer)) (g.O.Doer.place l.fn.doer)
       l.frames (g.O.Doer.place l.doer);
   made : MakesCalls g.O.Doer.went
