@@ -33,6 +33,7 @@ pub enum Acted {
 
 /// `$dataSize`, as it is now.
 fn size_now<O: Doer>(env: &Env, doer: &O) -> Result<u64, O::Stop>
+    requires ready { O.ready doer.now }
     ensures size { IfOk result (λ size. size ≡ size_now (env_of env.now) (O.place doer.now).grid) }
     ensures stopped { IfErr result (O.no_size doer.now) }
 {
@@ -53,6 +54,7 @@ fn test_rule<O: Doer>(
 ) -> Result<Acted, RunStop<O::Stop>>
     requires asked { asked frames.now ≡ action.Test rule }
     requires there { rule < length (rules_of rules.now) }
+    requires ready { O.ready doer.now }
     ensures acts { IfOk result (λ acted. DoesAction (rules_of rules.now) (env_of env.now) frames.now acted (O.place doer.now) (O.place doer.now)) }
     ensures makes { MakesCallsUntil O.went (IsCallAskedFor frames.now (O.place doer.now)) O.no_size (stop_of result) doer.now doer.now }
 {
@@ -77,6 +79,7 @@ fn compute_args<O: Doer>(
     requires asked { asked frames.now ≡ action.Eval place.0 place.1 }
     requires there { place.1 < length (rule_at (rules_of rules.now) place.0).steps }
     requires checked { first_fault (rules_faults (map rule_of rules.now.rules)) ≡ None }
+    requires ready { O.ready doer.now }
     ensures acts { IfOk result (λ acted. DoesAction (rules_of rules.now) (env_of env.now) frames.now acted (O.place doer.now) (O.place doer.now)) }
     ensures makes { MakesCallsUntil O.went (IsCallAskedFor frames.now (O.place doer.now)) O.no_size (stop_of result) doer.now doer.now }
 {

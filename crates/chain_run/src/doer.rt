@@ -25,6 +25,7 @@ pub trait Doer {
 
     /// The recorded size in bytes of the object at the path that the text spells, as it is now, and 0 where there is none.
     fn size_at(&self, path: &Text) -> Result<u64, Self::Stop>
+        requires ready { ready self.now }
         ensures size { IfOk result (λ size. size ≡ recorded_size (place self.now).grid path.now) }
         ensures stopped { IfErr result (no_size self.now) };
 
