@@ -1,10 +1,11 @@
 -- What a request asks for, and the rules of a catalogue, by the texts of rules and calls.
 use Rattle.std.specs.Prelude.{◌≡◌, ℕ, Bool, true, false, List, [], ◌∷◌, Ok}
-use Rattle.grid_model.specs.RuleText.{Rule}
+use Rattle.grid_model.specs.RuleText.{Rule, CallText}
 use Rattle.grid_model.specs.Rows.{Cat}
 use Rattle.grid_model.specs.Inputs.{Asked}
 use Rattle.grid_model.specs.Sessions.{State}
-use Rattle.grid_model.specs.Orders.{quits, sweeps}
+use Rattle.grid_model.specs.Orders.{executes, quits, sweeps}
+use Rattle.grid_model.specs.Refusing.{Or}
 use Rattle.grid_model.specs.Runs.{Request}
 use Rattle.grid_model.specs.declared.requests.Verb.{Verb}
 use Rattle.grid_model.specs.declared.requests.Verb.TheVariants as verb
@@ -43,6 +44,7 @@ is_built (verb.AddMeta kind name attribute value unit) = true
 is_built (verb.RmMeta kind name attribute value unit) = true
 is_built (verb.LsMeta kind name) = true
 is_built (verb.Query text) = true
+is_built (verb.Exec text) = true
 is_built other = false
 
 -- the texts of rules and calls are read and printed so
@@ -68,6 +70,13 @@ pub record AsksToSweep (a : Asked) : Type 0 where
   pub at : State
   pub session : ℕ
   pub asks : MeansRequest at a (Ok (session, sweeps))
+
+-- the request asks for a call of rules
+pub record AsksForCall (a : Asked) : Type 0 where
+  pub at : State
+  pub session : ℕ
+  pub call : Or CallText
+  pub asks : MeansRequest at a (Ok (session, executes call))
 
 -- none of them but the last one ends the input
 abbrev pub EndsInputLast : List Asked → Type 0

@@ -36,10 +36,10 @@ use Rattle.run_laws.proofs.Known.{pieces-less, told-less}
 use Rattle.run_laws.proofs.Goings.{disks-settled, whole-now, known-now, went-then, whole-then}
 use Rattle.run_laws.proofs.Causes.{caused-then}
 use Rattle.run_laws.proofs.Draws.{gave-then}
-use Rattle.run_laws.proofs.BuiltOrders.{built, does-rules, removes_nothing}
+use Rattle.run_laws.proofs.BuiltOrders.{built, does-rules, calls_no_rules, removes_nothing}
 use Rattle.run_laws.proofs.Recoveries.{told-behind}
 use Rattle.run_laws.proofs.Images.{IsOneMore, behind-of, like-of, image-more, image-one, shows-one, shown-taken, pieces-have, reply_has}
-use Rattle.run_laws.proofs.Orphans.{LastOne, swept_last, quit_last, few-before, few-behind, few-swept, last-one, quits-leave, quits-remove}
+use Rattle.run_laws.proofs.Orphans.{LastOne, swept_last, quit_last, few-before, few-behind, few-swept, last-one, quits-leave, quits-call, quits-remove}
 
 -- ---- what was handled so far
 
@@ -143,7 +143,7 @@ module _ {B : Type 0} (old mid new : World B) (found c : Cat) (at : State) (aske
       subst P (sym marks_more)
       (all-append (IsToldOf known (length old.stores)) (u.report ++ marks_of h.begun) step.marks so.ran.told_of
       (subst N so.ran.went.count (all-map (IsToldOf (IsKnown mid c) (length mid.stores)) (IsToldOf known (length mid.stores))
-      (told-less (IsKnown mid c) known (known-so old mid found c at asked so begin order) (length mid.stores)) step.marks step.told_of)))
+      (told-less (IsKnown mid c) known (known-so old mid found c at asked so begin order) (length mid.stores)) step.marks (step.told_of (subst IsTrue (sym so.ran.went.main.tells) begin.main_tells)))))
 
   module _ (tells : IsTrue old.sink.tells) where
     pub sink-mid : IsTrue mid.sink.tells
@@ -242,7 +242,7 @@ module _ {B : Type 0} (old mid new : World B) (found c : Cat) (at : State) (aske
         let two = still-split (grid_of found) h.begun h.done m step.d all in
         let so_far = so.still none clear two.0 in
         let main : new.main.holds ≡ mid.main.holds =
-        whole.still (removes_nothing means two.1.2) two.1.0 (two.1.1 ∙ sym so_far.1) (subst IsTrue (sym so.ran.went.main.tells) begin.main_tells) in (
+        whole.still (removes_nothing means two.1.2) (calls_no_rules means two.1.3) two.1.0 (two.1.1 ∙ sym so_far.1) (subst IsTrue (sym so.ran.went.main.tells) begin.main_tells) in (
           subst (HasOneMore old.main.holds) (sym main) so_far.0,
           whole.grid ∙ ap (λ (s : State). s.grid) (sym whole.state) ∙ two.1.1,
         )
@@ -253,7 +253,7 @@ module _ {B : Type 0} (old mid new : World B) (found c : Cat) (at : State) (aske
         let one = quits-alone at a request ends means in
         let left = quits-leave at one.0 step.marks step.d (ap (λ (r : Request). does at r step.marks) (sym one.1) ∙ step.does_so) in
         let main : new.main.holds ≡ mid.main.holds =
-        whole.still (quits-remove one.0 request one.1) (sym step.marks_are ∙ left.0) (left.1 ∙ sym so.grid) (subst IsTrue (sym so.ran.went.main.tells) begin.main_tells) in
+        whole.still (quits-remove one.0 request one.1) (quits-call one.0 request one.1) (sym step.marks_are ∙ left.0) (left.1 ∙ sym so.grid) (subst IsTrue (sym so.ran.went.main.tells) begin.main_tells) in
         the_catalogue mid.main.holds [] c after (so.stands []) (subst (λ (t : Text). StandsFor t after) main stands-more [])
 
     -- behind a sweep, few orphans are left

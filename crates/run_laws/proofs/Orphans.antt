@@ -18,7 +18,7 @@ use Rattle.grid_headline.specs.Reads.{MeansRequest, EndsInput}
 use Rattle.grid_headline.specs.Ends.{HasFewOrphans, Swept, Quit, EndsSwept, none, by_sweep, by_quit}
 use Rattle.grid_headline.proofs.OneMeaning.{sweeps-alone}
 use Rattle.run_laws.specs.Silent.{LeavesFew}
-use Rattle.run_laws.specs.Steps.{RemovesNoFile}
+use Rattle.run_laws.specs.Steps.{CallsNoRules, RemovesNoFile}
 use Rattle.run_laws.specs.Went.{Went}
 use Rattle.run_laws.proofs.Goings.{faults-rise}
 use Rattle.run_laws.proofs.Lists.{get-front, get-last, state-more}
@@ -56,6 +56,9 @@ quits-leave at n marks d did = by (get at.sessions n) did
 -- nor is it a sweep
 pub quits-remove : (n : ℕ) (request : Request) → request ≡ Ok (n, quits) → RemovesNoFile request
 quits-remove n request e = subst RemovesNoFile (sym e) tt
+
+pub quits-call : (n : ℕ) (request : Request) → request ≡ Ok (n, quits) → CallsNoRules request
+quits-call n request e = subst CallsNoRules (sym e) tt
 
 -- ---- a sweep
 

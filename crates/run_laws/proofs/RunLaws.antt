@@ -1,26 +1,29 @@
 -- The laws of a run: how it is begun, one more request, and its ends.
-use Rattle.std.proofs.Common.{inl, inr, ◌+◌, List, [], ◌∷◌, ◌++◌, length, sym, ap, ◌∙◌}
+use Rattle.std.proofs.Common.{◌≡◌, inl, inr, ℕ, ◌+◌, List, [], ◌∷◌, ◌++◌, Ok, length, refl, sym, ap, ◌∙◌, subst, arith}
 use Rattle.std.specs.List.{AllByRecursion}
 use Rattle.grid_outside.specs.Source.{SourceState}
+use Rattle.grid_outside.specs.declared.outside.Wear.TheVariants as wear
 use Rattle.grid_model.specs.Rows.{Cat}
 use Rattle.grid_model.specs.Beginning.{begins}
 use Rattle.grid_model.specs.Inputs.{Asked, none_taken}
 use Rattle.grid_model.specs.Sessions.{State}
-use Rattle.grid_model.specs.Runs.{Request}
+use Rattle.grid_model.specs.Orders.{Order}
+use Rattle.grid_model.specs.Runs.{Request, state_after}
 use Rattle.grid_headline.specs.Worlds.{World}
 use Rattle.grid_headline.specs.Reads.{MeansRequest, EndsInput, EndsInputLast}
 use Rattle.grid_headline.specs.Served.{BeginsWithRequests}
-use Rattle.grid_headline.specs.Ends.{RunEnd}
+use Rattle.grid_headline.specs.Ends.{HasRunOut, RunEnd, worn}
 use Rattle.grid_headline.specs.Headline.{Serves}
-use Rattle.run_laws.specs.Ends.{ReadsSo, StopsSo, IsGoodIfNoneFailed}
+use Rattle.run_laws.specs.Ends.{MakesFile, ReadsSo, StopsSo, IsGoodIfNoneFailed}
 use Rattle.run_laws.specs.Opening.{Opens, Opened}
 use Rattle.run_laws.specs.Silent.{IsSwept, LeavesFew, Sweeps}
 use Rattle.run_laws.specs.Sofar.{BeginsPlainly, CallsGoOn, Sofar}
 use Rattle.run_laws.specs.Steps.{NotesLine, RequestStep, IsHandledWhole, IsQuiet}
-use Rattle.run_laws.proofs.More.{ran-more, no-rules, text-more, of-run-more, stands-more, still-more, few-more, sofar-more}
+use Rattle.run_laws.proofs.Lists.{state-all, state-more}
+use Rattle.run_laws.proofs.More.{done-many, ran-more, no-rules, text-more, of-run-more, stands-more, still-more, few-more, sofar-more}
 use Rattle.run_laws.proofs.Opening.{ran-none}
 use Rattle.run_laws.proofs.Quiet.{ran-quiet, sofar-read}
-use Rattle.run_laws.proofs.Runs.{serves}
+use Rattle.run_laws.proofs.Runs.{needs_last, serves, serves_dry}
 use Rattle.run_laws.proofs.Silent.{ran-swept, sofar-swept}
 
 -- ---- how it goes on
@@ -93,6 +96,28 @@ pub ends_quiet : {B : Type 0} {old mid new : World B} {found c : Cat} {at : Stat
 ends_quiet {old = old} {mid = mid} {new = new} {found = found} {c = c} {at = at} {asked = asked} {end = end} plain so goes quiet first stops good =
     serves old new found at asked plain.rules (ran-quiet old mid new found c at asked plain.begin goes.order so goes.went goes.whole goes.names quiet) first
     (end-last asked so.none_end) end (inr stops) good
+
+module _ {B : Type 0} {old mid new : World B} {found c : Cat} {at : State} {asked : List Asked} {a : Asked} {request : Request}
+    (plain : BeginsPlainly old found)
+    (so : Sofar old mid found c at asked) (goes : CallsGoOn old.source.left mid new c) (noted : NotesLine a.line mid new)
+    (means : MeansRequest at a request) (step : RequestStep mid new at c (length asked + 1) request)
+    (first : BeginsWithRequests old.source.left (asked ++ a ∷ [])) where
+  -- the numbers of vault files ran out in a request, which was begun and may not be shown whole
+  pub ends_dry : (session : ℕ) (order : Order) → request ≡ Ok (session, order) → MakesFile order → (place : ℕ)
+      → HasRunOut found new.main.holds new.spare.holds place wear.Vaults → IsGoodIfNoneFailed old new (worn wear.Vaults place)
+      → Serves old new found (worn wear.Vaults place)
+  ends_dry session order is makes place out good =
+      let ran = ran-more old mid new found c at asked plain.begin goes.order so goes.went goes.whole goes.names a noted request means step in
+      let many = done-many old mid found at asked so.ran in
+      let ds = so.ran.handled.done in
+      let now : state_after (begins so.ran.undone.opened.grid []) (ds ++ step.d ∷ []) (length asked) ≡ at =
+      state-more (begins so.ran.undone.opened.grid []) ds step.d (length asked) (omega (arith, many))
+      ∙ ap (state_after (begins so.ran.undone.opened.grid []) ds) (sym many)
+      ∙ state-all so.ran.after in
+      let meant : MeansRequest at a (Ok (session, order)) = subst (MeansRequest at a) is means in
+      let all = asked ++ a ∷ [] in
+      serves_dry old new found step.d.state all plain.rules ran first (end-behind asked a so.none_end) place out
+      (needs_last old new found step.d.state all plain.rules ran first (end-behind asked a so.none_end) asked a at session order refl now meant makes) good
 
 module _ {B : Type 0} {old mid new : World B} {found c : Cat} {at : State} {asked : List Asked} {a : Asked} {request : Request} {end : RunEnd}
     (plain : BeginsPlainly old found)

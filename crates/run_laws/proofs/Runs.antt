@@ -1,6 +1,7 @@
 -- What was undone and the requests that were handled over a catalogue without rules are a run, of which all that is promised holds.
-use Rattle.std.proofs.Common.{◌≡◌, ◌⊎◌, inl, inr, ℕ, ◌-◌, List, [], ◌∷◌, ◌++◌, length, take, drop, slice_get, Option, Some, None, Ok, IsTrue, refl, sym, ap, ◌∙◌, subst, append_assoc, length-append, take-append-drop, arith}
+use Rattle.std.proofs.Common.{◌≡◌, ◌⊎◌, inl, inr, ℕ, ◌+◌, ◌-◌, List, [], ◌∷◌, ◌++◌, length, take, drop, slice_get, Option, Some, None, Ok, IsTrue, refl, sym, ap, ◌∙◌, subst, append_assoc, length-append, take-append-drop, arith}
 use Rattle.std.specs.Prelude.{◌≢◌, max}
+use Rattle.std.proofs.Math.Seq.{take-append_seam}
 use Rattle.std.proofs.lemmas.List.{length-take-le, take_all, nil_from_length}
 use Rattle.std.proofs.lemmas.Grind.{flat_map-append}
 use Rattle.std.proofs.lemmas.Option.{slice_get_within}
@@ -9,7 +10,7 @@ use Rattle.grid_outside.specs.declared.outside.Wear.TheVariants as wear
 use Rattle.grid_model.specs.Names.{Text}
 use Rattle.grid_model.specs.Rows.{Cat}
 use Rattle.grid_model.specs.Inputs.{Asked}
-use Rattle.grid_model.specs.Orders.{Order, works, closes}
+use Rattle.grid_model.specs.Orders.{Order, works, closes, executes}
 use Rattle.grid_model.specs.Operations.Table.{put, repl}
 use Rattle.grid_model.specs.Sessions.{State}
 use Rattle.grid_model.specs.Runs.{Marked, Request}
@@ -26,7 +27,7 @@ use Rattle.grid_headline.specs.Stops.{AreFirst, OneImage, IsBeforeRun, IsAtState
 use Rattle.grid_headline.specs.Files.{IsKnown, IsOfUnknown, DisksAreSettled, WereWhole}
 use Rattle.grid_headline.specs.Causes.{NoneFailed, AllTell}
 use Rattle.grid_headline.specs.Draws.{DrawsMarks, AreSomeOf, word_of, time_of, told_words}
-use Rattle.grid_headline.specs.Ends.{RunEnd, read_all, source_failed, too_long, worn, no_memory, disk_failed, sink_failed, SaysOfEnd, AnswersAll, Needs, MakesFiles, LeavesFewOrphans}
+use Rattle.grid_headline.specs.Ends.{RunEnd, read_all, source_failed, too_long, worn, no_memory, disk_failed, sink_failed, SaysOfEnd, AnswersAll, HasRunOut, IsExec, Needs, MakesFiles, LeavesFewOrphans}
 use Rattle.grid_headline.specs.Headline.{Shows, Completes, Serves, IsGoodEnd}
 use Rattle.run_laws.specs.Handled.{replies_of, WaitsBehind, OneOfRun, not_begun, in_run, in_deed_of_run}
 use Rattle.run_laws.specs.Handled as handled
@@ -48,15 +49,16 @@ of_unknown known stores (mark.Fault slot sent) told = tt
 of_unknown known stores (mark.Bad slot len found sent) told = told.1
 of_unknown known stores mark.Stop told = tt
 
-no_stop : (known : ℕ → Type 0) (stores : ℕ) (m : Mark) → IsToldOf known stores m → m ≢ Stop
+pub no_stop : (known : ℕ → Type 0) (stores : ℕ) (m : Mark) → IsToldOf known stores m → m ≢ Stop
 no_stop known stores m told e = subst (IsToldOf known stores) e told
 
-makes_files : {B : Type 0} {known : ℕ → Type 0} {found : Cat} {input : Text} (run : Run known found input) (old new : World B) (order : Order)
-    → MakesFile order → MakesFiles run old new order
-makes_files run old new (works (put p r mode body) count) makes = tt
-makes_files run old new (works (repl p r) count) makes = tt
-makes_files run old new closes makes = tt
-makes_files run old new other makes = absurd makes
+makes_files : {B : Type 0} {known : ℕ → Type 0} {found : Cat} {input : Text} (run : Run known found input) (old new : World B) (rules : Type 0)
+    (order : Order) → MakesFile order → MakesFiles run old new order ⊎ IsExec run old new order ⊎ rules
+makes_files run old new rules (works (put p r mode body) count) makes = inl tt
+makes_files run old new rules (works (repl p r) count) makes = inl tt
+makes_files run old new rules closes makes = inl tt
+makes_files run old new rules (executes call) makes = inr (inl tt)
+makes_files run old new rules other makes = absurd makes
 
 -- ---- the run
 
@@ -323,10 +325,33 @@ module _ {B : Type 0} (old new : World B) (found : Cat) (at : State) (asked : Li
           session = next.session;
           order = next.order;
           asks = subst (λ (x : State). MeansRequest x next.next (Ok (next.session, next.order))) (sym now) next.asks;
-          makes = inl (makes_files run old new next.order next.makes);
+          makes = makes_files run old new ((state_at run k).rules ≢ []) next.order next.makes;
         },
       )
   needs wear.Log none = tt
+
+  -- the last request that was begun, from this state, may have made files
+  pub needs_last : (front : List Asked) (a : Asked) (x : State) (session : ℕ) (order : Order) → asked ≡ front ++ a ∷ [] → state_at run (length front) ≡ x
+      → MeansRequest x a (Ok (session, order)) → MakesFile order → Needs run old new wear.Vaults
+  needs_last front a x session order is now asks makes =
+      let many = begun-many old new found at asked ran in
+      let k = length front in
+      let one_more : length asked ≡ length front + 1 = ap length is ∙ length-append front (a ∷ []) in
+      let begun_are : asked_of ran.handled.begun ≡ front ++ a ∷ [] = ran.asked_are ∙ is in
+      let before : take k (asked_of ran.handled.begun) ≡ front = ap (take k) begun_are ∙ take-append_seam front (a ∷ []) in
+      inl (
+        k,
+        record {
+          at_least = omega (arith, many, one_more);
+          at_most = omega (arith, many, one_more);
+          asked = a;
+          first = subst (λ (l : List Asked). BeginsWithRequests old.source.left (l ++ a ∷ [])) (sym before) (subst (BeginsWithRequests old.source.left) is first);
+          session = session;
+          order = order;
+          asks = subst (λ (y : State). MeansRequest y a (Ok (session, order))) (sym now) asks;
+          makes = makes_files run old new ((state_at run k).rules ≢ []) order makes;
+        },
+      )
 
   reads : (end : RunEnd) → ReadsSo asked old.source new.source end → ReadsSo (asked_of ran.handled.begun) old.source new.source end
   reads end so = subst (λ (l : List Asked). ReadsSo l old.source new.source end) (sym ran.asked_are) so
@@ -355,19 +380,28 @@ module _ {B : Type 0} (old new : World B) (found : Cat) (at : State) (asked : Li
   leaves_few end (inl so) e = λ ends none. record { cat = so.0.cat; stands = so.0.stands new.spare.holds; holds = so.0.few ends }
   leaves_few end (inr so) e = absurd (subst (StopsSo old new found at asked) e so)
 
-  -- all that is promised of a run
-  pub serves : (end : RunEnd) → (IsAnswered old new found at u ran.handled × ReadsSo asked old.source new.source end) ⊎ StopsSo old new found at asked end
-      → IsGoodIfNoneFailed old new end → Serves old new found end
-  serves end so good = record {
+  -- all that is promised of a run whose end says this
+  serves_by : (end : RunEnd) → SaysOfEnd run old new end → (end ≡ read_all → LeavesFewOrphans run old new) → IsGoodIfNoneFailed old new end
+      → Serves old new found end
+  serves_by end says_so few good = record {
     run = run;
     shown = shows;
-    says = says end so;
+    says = says_so;
     unharmed = all-map (IsToldOf (IsKnown old found) (length old.stores)) (IsOfUnknown (IsKnown old found) (length old.stores)) (of_unknown (IsKnown old found) (length old.stores)) (marks_of ran.handled.begun)
         (all-back (IsToldOf (IsKnown old found) (length old.stores)) u.report (marks_of ran.handled.begun) ran.told_of);
     images = λ tells settled t i late leaves. image i (ran.images tells settled t i.main i.sink late leaves.disks.of_main leaves.of_sink);
     whole = ran.whole;
     named = ran.named;
-    orphans = leaves_few end so;
+    orphans = few;
     caused = ran.caused;
     completes = λ tells none tell settled whole fits. completes tells end none tell settled whole (good none fits);
   }
+
+  pub serves : (end : RunEnd) → (IsAnswered old new found at u ran.handled × ReadsSo asked old.source new.source end) ⊎ StopsSo old new found at asked end
+      → IsGoodIfNoneFailed old new end → Serves old new found end
+  serves end so good = serves_by end (says end so) (leaves_few end so) good
+
+  -- the numbers of vault files ran out
+  pub serves_dry : (place : ℕ) → HasRunOut found new.main.holds new.spare.holds place wear.Vaults → Needs run old new wear.Vaults
+      → IsGoodIfNoneFailed old new (worn wear.Vaults place) → Serves old new found (worn wear.Vaults place)
+  serves_dry place out needs good = serves_by (worn wear.Vaults place) (out, needs) (λ e. absurd (cc e)) good

@@ -7,7 +7,7 @@ use Rattle.grid_model.specs.Names.{Text}
 use Rattle.grid_model.specs.Rows.{Cat}
 use Rattle.grid_model.specs.RowGrids.{grid_of}
 use Rattle.grid_model.specs.Inputs.{Asked}
-use Rattle.grid_model.specs.Orders.{Order, works, closes}
+use Rattle.grid_model.specs.Orders.{Order, works, closes, executes}
 use Rattle.grid_model.specs.Operations.Table.{put, repl}
 use Rattle.grid_model.specs.Sessions.{State}
 use Rattle.grid_journal.specs.Stands.{StandsFor}
@@ -43,11 +43,12 @@ pub record IsAnswered {B : Type 0} (old new : World B) (found : Cat) (at : State
 
 -- ---- something ran out or failed
 
--- what makes a file
+-- what may make a file
 abbrev pub MakesFile : Order → Type 0
 MakesFile (works (put p r mode body) count) = Unit {0}
 MakesFile (works (repl p r) count) = Unit {0}
 MakesFile closes = Unit {0}
+MakesFile (executes call) = Unit {0}
 MakesFile other = ⊥
 
 -- the request behind those that were handled makes a file

@@ -12,7 +12,7 @@ use Rattle.grid_model.specs.Meanings.{Waiting, gives, waits}
 use Rattle.grid_model.specs.Sessions.{Session, State}
 use Rattle.grid_model.specs.Working.{Done}
 use Rattle.grid_model.specs.ReplyTexts.{ArePieces, reply_text}
-use Rattle.grid_model.specs.Orders.{Order, sweeps}
+use Rattle.grid_model.specs.Orders.{Order, executes, sweeps}
 use Rattle.grid_model.specs.Obeying.{command}
 use Rattle.grid_model.specs.Runs.{Request, does}
 use Rattle.grid_model.specs.Completing.{AreClean, EndsByRows}
@@ -176,7 +176,7 @@ pub record RequestStep {B : Type 0} (old new : World B) (at : State) (before : C
   -- those that it came to; where it was cut short the others are what it would have come to
   pub taken : List Mark
   pub first : AreFirst taken marks
-  pub told_of : AllByRecursion (IsToldOf (IsKnown old before) (length old.stores)) marks
+  pub told_of : IsTrue old.main.tells → AllByRecursion (IsToldOf (IsKnown old before) (length old.stores)) marks
   pub by_rows : AreClean marks → EndsByRows d.reply.end
   pub pieces : List Text
   pub pieces_are : ArePieces (IsKnown old before) n d.sent 0 d.reply.marks pieces
@@ -191,6 +191,11 @@ abbrev pub RemovesNoFile : Request → Type 0
 RemovesNoFile (Ok (session, sweeps)) = ⊥
 RemovesNoFile other = Unit {0}
 
+-- the request calls no rules
+abbrev pub CallsNoRules : Request → Type 0
+CallsNoRules (Ok (session, executes call)) = ⊥
+CallsNoRules other = Unit {0}
+
 -- It was handled whole: this is the catalogue behind it, and this the state.
 pub record IsHandledWhole {B : Type 0} (old new : World B) (at : State) (before : Cat) (n : ℕ) (request : Request)
     (step : RequestStep old new at before n request)
@@ -201,8 +206,8 @@ pub record IsHandledWhole {B : Type 0} (old new : World B) (at : State) (before 
   pub follows : ComesAfter before n step.d after
   pub stands : IsTrue old.main.tells → StandsFor new.main.holds after
   pub text : IsTrue old.sink.tells → new.sink.holds ≡ old.sink.holds ++ reply_text n step.d.reply step.pieces
-  -- where it told no mark, left the grid as it was and was no sweep, main is as it was
-  pub still : RemovesNoFile request → step.marks ≡ [] → step.d.state.grid ≡ grid_of before → IsTrue old.main.tells → new.main.holds ≡ old.main.holds
+  -- where it told no mark, left the grid as it was, was no sweep and called no rules, main is as it was
+  pub still : RemovesNoFile request → CallsNoRules request → step.marks ≡ [] → step.d.state.grid ≡ grid_of before → IsTrue old.main.tells → new.main.holds ≡ old.main.holds
   pub main_settled : IsTrue old.main.tells → IsSettled old.main → IsSettled new.main
   pub sink_settled : IsTrue old.sink.tells → IsSettled old.sink → IsSettled new.sink
 
