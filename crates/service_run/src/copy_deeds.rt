@@ -62,7 +62,7 @@ pub(crate) fn copy_marked<D: Disk, K: Sink, A: Ambient, P: Plugin>(
     requires plan { IsCopyPlan store.old.cat store.old.cat (vec_len outside.old.stores) plan from.now }
     requires few { length plan.files ≤ 2 ^ 16 }
     requires source { from.now.slot < vec_len outside.old.stores }
-    requires ready { AreReady D.disk P.plugin K.sink (2 ^ 72) (record { outside = outside.old; sink = sink.old }) }
+    requires ready { AreReady D.disk P.plugin K.sink (2 ^ 65) (record { outside = outside.old; sink = sink.old }) }
     ensures marked { (kept : Cat) → IsHeld kept (D.disk outside.old.main) store.old →
         (p : IsCopyPlan store.old.cat store.old.cat (vec_len outside.old.stores) plan from.now) →
         IsCopiedMarked D.disk P.plugin K.sink p command.old.untold (record { outside = outside.old; sink = sink.old })
@@ -75,7 +75,7 @@ pub(crate) fn copy_marked<D: Disk, K: Sink, A: Ambient, P: Plugin>(
     ensures ambient { outside.new.ambient ≡ outside.old.ambient }
     // What has run out is not the numbers of vault files.
     ensures left { (place : ℕ) → IsErrOf result (Ending.Worn Wear.Vaults place) → ⊥ }
-    ensures drawn { outside.new.moments ≤ outside.old.moments + 2 ^ 72 }
+    ensures drawn { outside.new.moments ≤ outside.old.moments + 2 ^ 65 }
 {
     few_copies(&plan, from);
     let copied = match copy_noted(alloc, store, outside, sink, command, plan, from) {
@@ -131,7 +131,7 @@ fn copied_ran(from: &OldFile, copied: &Copied) -> Result<(), Failure>
 // So many files have few parts. It does nothing.
 fn few_copies(plan: &Plan, from: &OldFile)
     requires { length plan.now.files ≤ 2 ^ 16 }
-    ensures { moments_of plan.now.files from.now.size ≤ 2 ^ 72 }
+    ensures { moments_of plan.now.files from.now.size ≤ 2 ^ 65 }
 {
     let _size = from.size;
     let _files = &plan.files;

@@ -30,7 +30,7 @@ use std::alloc::{AllocError, Global};
 /// which the next commit keeps. Where a store fails, or the file is not what is recorded, the call is refused and the grid stays as it is.
 ///
 /// `Worn` with `Vaults` comes before anything outside is asked, where the next number of a vault file is past 2^64 - 2^33. Draws at most
-/// 2^72 moments.
+/// 2^65 moments.
 pub fn copy_object<D: Disk, K: Sink, A: Ambient, P: Plugin>(
     alloc: Global,
     store: &mut Store,
@@ -48,7 +48,7 @@ pub fn copy_object<D: Disk, K: Sink, A: Ambient, P: Plugin>(
     requires may { (from : PathOf) × MayCopy store.old.cat (user_name store.old.cat command.old.user) from to.now resource.now file.now }
     requires spelled { IsTrue (can_be_kept (Delta.Pending (noted_in command.old call.now undo.now))) }
     requires slots { store.old.cat.stores ≡ vec_len outside.old.stores }
-    requires ready { AreReady D.disk P.plugin K.sink (2 ^ 72) (record { outside = outside.old; sink = sink.old }) }
+    requires ready { AreReady D.disk P.plugin K.sink (2 ^ 65) (record { outside = outside.old; sink = sink.old }) }
     ensures step { (source : SourceState) (kept : Cat) (from : PathOf) (d : Deed) → IsHeld kept (D.disk outside.old.main) store.old →
         MayCopy store.old.cat (user_name store.old.cat command.old.user) from to.now resource.now file.now →
         copy_row (grid_of store.old.cat) (user_name store.old.cat command.old.user) from to.now resource.now ≡ Ok (deed d) →
@@ -58,7 +58,7 @@ pub fn copy_object<D: Disk, K: Sink, A: Ambient, P: Plugin>(
         (record { outside = outside.old; sink = sink.old }) (record { outside = outside.new; sink = sink.new }) }
     // Where the numbers of vault files have run out no device was asked for anything.
     ensures untouched { (place : ℕ) → IsErrOf result (Ending.Worn Wear.Vaults place) → (outside.new ≡ outside.old) × (sink.new ≡ sink.old) }
-    ensures drawn { outside.new.moments ≤ outside.old.moments + 2 ^ 72 }
+    ensures drawn { outside.new.moments ≤ outside.old.moments + 2 ^ 65 }
 {
     match spent_vaults(store) {
         None => {}

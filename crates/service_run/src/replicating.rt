@@ -31,7 +31,7 @@ use std::alloc::{AllocError, Global};
 /// stays as it is.
 ///
 /// `Worn` with `Vaults` comes before anything outside is asked, where the next number of a vault file is past 2^64 - 2^33. Draws at most
-/// 2^72 moments.
+/// 2^65 moments.
 pub fn repl<D: Disk, K: Sink, A: Ambient, P: Plugin>(
     alloc: Global,
     store: &mut Store,
@@ -49,7 +49,7 @@ pub fn repl<D: Disk, K: Sink, A: Ambient, P: Plugin>(
     requires may { MayRepl store.old.cat (user_name store.old.cat command.old.user) path.now resource.now from.now }
     requires spelled { IsTrue (can_be_kept (Delta.Pending (noted_in command.old call.now undo.now))) }
     requires slots { store.old.cat.stores ≡ vec_len outside.old.stores }
-    requires ready { AreReady D.disk P.plugin K.sink (2 ^ 72) (record { outside = outside.old; sink = sink.old }) }
+    requires ready { AreReady D.disk P.plugin K.sink (2 ^ 65) (record { outside = outside.old; sink = sink.old }) }
     ensures step { (source : SourceState) (kept : Cat) (d : Deed) → IsHeld kept (D.disk outside.old.main) store.old →
         repl_row (grid_of store.old.cat) (user_name store.old.cat command.old.user) path.now resource.now ≡ Ok (deed d) →
         IsStep (around D.disk A.ambient P.plugin outside.old (K.sink sink.old) source) (around D.disk A.ambient P.plugin outside.new (K.sink sink.new) source)
@@ -58,7 +58,7 @@ pub fn repl<D: Disk, K: Sink, A: Ambient, P: Plugin>(
         (record { outside = outside.old; sink = sink.old }) (record { outside = outside.new; sink = sink.new }) }
     // Where the numbers of vault files have run out no device was asked for anything.
     ensures untouched { (place : ℕ) → IsErrOf result (Ending.Worn Wear.Vaults place) → (outside.new ≡ outside.old) × (sink.new ≡ sink.old) }
-    ensures drawn { outside.new.moments ≤ outside.old.moments + 2 ^ 72 }
+    ensures drawn { outside.new.moments ≤ outside.old.moments + 2 ^ 65 }
 {
     match spent_vaults(store) {
         None => {}

@@ -30,7 +30,7 @@ use std::alloc::Global;
 /// still to tell is told then.
 ///
 /// The answer is how the call came out. An error ends the command: `Memory` may come at any time, `Disk` and `Sink` where one of them
-/// failed, and `Worn` where the numbers of vault files or the room behind the log have run out. Draws at most 2^72 moments.
+/// failed, and `Worn` where the numbers of vault files or the room behind the log have run out. Draws at most 2^65 moments.
 pub fn run_call<D: Disk, K: Sink, A: Ambient, P: Plugin>(
     alloc: Global,
     store: &mut Store,
@@ -45,13 +45,13 @@ pub fn run_call<D: Disk, K: Sink, A: Ambient, P: Plugin>(
     requires words { AddsWords (service call.now) }
     requires spelled { IsTrue (can_be_kept (Delta.Pending (noted_in command.old call.now undo.now))) }
     requires slots { store.old.cat.stores ≡ vec_len outside.old.stores }
-    requires ready { AreReady D.disk P.plugin K.sink (2 ^ 72) (record { outside = outside.old; sink = sink.old }) }
+    requires ready { AreReady D.disk P.plugin K.sink (2 ^ 65) (record { outside = outside.old; sink = sink.old }) }
     ensures step { (source : SourceState) (kept : Cat) → IsHeld kept (D.disk outside.old.main) store.old →
         IsStep (around D.disk A.ambient P.plugin outside.old (K.sink sink.old) source) (around D.disk A.ambient P.plugin outside.new (K.sink sink.new) source)
         kept store.old command.old call.now undo.now command.new store.new (do_call (user_name store.old.cat command.old.user) call.now) result }
     ensures passes { CallsPass D.disk P.plugin K.sink (IsErrOf result Ending.Disk) (IsErrOf result Ending.Sink)
         (record { outside = outside.old; sink = sink.old }) (record { outside = outside.new; sink = sink.new }) }
-    ensures drawn { outside.new.moments ≤ outside.old.moments + 2 ^ 72 }
+    ensures drawn { outside.new.moments ≤ outside.old.moments + 2 ^ 65 }
 {
     store.is_spelled();
     match plan_call(alloc, store.tables(), command.user, call) {
