@@ -1,0 +1,13 @@
+pub mod Beginnings
+pub mod ByRows
+pub mod Chains
+pub mod Endings
+pub mod Frames
+pub mod Halting
+pub mod OfDeeds
+pub mod OfGrid
+pub mod OfOperations
+pub mod OfRows
+pub mod Recoveries
+pub mod Such
+pub mod Taking

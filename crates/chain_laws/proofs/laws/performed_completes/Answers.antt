@@ -1,0 +1,5 @@
+use Rattle.chain_laws.proofs.laws.performed_completes.Goals as goal
+use Rattle.chain_laws.proofs.Endings as endings
+
+pub returns : goal.returns
+returns c = endings.performed_completes

@@ -1,0 +1,4 @@
+pub mod ByRows
+pub mod Ending
+pub mod Stopped
+pub mod Taken

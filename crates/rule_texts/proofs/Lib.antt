@@ -1,0 +1,2 @@
+mod FoundTokens
+pub mod EachText
