@@ -1,6 +1,5 @@
 -- Nothing was done but that the first lines of a report were told, up to the added `Stop`, or some of them.
 use Rattle.std.proofs.Common.{◌≡◌, ℕ, ◌+◌, ◌<◌, ◌≤◌, List, [], ◌∷◌, ◌++◌, length, Option, Some, None, Ok, IsTrue, refl, sym, ap, ◌∙◌, subst, length-append, arith}
-use Rattle.std.specs.List.{AllByRecursion}
 use Rattle.grid_outside.specs.Device.{Between, IsSettled}
 use Rattle.grid_outside.specs.Sink.{AddsPart, SinkState}
 use Rattle.grid_outside.proofs.Spans.{same_place, since_settled, stays}
@@ -13,8 +12,10 @@ use Rattle.grid_deed.specs.Held.{IsHeld}
 use Rattle.grid_deed.specs.Safe.{AreWhole}
 use Rattle.grid_headline.specs.Numbers.{KeepsNumbers}
 use Rattle.chain_run.specs.Places.{Place}
-use Rattle.undo_run.proofs.Told.{adds_more}
-use Rattle.undo_run.proofs.Completing.{AreRan, completes}
+use Rattle.call_laws.specs.Amid.{AreRan}
+use Rattle.call_laws.proofs.Ran.{ran_caused, ran_told}
+use Rattle.call_laws.proofs.Told.{adds_more}
+use Rattle.undo_run.proofs.Completing.{completes}
 use Rattle.run_open.specs.Preparing.{Prepared}
 use Rattle.grid_model.specs.Rows.{Cat}
 use Rattle.grid_model.specs.declared.deltas.Pending.{Pending}
@@ -22,7 +23,6 @@ use Rattle.grid_model.specs.declared.marks.Mark.{Mark}
 use Rattle.grid_model.specs.declared.marks.Mark.TheVariants.{Stop}
 use Rattle.grid_journal.specs.Stands.{Stands, stands as made_of, StandsFor}
 use Rattle.grid_deed.proofs.Frames.{goes_between, goes_nowhere}
-use Rattle.grid_headline.specs.Causes.{AreCaused, faults_told}
 use Rattle.grid_headline.specs.Files.{AllAreWhole, AllStayWhole, DisksAreSettled, IsKnown, ReplicasStayNamed, WereWhole, KeepsNamed, KeepsReplicas}
 use Rattle.grid_headline.specs.Ends.{HasRecovery}
 use Rattle.grid_headline.specs.Headline.{BeginsOn}
@@ -32,37 +32,16 @@ use Rattle.grid_headline.specs.Worlds.{World}
 use Rattle.grid_headline.proofs.PutStops.{the_catalogue}
 use Rattle.run_laws.specs.Handled.{IsUnbegun}
 use Rattle.run_laws.specs.Opening.{OneOfOpening, Opens, not_begun}
-use Rattle.run_laws.specs.Steps.{IsToldOf}
 use Rattle.run_laws.specs.Undone.{Undone, report_begun, whole_report}
 use Rattle.run_laws.specs.Went.{AreInOrder, StoreGoes, Went}
-use Rattle.run_laws.proofs.Causes.{caused-none}
 use Rattle.run_laws.proofs.Draws.{gave-none}
+use Rattle.run_laws.proofs.Goings.{faults-rise}
 use Rattle.run_open.proofs.Parts.{adds-as, adds-none}
 use Rattle.run_open.proofs.ToldMarks.{front-split, none-told, recovery_lines, told-before}
 
 -- what disks stand for does not hang on spare
 pub any_spare : {main spare : Text} {c : Cat} → Stands main spare (Ok c) → StandsFor main c
 any_spare (made_of records c head log replays zone) spare = made_of records c head log replays zone
-
--- ---- marks of deeds that ran and found nothing bad
-
-pub no-fault : (slot : ℕ) (marks : List Mark) → AreRan marks → faults_told slot marks ≡ 0
-no-fault slot [] none = refl
-no-fault slot (m ∷ marks) none =
-    let F : Mark → Type 0 = λ k. faults_told slot (k ∷ marks) ≡ 0 in
-    subst F (sym none.0) (let rest = no-fault slot marks none.1 in omega (arith, rest))
-
-pub told-of-none : (known : ℕ → Type 0) (stores : ℕ) (marks : List Mark) → AreRan marks → AllByRecursion (IsToldOf known stores) marks
-told-of-none known stores [] none = tt
-told-of-none known stores (m ∷ marks) none = (subst (IsToldOf known stores) (sym none.0) tt, told-of-none known stores marks none.1)
-
-pub caused-no-more : {B : Type 0} (old new : World B) (marks : List Mark) → Went old new → AreRan marks → AreCaused old new marks
-caused-no-more old new marks went none =
-    let nothing = caused-none old new went in
-    record {
-      counted = λ slot small. (let no = no-fault slot marks none in let c = nothing.counted slot small in omega (arith, no, c));
-      there = λ slot some. (let no = no-fault slot marks none in absurd (omega (arith, no, some)));
-    }
 
 -- ---- what was pending is so still
 
@@ -173,9 +152,9 @@ module _ {B : Type 0} (old : World B) (found : Cat) (begin : BeginsOn old found)
         undone = u;
         taken = [];
         first = record { rest = u.report; are = refl };
-        told_of = told-of-none (IsKnown old found) (length old.stores) u.report clean;
+        told_of = ran_told (IsKnown old found) (length old.stores) u.report clean;
         went = went-told;
-        caused = caused-no-more old told_world u.report went-told clean;
+        caused = ran_caused old told_world u.report (faults-rise old told_world went-told) clean;
         gave = gave-none old.ambient;
         shown = λ tells. (let part = told.holds tells in record {
           part = begun-part found u old.sink.holds sink.holds (front-part found u old.sink.holds sink.holds part);

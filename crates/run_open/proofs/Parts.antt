@@ -3,7 +3,7 @@ use Rattle.std.proofs.Common.{◌≡◌, ℕ, [], ◌++◌, length, take, refl, 
 use Rattle.std.proofs.lemmas.List.{append-nil, append_cancel_left}
 use Rattle.grid_outside.specs.Sink.{AddsPart}
 use Rattle.grid_model.specs.Names.{Text}
-use Rattle.undo_run.proofs.Told.{adds_behind}
+use Rattle.call_laws.proofs.Told.{adds_behind}
 
 -- none of a text
 abbrev pub adds-none : (text old : Text) → AddsPart text old old

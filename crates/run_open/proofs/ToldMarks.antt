@@ -9,7 +9,7 @@ use Rattle.grid_headline.specs.Served.{joined_texts, report_front, report_told}
 use Rattle.grid_headline.specs.Stops.{AreFirst}
 use Rattle.service_run.specs.Steps.{lines_of}
 use Rattle.undo_run.specs.Undoing.{told_before}
-use Rattle.undo_run.proofs.Told.{front_joined, told_first}
+use Rattle.undo_run.proofs.Reports.{front_joined, told_first}
 
 -- the lines of these marks of recoveries, where something was pending
 abbrev pub recovery_lines : Option Pending → List Mark → Text

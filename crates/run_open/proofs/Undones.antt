@@ -33,7 +33,7 @@ use Rattle.service_run.specs.Steps.{IsKnownBy, lines_of}
 use Rattle.service_run.specs.declared.command.Command.{Command}
 use Rattle.service_run.specs.declared.ending.Ending.{Ending}
 use Rattle.service_run.specs.declared.ending.Ending.TheVariants as ending
-use Rattle.undo_run.proofs.Told.{adds_behind, adds_more, lines-append}
+use Rattle.call_laws.proofs.Told.{adds_behind, adds_more, lines-append}
 use Rattle.undo_run.specs.Undoing.{Undoes, IsOut}
 use Rattle.run_open.specs.Errors.{error_by}
 use Rattle.run_open.specs.Preparing.{OpenStops, Prepared}

@@ -28,6 +28,7 @@ use Rattle.chain_core.specs.Answers.{failure_in, noted}
 use Rattle.chain_core.specs.Moves.{was_stopped}
 use Rattle.chain_core.proofs.Undoing.{left_over, undone_one}
 use Rattle.chain_run.specs.Places.{Place, course_at, Performs, RunsCall}
+use Rattle.call_laws.specs.Amid.{AreRan}
 use Rattle.undo_run.proofs.Flags.{same_flags, same_place}
 
 -- ---- one recovery less
@@ -159,10 +160,6 @@ performed cs c r p q run ms taken none later b f =
     on = unstopped p.user c (course_at p (ms ++ later) b f) (course_at q later b did.0) (failure_in r) did.1 ms refl none
 
 -- ---- marks with which all end
-
--- each says that the deed ran, and no more
-abbrev pub AreRan : List Mark → Type 0
-AreRan ms = AllByRecursion (λ m. m ≡ Ran 0 0 []) ms
 
 append_ran : (xs ys : List Mark) → AreRan xs → AreRan ys → AreRan (xs ++ ys)
 append_ran [] ys h k = k

@@ -1,14 +1,10 @@
-pub mod Amid
 pub mod Completing
 pub mod Flags
-pub mod Joined
-pub mod Keepable
 pub mod Loop
 pub mod Noting
 pub mod OneImage
+pub mod Reports
 pub mod Results
 pub mod Rounds
-pub mod Rows
-pub mod Safely
 pub mod Starting
-pub mod Told
+pub mod Undoings

@@ -1,8 +1,9 @@
 -- What the loop over the recoveries keeps.
 use Rattle.std.proofs.Common.{◌≡◌, ℕ, ◌+◌, ◌-◌, ◌^◌, ◌<◌, ◌≤◌, false, List, [], ◌∷◌, ◌++◌, Option, Some, Result, Ok}
-use Rattle.std.proofs.Common.{Err, IsErrOf, IsTrue, length, take, slice_get, refl, sym, ap, ◌∙◌, subst, length-append, arith}
-use Rattle.std.specs.Prelude.{⊤}
+use Rattle.std.proofs.Common.{Err, IsErrOf, IsTrue, true, length, take, slice_get, refl, sym, ap, ◌∙◌, subst, length-append, arith}
+use Rattle.std.specs.Prelude.{⊤, nat_lt}
 use Rattle.std.specs.List.{list_all}
+use Rattle.std.proofs.lemmas.Bool.{and_parts}
 use Rattle.std.proofs.lemmas.List.{take_all}
 use Rattle.std.proofs.lemmas.Option.{slice_get_within}
 use Rattle.grid_outside.specs.Ambient.{AmbientState}
@@ -11,29 +12,37 @@ use Rattle.grid_outside.specs.Files.{StoreState}
 use Rattle.grid_outside.specs.Sink.{SinkState}
 use Rattle.grid_outside.specs.Source.{SourceState}
 use Rattle.grid_model.specs.Applying.{is_user}
-use Rattle.grid_model.specs.Deltas.{all_fit, mark as mark_parts}
+use Rattle.grid_model.specs.Deltas.{all_fit, call as call_parts, mark as mark_parts}
+use Rattle.grid_model.specs.Doing.{do_call}
 use Rattle.grid_model.specs.Rows.{Cat}
+use Rattle.grid_model.specs.RowGrids.{user_name}
 use Rattle.grid_model.specs.declared.calls.Call.{Call}
 use Rattle.grid_model.specs.declared.deltas.Delta.TheVariants as delta
 use Rattle.grid_model.specs.declared.deltas.Pending.{Pending}
 use Rattle.grid_model.specs.declared.marks.Mark.{Mark}
+use Rattle.grid_model.specs.declared.marks.Mark.TheVariants.{Stop}
 use Rattle.grid_model.specs.declared.refusal.Failure.{Failure}
 use Rattle.grid_journal.specs.Journal.{IsSpelledPending, Journal, can_be_kept}
 use Rattle.grid_deed.specs.Held.{IsHeld}
+use Rattle.grid_headline.specs.Worlds.{World}
 use Rattle.run_laws.specs.Passes.{AreReady, CallsPass, Seen}
 use Rattle.chain_core.specs.Answers.{failure_in}
+use Rattle.service_run.specs.Steps.{IsKnownBy, IsStep}
 use Rattle.service_run.specs.declared.command.Command.{Command}
 use Rattle.service_run.specs.declared.ending.Ending.{Ending}
 use Rattle.service_run.specs.declared.ending.Ending.TheVariants as ending
 use Rattle.service_run.proofs.SeenFiles.{take_next}
-use Rattle.undo_run.specs.OneRecovery.{AreKeepable, IsCut, IsShown, RunsOne, cut, passed_over, ran_out}
+use Rattle.call_laws.specs.Amid.{world}
+use Rattle.call_laws.specs.OneCall.{AreKeepable, IsCut, IsShown, RunsOne, cut, passed_over, ran_out}
+use Rattle.call_laws.proofs.Joined.{passes_as, passes_well}
+use Rattle.call_laws.proofs.Keepable.{back_of, front_of, joined_of, keepable_next, parts_of}
+use Rattle.call_laws.proofs.Rounds.{amid_next}
 use Rattle.undo_run.specs.Undoing.{Undoes, stopped_command}
-use Rattle.undo_run.proofs.Amid.{IsAmid, world}
-use Rattle.undo_run.proofs.Joined.{passes_well}
-use Rattle.undo_run.proofs.Keepable.{keepable_begun, keepable_next}
+use Rattle.undo_run.proofs.Noting.{may_call}
 use Rattle.undo_run.proofs.Results.{undoes_amid, undoes_done, undoes_failed}
-use Rattle.undo_run.proofs.Rounds.{amid_next}
-use Rattle.undo_run.proofs.Starting.{amid_begun}
+use Rattle.undo_run.proofs.Rounds.{goes_next}
+use Rattle.undo_run.proofs.Starting.{begun}
+use Rattle.undo_run.proofs.Undoings.{AreAmid, undoings}
 
 -- ---- lists
 
@@ -56,7 +65,17 @@ none_left (x ∷ xs) ys same few = absurd (omega (arith, ap length same, few))
 pub no_source : SourceState
 no_source = record { faults = 0; tells = false; left = [] }
 
--- ---- at the beginning
+-- ---- what may be kept
+
+-- what is noted of the command that was stopped
+keepable_begun : (p : Pending) → IsTrue (can_be_kept (delta.Pending p)) → AreKeepable (stopped_command p) p.undo
+keepable_begun p kept =
+    let x = parts_of p kept in
+    record {
+      marks = joined_of (λ m. all_fit (mark_parts m)) p.marks (Stop ∷ []) (and_parts (nat_lt (length p.marks) (2 ^ 64)) _ x.marks).1 refl;
+      passed = (and_parts (nat_lt (length p.passed) (2 ^ 64)) _ x.passed).1;
+      calls = (and_parts (nat_lt (length p.undo) (2 ^ 64)) _ x.undo).1;
+    }
 
 pub keepable_start : (o : Option Pending) (p : Pending) (y : Command) (undo : List Call) → o ≡ Some p → y ≡ stopped_command p → undo ≡ p.undo
     → IsSpelledPending o → AreKeepable y undo
@@ -65,118 +84,157 @@ keepable_start o p y undo has command list spelled =
     let K : Command → Type 0 = λ x. AreKeepable x undo in
     subst K (sym command) (subst (AreKeepable (stopped_command p)) (sym list) (keepable_begun p kept))
 
--- ---- one recovery further
+-- the last recovery, and those before it
+pub last_fits : (x : Command) (left cs : List Call) (c : Call) → left ≡ cs ++ c ∷ [] → AreKeepable x left → IsTrue (all_fit (call_parts c))
+last_fits x left cs c split k =
+    let all = ap (list_all (λ d. all_fit (call_parts d))) (sym split) ∙ k.calls in
+    (and_parts (all_fit (call_parts c)) true (back_of (λ d. all_fit (call_parts d)) cs (c ∷ []) all)).0
 
+others_fit : (x : Command) (left cs : List Call) (c : Call) → left ≡ cs ++ c ∷ [] → AreKeepable x left → IsTrue (list_all (λ d. all_fit (call_parts d)) cs)
+others_fit x left cs c split k =
+    front_of (λ d. all_fit (call_parts d)) cs (c ∷ []) (ap (list_all (λ d. all_fit (call_parts d))) (sym split) ∙ k.calls)
+
+-- one recovery further
 pub keepable_after : (x y : Command) (left cs calls : List Call) (c : Call) → left ≡ cs ++ c ∷ [] → calls ≡ cs → AreKeepable x left
     → (z : Command) (ran : Result ⊤ Failure) (marks : List Mark)
     → y ≡ passed_over z c (failure_in ran) → z.marks ≡ x.marks ++ marks
     → IsTrue (list_all (λ m. all_fit (mark_parts m)) marks) → z.passed ≡ x.passed → IsShown (failure_in ran) → AreKeepable y calls
 keepable_after x y left cs calls c split same k z ran marks over marks_are fit passed shown =
-    let next = keepable_next x z cs c marks (failure_in ran) (subst (AreKeepable x) split k) marks_are fit passed shown in
+    let next = keepable_next x z left cs c marks (failure_in ran) k (others_fit x left cs c split k) (last_fits x left cs c split k) marks_are fit passed shown
+    in
     let K : Command → Type 0 = λ w. AreKeepable w calls in
     subst K (sym over) (subst (AreKeepable (passed_over z c (failure_in ran))) (sym same) next)
+
+-- ---- how far they have come
+
+-- ---- answers
+
+-- one error is another, whatever the answer would have been
+same_error : {A B : Type 0} (e x : Ending) → IsErrOf {T = A} {E = Ending} (Err e) x → IsErrOf {T = B} {E = Ending} (Err e) x
+same_error e x is =
+    let same : e ≡ x = cc in
+    ap Err same
+
+-- calls that ended so, whatever the answer would have been
+pub passes_err : {X Y D A P K : Type 0} (disk : D → DiskState) (plugin : P → StoreState) (sink : K → SinkState) (e : Ending) (a b : Seen D A P K)
+    → CallsPass disk plugin sink (IsErrOf {T = X} {E = Ending} (Err e) ending.Disk) (IsErrOf {T = X} {E = Ending} (Err e) ending.Sink) a b
+    → CallsPass disk plugin sink (IsErrOf {T = Y} {E = Ending} (Err e) ending.Disk) (IsErrOf {T = Y} {E = Ending} (Err e) ending.Sink) a b
+passes_err disk plugin sink e a b =
+    passes_as disk plugin sink _ _ _ _ a b (same_error e ending.Disk) (same_error e ending.Disk) (same_error e ending.Sink)
 
 module _ {D A P K : Type 0} (disk : D → DiskState) (ambient : A → AmbientState) (plugin : P → StoreState) (sink : K → SinkState) (source : SourceState)
     (from : Seen D A P K) where
   pub amid_start : (rows : Journal) (p q : Pending) (y : Command) (undo : List Call) (more : ℕ) → rows.cat.pending ≡ Some p → rows.cat.pending ≡ Some q
-      → y ≡ stopped_command q → undo ≡ q.undo
-      → IsHeld rows.cat (disk from.outside.main) rows → AreReady disk plugin sink more from → IsAmid disk ambient plugin sink source from rows.cat p from
-      undo y rows []
+      → y ≡ stopped_command q → undo ≡ q.undo → IsHeld rows.cat (disk from.outside.main) rows → AreReady disk plugin sink more from
+      → AreAmid disk ambient plugin sink source from rows.cat p from undo y rows []
   amid_start rows p q y undo more has its command list held ready =
       let both : Some q ≡ Some p = sym its ∙ has in
       let same : q ≡ p = cc in
-      let I : Command → List Call → Type 0 = λ x us. IsAmid disk ambient plugin sink source from rows.cat p from us x rows [] in
+      let I : Command → List Call → Type 0 = λ x us. AreAmid disk ambient plugin sink source from rows.cat p from us x rows [] in
       subst (λ (x : Command). I x undo) (sym (command ∙ ap stopped_command same))
       (subst (I (stopped_command p)) (sym (list ∙ ap (λ (r : Pending). r.undo) same))
-      (amid_begun disk ambient plugin sink source from rows p has held more ready))
+      (begun disk ambient plugin sink source from rows p has held more ready))
 
   module _ (found : Cat) (p : Pending) (mid : Seen D A P K) (left : List Call) (y : Command) (rows : Journal) (taken : List Mark)
-      (amid : IsAmid disk ambient plugin sink source from found p mid left y rows taken) where
+      (are : AreAmid disk ambient plugin sink source from found p mid left y rows taken) where
     pub user_now : IsTrue (is_user rows.cat y.user)
-    user_now = subst (λ (id : ℕ). IsTrue (is_user rows.cat id)) (sym (ap (λ (x : Command). x.user) amid.command)) (amid.beside.users p.user amid.user)
+    user_now =
+        subst (λ (id : ℕ). IsTrue (is_user rows.cat id)) (sym (ap (λ (x : Command). x.user) are.amid.command)) (are.amid.beside.users p.user are.setting.user)
 
     pub ready_now : (more less : ℕ) → AreReady disk plugin sink more from → mid.outside.moments + less < 2 ^ 128 → AreReady disk plugin sink less mid
     ready_now more less ready room = record {
       outside = record {
-        main_last = amid.passes.frame.main_last ready.outside.main_last;
-        stores_last = amid.passes.frame.stores_last ready.outside.stores_last;
+        main_last = are.amid.passes.frame.main_last ready.outside.main_last;
+        stores_last = are.amid.passes.frame.stores_last ready.outside.stores_last;
         room = room;
       };
-      sink_last = amid.passes.sink_last ready.sink_last;
+      sink_last = are.amid.passes.sink_last ready.sink_last;
     }
 
     pub passes_done : (failed sink_failed : Type 0) → (¬ failed) → (¬ sink_failed) → CallsPass disk plugin sink failed sink_failed from mid
-    passes_done failed sink_failed well sunk = passes_well disk plugin sink ⊥ ⊥ failed sink_failed from mid (λ e. e) well sunk amid.passes
+    passes_done failed sink_failed well sunk = passes_well disk plugin sink ⊥ ⊥ failed sink_failed from mid (λ e. e) well sunk are.amid.passes
 
-    pub undoes_all : left ≡ []
-        → Undoes (world disk ambient plugin sink source from found p from) (world disk ambient plugin sink source from found p mid) found p (Ok tt) y rows
+    pub undoes_all : left ≡ [] → Undoes (world disk ambient plugin sink source from) (world disk ambient plugin sink source mid) found p (Ok tt) y rows
     undoes_all none =
-        let I : List Call → Type 0 = λ us. IsAmid disk ambient plugin sink source from found p mid us y rows taken in
-        undoes_done disk ambient plugin sink source from found p mid y rows taken (subst I none amid)
+        let I : List Call → Type 0 = λ us. AreAmid disk ambient plugin sink source from found p mid us y rows taken in
+        undoes_done disk ambient plugin sink source from found p mid y rows taken (subst I none are)
 
   pub amid_left : (found : Cat) (p : Pending) (at : Seen D A P K) (cs calls : List Call) (y : Command) (rows : Journal) → calls ≡ cs
-      → (next : List Mark) × IsAmid disk ambient plugin sink source from found p at cs y rows next
-      → (next : List Mark) × IsAmid disk ambient plugin sink source from found p at calls y rows next
+      → (next : List Mark) × AreAmid disk ambient plugin sink source from found p at cs y rows next
+      → (next : List Mark) × AreAmid disk ambient plugin sink source from found p at calls y rows next
   amid_left found p at cs calls y rows same next =
-      let I : List Call → Type 0 = λ us. IsAmid disk ambient plugin sink source from found p at us y rows next.0 in
+      let I : List Call → Type 0 = λ us. AreAmid disk ambient plugin sink source from found p at us y rows next.0 in
       (next.0, subst I (sym same) next.1)
 
   -- ---- one recovery
 
-  module _ (found : Cat) (p : Pending) (has : found.pending ≡ Some p) (more : ℕ) (ready : AreReady disk plugin sink more from) (mid new : Seen D A P K)
-      (cs : List Call) (c : Call)
-      (y : Command) (rows : Journal) (taken : List Mark) (z : Command) (after : Journal) where
+  module _ (found : Cat) (p : Pending) (more : ℕ) (ready : AreReady disk plugin sink more from) (mid new : Seen D A P K)
+      (cs : List Call) (c : Call) (y : Command) (rows : Journal) (taken : List Mark) (z : Command) (after : Journal) where
+    abbrev at_mid : World P
+    at_mid = world disk ambient plugin sink source mid
+
+    abbrev at_new : World P
+    at_new = world disk ambient plugin sink source new
+
     -- with these recoveries left before
     Runs : List Call → Type 0
-    Runs left = (amid : IsAmid disk ambient plugin sink source from found p mid left y rows taken)
-        → RunsOne (world disk ambient plugin sink source from found p mid) (world disk ambient plugin sink source from found p new) amid.holds.cat rows y c
-        left after z
-        → (next : List Mark) × IsAmid disk ambient plugin sink source from found p new cs z after next
+    Runs left = (are : AreAmid disk ambient plugin sink source from found p mid left y rows taken)
+        → RunsOne at_mid at_new are.amid.holds.cat rows y c left after z
+        → (next : List Mark) × AreAmid disk ambient plugin sink source from found p new cs z after next
 
     Cuts : Ending → List Call → Type 0
-    Cuts e left = (amid : IsAmid disk ambient plugin sink source from found p mid left y rows taken)
-        → IsCut (world disk ambient plugin sink source from found p mid) (world disk ambient plugin sink source from found p new) amid.holds.cat rows y c
-        left after z e
-        → Undoes (world disk ambient plugin sink source from found p from) (world disk ambient plugin sink source from found p new) found p (Err e) z after
+    Cuts e left = (are : AreAmid disk ambient plugin sink source from found p mid left y rows taken)
+        → IsCut at_mid at_new are.amid.holds.cat rows y c left after z e
+        → Undoes (world disk ambient plugin sink source from) at_new found p (Err e) z after
 
-    last_of : {left : List Call} → IsAmid disk ambient plugin sink source from found p mid left y rows taken
+    last_of : {left : List Call} → AreAmid disk ambient plugin sink source from found p mid left y rows taken
         → (disk mid.outside.main).last ≤ mid.outside.moments
-    last_of amid = amid.passes.frame.main_last ready.outside.main_last
+    last_of are = are.amid.passes.frame.main_last ready.outside.main_last
+
+    -- it was run, and passed over if it failed
+    next_of : (left : Command) (ran : Result ⊤ Failure) → CallsPass disk plugin sink ⊥ ⊥ mid new
+        → (are : AreAmid disk ambient plugin sink source from found p mid (cs ++ c ∷ []) y rows taken)
+        → (step : IsStep at_mid at_new are.amid.holds.cat rows y c (cs ++ c ∷ []) left after (do_call (user_name rows.cat y.user) c) (Ok ran))
+        → AreAmid disk ambient plugin sink source from found p new cs (passed_over left c (failure_in ran)) after (taken ++ step.ends.marks)
+    next_of left ran passes are step = record {
+      setting = are.setting;
+      amid = amid_next disk ambient plugin sink source (undoings found p) from are.setting mid new c (cs ++ c ∷ []) y rows taken are.amid
+          (may_call found p are.setting.user rows.cat y taken cs c are.amid.command are.amid.beside are.goes) (last_of are) left after ran passes step
+          (failure_in ran);
+      goes = goes_next found cs c rows.cat after.cat y left ran step.ends.did taken step.ends.marks step.ends.marks_are
+          (IsKnownBy at_mid rows.cat) (length mid.outside.stores.items) step.ends.told_of are.goes;
+    }
 
     runs_last : (failed sink_failed : Type 0) → (¬ failed) → CallsPass disk plugin sink failed sink_failed mid new → Runs (cs ++ c ∷ [])
     unfolding Runs
-    runs_last failed sink_failed well passes amid runs =
-        let next = amid_next disk ambient plugin sink source from found p has mid new cs c y rows taken amid (last_of amid) runs.left after runs.ran
-        (passes_well disk plugin sink failed sink_failed ⊥ ⊥ mid new well (λ e. e) (λ e. e) passes) runs.step in
-        let I : Command → Type 0 = λ x. IsAmid disk ambient plugin sink source from found p new cs x after (taken ++ runs.step.ends.marks) in
+    runs_last failed sink_failed well passes are runs =
+        let next = next_of runs.left runs.ran
+        (passes_well disk plugin sink failed sink_failed ⊥ ⊥ mid new well (λ e. e) (λ e. e) passes) are runs.step in
+        let I : Command → Type 0 = λ x. AreAmid disk ambient plugin sink source from found p new cs x after (taken ++ runs.step.ends.marks) in
         (taken ++ runs.step.ends.marks, subst I (sym runs.over) next)
 
     cuts_last : (e : Ending) → CallsPass disk plugin sink (IsErrOf {T = ⊤} (Err e) ending.Disk) (IsErrOf {T = ⊤} (Err e) ending.Sink) mid new
         → Cuts e (cs ++ c ∷ [])
     unfolding Cuts
-    cuts_last e passes amid (cut step) =
-        undoes_failed disk ambient plugin sink source from found p has mid new cs c y rows taken amid (last_of amid) z after e _ _ passes step
-    cuts_last e passes amid (ran_out ran left step) =
+    cuts_last e passes are (cut step) =
+        undoes_failed disk ambient plugin sink source from found p mid new cs c y rows taken are (last_of are) z after e _ _ passes step
+    cuts_last e passes are (ran_out ran left step) =
         let well = passes_well disk plugin sink _ _ ⊥ ⊥ mid new (λ is. cc) (λ e. e) (λ e. e) passes in
-        let next = amid_next disk ambient plugin sink source from found p has mid new cs c y rows taken amid (last_of amid) left after ran well step in
+        let next = next_of left ran well are step in
         undoes_amid disk ambient plugin sink source from found p new cs (passed_over left c (failure_in ran)) after (taken ++ step.ends.marks) next z after
 
     -- the last of these was run
     pub round_done : (left : List Call) → left ≡ cs ++ c ∷ [] → (failed sink_failed : Type 0) → (¬ failed)
         → CallsPass disk plugin sink failed sink_failed mid new
-        → (amid : IsAmid disk ambient plugin sink source from found p mid left y rows taken)
-        → RunsOne (world disk ambient plugin sink source from found p mid) (world disk ambient plugin sink source from found p new) amid.holds.cat rows y c
-        left after z
-        → (next : List Mark) × IsAmid disk ambient plugin sink source from found p new cs z after next
+        → (are : AreAmid disk ambient plugin sink source from found p mid left y rows taken) → RunsOne at_mid at_new are.amid.holds.cat rows y c left after z
+        → (next : List Mark) × AreAmid disk ambient plugin sink source from found p new cs z after next
     unfolding Runs
     round_done left split failed sink_failed well passes = subst Runs (sym split) (runs_last failed sink_failed well passes)
 
     -- it was cut short, or could not be noted
     pub round_cut : (left : List Call) → left ≡ cs ++ c ∷ [] → (e : Ending)
         → CallsPass disk plugin sink (IsErrOf {T = ⊤} (Err e) ending.Disk) (IsErrOf {T = ⊤} (Err e) ending.Sink) mid new
-        → (amid : IsAmid disk ambient plugin sink source from found p mid left y rows taken)
-        → IsCut (world disk ambient plugin sink source from found p mid) (world disk ambient plugin sink source from found p new) amid.holds.cat rows y c
-        left after z e
-        → Undoes (world disk ambient plugin sink source from found p from) (world disk ambient plugin sink source from found p new) found p (Err e) z after
+        → (are : AreAmid disk ambient plugin sink source from found p mid left y rows taken) → IsCut at_mid at_new are.amid.holds.cat rows y c left after z e
+        → Undoes (world disk ambient plugin sink source from) at_new found p (Err e) z after
     unfolding Cuts
     round_cut left split e passes = subst (Cuts e) (sym split) (cuts_last e passes)

@@ -1,7 +1,8 @@
 -- What a stop leaves where main has a catalogue in which the recoveries go on.
-use Rattle.std.proofs.Common.{◌≡◌, ℕ, ◌+◌, ◌≤◌, List, ◌++◌, Option, Some, length, take, sym, ap, ◌∙◌, subst, length-append, arith}
+use Rattle.std.proofs.Common.{◌≡◌, ℕ, ◌+◌, ◌≤◌, List, ◌++◌, Option, Some, IsTrue, length, take, refl, sym, ap, ◌∙◌, subst, length-append, arith}
 use Rattle.std.proofs.lemmas.List.{take-append-le}
 use Rattle.grid_outside.specs.Sink.{AddsPart}
+use Rattle.grid_model.specs.Applying.{is_user}
 use Rattle.grid_model.specs.Names.{Text}
 use Rattle.grid_model.specs.Rows.{Cat}
 use Rattle.grid_model.specs.declared.deltas.Pending.{Pending}
@@ -11,10 +12,12 @@ use Rattle.grid_headline.specs.Served.{joined_texts, report_front, report_told}
 use Rattle.grid_headline.specs.Stops.{AreFirst, IsSame, KeepsReport}
 use Rattle.run_laws.specs.Undone.{Undone}
 use Rattle.service_run.specs.Steps.{lines_of}
+use Rattle.call_laws.specs.Amid.{IsSetting}
+use Rattle.call_laws.proofs.Rows.{first_then}
+use Rattle.call_laws.proofs.Told.{lines-append}
 use Rattle.undo_run.specs.Undoing.{OneOfUndoing, told_before}
-use Rattle.undo_run.proofs.Amid.{IsOnMain}
-use Rattle.undo_run.proofs.Rows.{first_then}
-use Rattle.undo_run.proofs.Told.{front_joined, lines-append, told_first}
+use Rattle.undo_run.proofs.Reports.{front_joined, told_first}
+use Rattle.undo_run.proofs.Undoings.{IsOnMain, undoings}
 
 module _ (found : Cat) (p : Pending) (has : found.pending ≡ Some p) (u : Undone found) (some : List Mark) (first : AreFirst some u.report) where
   all_lines : lines_of p.number u.report ≡ lines_of p.number some ++ lines_of p.number first.rest
@@ -27,7 +30,7 @@ module _ (found : Cat) (p : Pending) (has : found.pending ≡ Some p) (u : Undon
   all_shown count le = omega (arith, le, fewer, ap length (front_joined p u.report), length-append (told_before p) (lines_of p.number u.report))
 
   -- a part of the lines of these marks is shown
-  pub one_image : (c : Cat) → IsOnMain found p c some → (shown main sink : Text) → StandsFor main c → AddsPart (lines_of p.number some) shown sink
+  one_image : (c : Cat) → IsOnMain found p c some → (shown main sink : Text) → StandsFor main c → AddsPart (lines_of p.number some) shown sink
       → OneOfUndoing found p u shown main sink
   one_image c on shown main sink stands part = record {
     cat = c;
@@ -55,3 +58,12 @@ module _ (found : Cat) (p : Pending) (has : found.pending ≡ Some p) (u : Undon
       stores = on.stores;
     };
   }
+
+-- what main may have of the recoveries is what a stop leaves of them
+pub is_setting : (found : Cat) (p : Pending) → found.pending ≡ Some p → IsTrue (is_user found p.user) → IsSetting (undoings found p)
+is_setting found p has user = record {
+  user = user;
+  untold = refl;
+  on_way = λ c told on. on.on_the_way;
+  one_image = λ u told first. one_image found p has u told first;
+}

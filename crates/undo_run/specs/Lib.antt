@@ -1,2 +1,1 @@
-pub mod OneRecovery
 pub mod Undoing

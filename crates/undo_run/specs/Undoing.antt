@@ -27,6 +27,7 @@ use Rattle.service_run.specs.Steps.{IsKnownBy, lines_of}
 use Rattle.service_run.specs.declared.command.Command.{Command}
 use Rattle.service_run.specs.declared.ending.Ending.{Ending}
 use Rattle.service_run.specs.declared.ending.Ending.TheVariants as ending
+use Rattle.call_laws.specs.Amid.{WereAllWhole}
 
 -- the command that was stopped, as its recoveries go on: behind the kept marks there is the `Stop`, and all that is told
 abbrev pub stopped_command : Pending → Command
@@ -48,10 +49,6 @@ pub record OneOfUndoing (found : Cat) (p : Pending) (u : Undone found) (shown ma
   pub stands : StandsFor main cat
   pub part : AddsPart (lines_of p.number u.report) shown sink
   pub unbegun : IsUnbegun found u cat (length (told_before p) + part.count)
-
--- all was whole by what was found
-abbrev pub WereAllWhole : {B : Type 0} → World B → Cat → Type 0
-WereAllWhole old found = (t : ℕ) → old.moments < t → AreWhole old.plugin t found old.stores
 
 module _ {B : Type 0} (old new : World B) (found : Cat) (p : Pending) where
   -- All recoveries were run. Main has this catalogue, and memory the rows that they left.

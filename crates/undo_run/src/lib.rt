@@ -7,5 +7,6 @@ mod passing;
 mod stopping;
 mod undoing;
 
+pub use passing::undo_one;
 pub use stopping::stopped;
 pub use undoing::undo_all;

@@ -1,5 +1,5 @@
 ghost use Rattle.std.specs.Prelude.{◌≡◌, ◌-◌, ◌^◌, ◌<◌, length, take};
-ghost use Rattle.undo_run.specs.OneRecovery.{AreShort};
+ghost use Rattle.call_laws.specs.OneCall.{AreShort};
 
 use grid_model::Calls;
 use service_run::Command;

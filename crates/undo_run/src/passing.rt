@@ -13,7 +13,7 @@ ghost use Rattle.run_laws.specs.Around.{around};
 ghost use Rattle.run_laws.specs.Passes.{AreReady, CallsPass};
 ghost use Rattle.service_run.specs.Commands.{noted_in};
 ghost use Rattle.service_run.specs.declared.ending.Ending.{Ending};
-ghost use Rattle.undo_run.specs.OneRecovery.{RoundEnds};
+ghost use Rattle.call_laws.specs.OneCall.{RoundEnds};
 
 use crate::lists::is_size;
 use cmd_reply::push_failure;
@@ -24,7 +24,8 @@ use service_run::{Command, Ending, copy_call, run_call};
 use std::alloc::{AllocError, Global};
 use std::mem::replace;
 
-/// Runs a recovery of a command, the last of this list. One that is refused is passed over, and noted with its failure.
+/// Runs a recovery of a command, the last of this list. One that is refused is passed over, and noted with its failure. The answer is how it
+/// failed, if it did.
 ///
 /// Errors are those of `run_call`; `Memory` may come too where the recovery was run and refused.
 pub fn undo_one<D: Disk, K: Sink, A: Ambient, P: Plugin>(
@@ -35,24 +36,24 @@ pub fn undo_one<D: Disk, K: Sink, A: Ambient, P: Plugin>(
     command: &mut Command,
     call: &Call,
     undo: &Calls,
-) -> Result<(), Ending>
+) -> Result<Option<Failure>, Ending>
     requires held { (kept : Cat) × IsHeld kept (D.disk outside.old.main) store.old }
     requires user { IsTrue (is_user store.old.cat command.old.user) }
     requires words { AddsWords (service call.now) }
     requires spelled { IsTrue (can_be_kept (Delta.Pending (noted_in command.old call.now undo.now))) }
     requires slots { store.old.cat.stores ≡ vec_len outside.old.stores }
-    requires ready { AreReady D.disk P.plugin K.sink (2 ^ 72) (record { outside = outside.old; sink = sink.old }) }
+    requires ready { AreReady D.disk P.plugin K.sink (2 ^ 65) (record { outside = outside.old; sink = sink.old }) }
     ensures ends { (source : SourceState) (kept : Cat) → IsHeld kept (D.disk outside.old.main) store.old →
         RoundEnds (around D.disk A.ambient P.plugin outside.old (K.sink sink.old) source)
         (around D.disk A.ambient P.plugin outside.new (K.sink sink.new) source) kept store.old command.old call.now undo.now store.new result command.new }
     ensures passes { CallsPass D.disk P.plugin K.sink (IsErrOf result Ending.Disk) (IsErrOf result Ending.Sink)
         (record { outside = outside.old; sink = sink.old }) (record { outside = outside.new; sink = sink.new }) }
-    ensures drawn { outside.new.moments ≤ outside.old.moments + 2 ^ 72 }
+    ensures drawn { outside.new.moments ≤ outside.old.moments + 2 ^ 65 }
 {
     match run_call(alloc, store, outside, sink, command, call, undo) {
-        Ok(Ok(())) => Ok(()),
+        Ok(Ok(())) => Ok(None),
         Ok(Err(failure)) => match pass_over(alloc, command, call, &failure) {
-            Ok(()) => Ok(()),
+            Ok(()) => Ok(Some(failure)),
             Err(AllocError) => Err(Ending::Memory),
         },
         Err(error) => Err(error),

@@ -49,7 +49,7 @@ pub fn undo_all<D: Disk, K: Sink, A: Ambient, P: Plugin>(
     while let Some(call) = left.as_slice().last() {
         are_short(command, &left);
         match undo_one(alloc, store, outside, sink, command, call, &left) {
-            Ok(()) => {}
+            Ok(_failure) => {}
             Err(error) => return Err(error),
         }
         drop_last(alloc, &mut left);

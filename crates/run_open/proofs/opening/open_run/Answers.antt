@@ -8,7 +8,7 @@ use Rattle.grid_journal.specs.declared.error.JournalError.TheVariants as journal
 use Rattle.grid_deed.specs.Held.{IsHeld}
 use Rattle.grid_deed.proofs.Keeping.{closes_at}
 use Rattle.run_laws.specs.Around.{around}
-use Rattle.undo_run.proofs.Joined.{passes_then}
+use Rattle.call_laws.proofs.Joined.{passes_then}
 use Rattle.run_open.specs.Beginning.{run_begun}
 use Rattle.run_open.specs.Errors.{error_of}
 use Rattle.run_open.specs.Preparing.{OpenStops}

@@ -8,7 +8,7 @@ use Rattle.grid_headline.specs.Ends.{HasRecovery}
 use Rattle.grid_headline.specs.Served.{joined_texts, report_front}
 use Rattle.run_laws.specs.Around.{around}
 use Rattle.service_run.specs.declared.ending.Ending.TheVariants as ending
-use Rattle.undo_run.proofs.Joined.{passes_then, went_of}
+use Rattle.call_laws.proofs.Joined.{passes_then, went_of}
 use Rattle.grid_journal.specs.Journal.{Journal}
 use Rattle.run_open.specs.Errors.{error_by}
 use Rattle.run_open.specs.Preparing.{OpenStops}

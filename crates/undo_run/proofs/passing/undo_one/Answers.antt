@@ -2,28 +2,34 @@ use Rattle.std.proofs.Common.{Err, sym, ap, ◌∙◌, subst}
 use Rattle.std.specs.Prelude.{Result}
 use Rattle.grid_model.specs.declared.refusal.Failure.{Failure}
 use Rattle.chain_core.specs.Answers.{failure_in}
-use Rattle.undo_run.specs.OneRecovery.{IsShown, cut, passed_over, ran_out}
+use Rattle.call_laws.specs.OneCall.{IsShown, cut, passed_over, ran_out}
 use Rattle.undo_run.proofs.passing.undo_one.Goals as goal
 
 pub returns-in-Ok-Ok-clause-ends : goal.returns-in-Ok-Ok-clause-ends
-returns-in-Ok-Ok-clause-ends g c source kept held = record {
-  ran = c.in-Ok-Ok.field-0;
-  left = c.run_call.new.command;
-  step = c.in-Ok-Ok.ensures.step source kept held;
-  over = sym (ap (λ (r : Result Unit Failure). passed_over c.run_call.new.command c.args.call.now (failure_in r)) c.in-Ok-Ok.field-0-is);
-  shown = subst (λ (r : Result Unit Failure). IsShown (failure_in r)) (sym c.in-Ok-Ok.field-0-is) tt;
-}
+returns-in-Ok-Ok-clause-ends g c source kept held = (
+  record {
+    ran = c.in-Ok-Ok.field-0;
+    left = c.run_call.new.command;
+    step = c.in-Ok-Ok.ensures.step source kept held;
+    over = sym (ap (λ (r : Result Unit Failure). passed_over c.run_call.new.command c.args.call.now (failure_in r)) c.in-Ok-Ok.field-0-is);
+    shown = subst (λ (r : Result Unit Failure). IsShown (failure_in r)) (sym c.in-Ok-Ok.field-0-is) tt;
+  },
+  sym (ap failure_in c.in-Ok-Ok.field-0-is),
+)
 
 pub returns-in-Ok-clause-ends : goal.returns-in-Ok-clause-ends
-returns-in-Ok-clause-ends g c source kept held = record {
-  ran = c.in-Ok-Err.field-0;
-  left = c.run_call.new.command;
-  step = c.in-Ok-Err.ensures.step source kept held;
-  over = c.in-Ok.ensures.passed
-      ∙ sym (ap (λ (r : Result Unit Failure). passed_over c.run_call.new.command c.args.call.now (failure_in r))
-      (c.in-Ok-Err.field-0-is ∙ ap Err c.in-Ok-Err.failure-is));
-  shown = subst (λ (r : Result Unit Failure). IsShown (failure_in r)) (sym (c.in-Ok-Err.field-0-is ∙ ap Err c.in-Ok-Err.failure-is)) c.in-Ok.ensures.shown;
-}
+returns-in-Ok-clause-ends g c source kept held = (
+  record {
+    ran = c.in-Ok-Err.field-0;
+    left = c.run_call.new.command;
+    step = c.in-Ok-Err.ensures.step source kept held;
+    over = c.in-Ok.ensures.passed
+        ∙ sym (ap (λ (r : Result Unit Failure). passed_over c.run_call.new.command c.args.call.now (failure_in r))
+        (c.in-Ok-Err.field-0-is ∙ ap Err c.in-Ok-Err.failure-is));
+    shown = subst (λ (r : Result Unit Failure). IsShown (failure_in r)) (sym (c.in-Ok-Err.field-0-is ∙ ap Err c.in-Ok-Err.failure-is)) c.in-Ok.ensures.shown;
+  },
+  sym (ap failure_in (c.in-Ok-Err.field-0-is ∙ ap Err c.in-Ok-Err.failure-is)),
+)
 
 pub returns-in-Err-pass_over-clause-ends : goal.returns-in-Err-pass_over-clause-ends
 returns-in-Err-pass_over-clause-ends g c source kept held = ran_out c.in-Ok-Err.field-0 c.run_call.new.command (c.in-Ok-Err.ensures.step source kept held)

@@ -1,11 +1,11 @@
-use Rattle.std.proofs.Common.{◌-◌, ◌^◌, [], length, take, refl, ap, subst, arith}
+use Rattle.std.proofs.Common.{◌-◌, ◌++◌, ◌^◌, [], length, take, refl, ap, subst, arith}
 use Rattle.grid_journal.specs.Journal.{IsSpelledPending}
 use Rattle.plan_service.proofs.AddedWords.{adds_words}
 use Rattle.service_run.specs.declared.command.Command.{Command}
-use Rattle.undo_run.specs.OneRecovery.{AreKeepable}
-use Rattle.undo_run.proofs.Joined.{passes_then}
-use Rattle.undo_run.proofs.Keepable.{args_words, last_fits, noted_kept}
-use Rattle.undo_run.proofs.Loop.{amid_left, amid_start, keepable_after, keepable_start, last_split, no_source, none_left, one_shorter, passes_done}
+use Rattle.call_laws.proofs.Joined.{passes_then}
+use Rattle.call_laws.proofs.Keepable.{args_words, noted_kept, words_kept}
+use Rattle.undo_run.specs.Undoing.{stopped_command}
+use Rattle.undo_run.proofs.Loop.{amid_left, amid_start, keepable_after, keepable_start, last_fits, last_split, no_source, none_left, one_shorter, passes_done, passes_err}
 use Rattle.undo_run.proofs.Loop.{ready_now, round_cut, round_done, undoes_all, user_now}
 use Rattle.undo_run.proofs.Results.{undoes_amid}
 use Rattle.undo_run.proofs.undoing.undo_all.Goals as goal
@@ -39,7 +39,7 @@ loop-call-init g c =
 
 pub undo_one-requires-clause-held : goal.undo_one-requires-clause-held
 undo_one-requires-clause-held g c =
-    let amid = (c.loop-call.invariant.amid no_source c.requires.stopped.0 c.requires.stopped.1).1 in
+    let amid = (c.loop-call.invariant.amid no_source c.requires.stopped.0 c.requires.stopped.1).1.amid in
     (amid.holds.cat, amid.holds.held)
 
 pub undo_one-requires-clause-user : goal.undo_one-requires-clause-user
@@ -51,26 +51,26 @@ undo_one-requires-clause-user g c =
 
 pub undo_one-requires-clause-words : goal.undo_one-requires-clause-words
 undo_one-requires-clause-words g c =
-    let split = last_split c.loop-call.left c.as_slice-in-loop-call.result.now c.in-Some.call.now c.as_slice-in-loop-call.ensures c.in-Some.ensures.value in
-    let keepable = subst (AreKeepable c.loop-call.command) split c.loop-call.invariant.keepable in
-    adds_words c.in-Some.call.now (args_words c.in-Some.call.now
-    (last_fits c.loop-call.command (take (length c.loop-call.left - 1) c.loop-call.left) c.in-Some.call.now keepable))
+    let left = c.loop-call.left in
+    let split = last_split left c.as_slice-in-loop-call.result.now c.in-Some.call.now c.as_slice-in-loop-call.ensures c.in-Some.ensures.value in
+    adds_words c.in-Some.call.now
+    (args_words c.in-Some.call.now
+    (last_fits c.loop-call.command left (take (length left - 1) left) c.in-Some.call.now split c.loop-call.invariant.keepable))
 
 pub undo_one-requires-clause-spelled : goal.undo_one-requires-clause-spelled
 undo_one-requires-clause-spelled g c =
     let p = c.requires.stopped.0 in
-    let amid = (c.loop-call.invariant.amid no_source p c.requires.stopped.1).1 in
-    let split = last_split c.loop-call.left c.as_slice-in-loop-call.result.now c.in-Some.call.now c.as_slice-in-loop-call.ensures c.in-Some.ensures.value in
-    let keepable = subst (AreKeepable c.loop-call.command) split c.loop-call.invariant.keepable in
-    noted_kept p c.loop-call.command c.loop-call.left c.in-Some.call.now (subst IsSpelledPending c.requires.stopped.1 c.pending_is_spelled.ensures)
-    (ap (λ (x : Command). x.run) amid.command) (ap (λ (x : Command). x.number) amid.command) (ap (λ (x : Command). x.user) amid.command)
-    (ap (λ (x : Command). x.line) amid.command)
-    c.loop-call.invariant.keepable c.are_short.ensures
-    (last_fits c.loop-call.command (take (length c.loop-call.left - 1) c.loop-call.left) c.in-Some.call.now keepable)
+    let left = c.loop-call.left in
+    let amid = c.loop-call.invariant.amid no_source p c.requires.stopped.1 in
+    let split = last_split left c.as_slice-in-loop-call.result.now c.in-Some.call.now c.as_slice-in-loop-call.ensures c.in-Some.ensures.value in
+    noted_kept (stopped_command p) c.loop-call.command ((stopped_command p).marks ++ amid.0) left c.in-Some.call.now
+    (words_kept p (stopped_command p) (subst IsSpelledPending c.requires.stopped.1 c.pending_is_spelled.ensures) refl refl refl refl)
+    amid.1.amid.command c.loop-call.invariant.keepable c.are_short.ensures
+    (last_fits c.loop-call.command left (take (length left - 1) left) c.in-Some.call.now split c.loop-call.invariant.keepable)
 
 pub undo_one-requires-clause-slots : goal.undo_one-requires-clause-slots
 undo_one-requires-clause-slots g c =
-    let amid = (c.loop-call.invariant.amid no_source c.requires.stopped.0 c.requires.stopped.1).1 in
+    let amid = (c.loop-call.invariant.amid no_source c.requires.stopped.0 c.requires.stopped.1).1.amid in
     omega (arith, amid.beside.stores, c.requires.slots, amid.passes.frame.stores.count, c.args.outside.now.stores.ok.0, c.loop-call.outside.stores.ok.0)
 
 pub undo_one-requires-clause-ready : goal.undo_one-requires-clause-ready
@@ -81,7 +81,7 @@ undo_one-requires-clause-ready g c =
     let some = one_shorter left (take (length left - 1) left) c.in-Some.call.now split in
     ready_now g.D.Disk.disk g.A.Ambient.ambient g.P.Plugin.plugin g.K.Sink.sink no_source (record { outside = c.args.outside.now; sink = c.args.sink.now })
     c.args.store.now.cat c.requires.stopped.0
-    (record { outside = c.loop-call.outside; sink = c.loop-call.sink }) left c.loop-call.command c.loop-call.store amid.0 amid.1 (2 ^ 120) (2 ^ 72)
+    (record { outside = c.loop-call.outside; sink = c.loop-call.sink }) left c.loop-call.command c.loop-call.store amid.0 amid.1 (2 ^ 120) (2 ^ 65)
     c.requires.ready
     (omega (arith, some, c.loop-call.invariant.drawn, c.requires.ready.outside.room, c.if-as_slice.false, ap length c.as_slice.ensures))
 
@@ -91,18 +91,22 @@ returns-in-Err-clause-undoes g c source p has =
     let left = c.loop-call.left in
     let split = last_split left c.as_slice-in-loop-call.result.now c.in-Some.call.now c.as_slice-in-loop-call.ensures c.in-Some.ensures.value in
     round_cut g.D.Disk.disk g.A.Ambient.ambient g.P.Plugin.plugin g.K.Sink.sink source (record { outside = c.args.outside.now; sink = c.args.sink.now })
-    c.args.store.now.cat p has (2 ^ 120) c.requires.ready
+    c.args.store.now.cat p (2 ^ 120) c.requires.ready
     (record { outside = c.loop-call.outside; sink = c.loop-call.sink }) (record { outside = c.undo_one.new.outside; sink = c.undo_one.new.sink })
     (take (length left - 1) left) c.in-Some.call.now
-    c.loop-call.command c.loop-call.store amid.0 c.undo_one.new.command c.undo_one.new.store left split c.in-Err.error c.in-Err.ensures.passes amid.1
-    (c.in-Err.ensures.ends source amid.1.holds.cat amid.1.holds.held)
+    c.loop-call.command c.loop-call.store amid.0 c.undo_one.new.command c.undo_one.new.store left split c.in-Err.error
+    (passes_err g.D.Disk.disk g.P.Plugin.plugin g.K.Sink.sink c.in-Err.error (record { outside = c.loop-call.outside; sink = c.loop-call.sink })
+    (record { outside = c.undo_one.new.outside; sink = c.undo_one.new.sink }) c.in-Err.ensures.passes) amid.1
+    (c.in-Err.ensures.ends source amid.1.amid.holds.cat amid.1.amid.holds.held)
 
 pub returns-in-Err-clause-passes : goal.returns-in-Err-clause-passes
 returns-in-Err-clause-passes g c =
-    let amid = (c.loop-call.invariant.amid no_source c.requires.stopped.0 c.requires.stopped.1).1 in
+    let amid = (c.loop-call.invariant.amid no_source c.requires.stopped.0 c.requires.stopped.1).1.amid in
     passes_then g.D.Disk.disk g.P.Plugin.plugin g.K.Sink.sink _ _ (record { outside = c.args.outside.now; sink = c.args.sink.now })
     (record { outside = c.loop-call.outside; sink = c.loop-call.sink })
-    (record { outside = c.undo_one.new.outside; sink = c.undo_one.new.sink }) amid.passes c.in-Err.ensures.passes
+    (record { outside = c.undo_one.new.outside; sink = c.undo_one.new.sink }) amid.passes
+    (passes_err g.D.Disk.disk g.P.Plugin.plugin g.K.Sink.sink c.in-Err.error (record { outside = c.loop-call.outside; sink = c.loop-call.sink })
+    (record { outside = c.undo_one.new.outside; sink = c.undo_one.new.sink }) c.in-Err.ensures.passes)
 
 pub loop-call-preserved : goal.loop-call-preserved
 loop-call-preserved g c =
@@ -111,17 +115,17 @@ loop-call-preserved g c =
     let cs = take (length left - 1) left in
     let split = last_split left c.as_slice-in-loop-call.result.now call c.as_slice-in-loop-call.ensures c.in-Some.ensures.value in
     let some = one_shorter left cs call split in
-    let first = (c.loop-call.invariant.amid no_source c.requires.stopped.0 c.requires.stopped.1).1 in
-    let runs = c.in-Ok.ensures.ends no_source first.holds.cat first.holds.held in
+    let first = (c.loop-call.invariant.amid no_source c.requires.stopped.0 c.requires.stopped.1).1.amid in
+    let runs = (c.in-Ok.ensures.ends no_source first.holds.cat first.holds.held).0 in
     record {
       amid = λ source p has.
           let amid = c.loop-call.invariant.amid source p has in
           let next = round_done g.D.Disk.disk g.A.Ambient.ambient g.P.Plugin.plugin g.K.Sink.sink source
-          (record { outside = c.args.outside.now; sink = c.args.sink.now }) c.args.store.now.cat p has (2 ^ 120)
+          (record { outside = c.args.outside.now; sink = c.args.sink.now }) c.args.store.now.cat p (2 ^ 120)
           c.requires.ready (record { outside = c.loop-call.outside; sink = c.loop-call.sink })
           (record { outside = c.undo_one.new.outside; sink = c.undo_one.new.sink }) cs call c.loop-call.command
           c.loop-call.store amid.0 c.undo_one.new.command c.undo_one.new.store left split _ _ (λ e. cc) c.in-Ok.ensures.passes amid.1
-          (c.in-Ok.ensures.ends source amid.1.holds.cat amid.1.holds.held) in
+          (c.in-Ok.ensures.ends source amid.1.amid.holds.cat amid.1.amid.holds.held).0 in
           amid_left g.D.Disk.disk g.A.Ambient.ambient g.P.Plugin.plugin g.K.Sink.sink source
           (record { outside = c.args.outside.now; sink = c.args.sink.now }) c.args.store.now.cat p
           (record { outside = c.undo_one.new.outside; sink = c.undo_one.new.sink }) cs c.drop_last.new.calls c.undo_one.new.command c.undo_one.new.store

@@ -2,17 +2,17 @@ use Rattle.std.proofs.Common.{◌≡◌, ◌+◌, ◌*◌, ◌^◌, ◌≤◌, L
 use Rattle.grid_outside.specs.Source.{SourceState}
 use Rattle.grid_model.specs.declared.deltas.Pending.{Pending}
 use Rattle.grid_model.specs.declared.marks.Mark.{Mark}
-use Rattle.undo_run.specs.OneRecovery.{AreKeepable}
-use Rattle.undo_run.proofs.Amid.{IsAmid}
+use Rattle.call_laws.specs.OneCall.{AreKeepable}
+use Rattle.undo_run.proofs.Undoings.{AreAmid}
 use Rattle.undo_run.proofs.undoing.undo_all.Given as goal
 
 abbrev pub invariant-loop-call : goal.invariant-loop-call
 invariant-loop-call g l = record {
   amid : (source : SourceState) (p : Pending) → l.fn.store.cat.pending ≡ Some p → (taken : List Mark)
-      × IsAmid g.D.Disk.disk g.A.Ambient.ambient g.P.Plugin.plugin g.K.Sink.sink source (record { outside = l.fn.outside; sink = l.fn.sink }) l.fn.store.cat p
+      × AreAmid g.D.Disk.disk g.A.Ambient.ambient g.P.Plugin.plugin g.K.Sink.sink source (record { outside = l.fn.outside; sink = l.fn.sink }) l.fn.store.cat p
       (record { outside = l.outside; sink = l.sink }) l.left l.command l.store taken;
   keepable : AreKeepable l.command l.left;
-  drawn : l.outside.moments + 2 ^ 72 * length l.left ≤ l.fn.outside.moments + 2 ^ 72 * length l.fn.undo;
+  drawn : l.outside.moments + 2 ^ 65 * length l.left ≤ l.fn.outside.moments + 2 ^ 65 * length l.fn.undo;
   none : l.fn.undo ≡ [] → (l.left ≡ []) × (l.store ≡ l.fn.store) × (l.outside ≡ l.fn.outside) × (l.sink ≡ l.fn.sink) × (l.command ≡ l.fn.command);
 }
 

@@ -1,4 +1,4 @@
--- What is noted of a command may be kept, one recovery after another.
+-- What is noted of a command may be kept, one call after another.
 use Rattle.std.proofs.Common.{◌≡◌, ℕ, ◌^◌, Bool, true, List, [], ◌∷◌, ◌++◌, Option, Some, None, IsTrue, length, refl, sym, ap, ◌∙◌, lt-ltb}
 use Rattle.std.specs.Prelude.{nat_lt}
 use Rattle.std.specs.List.{list_all}
@@ -15,24 +15,22 @@ use Rattle.grid_model.specs.declared.calls.Call.{Call}
 use Rattle.grid_model.specs.declared.deltas.Delta.TheVariants as delta
 use Rattle.grid_model.specs.declared.deltas.Pending.{Pending}
 use Rattle.grid_model.specs.declared.marks.Mark.{Mark}
-use Rattle.grid_model.specs.declared.marks.Mark.TheVariants.{Stop}
 use Rattle.grid_model.specs.declared.refusal.Failure.{Failure}
 use Rattle.grid_journal.specs.Journal.{can_be_kept}
 use Rattle.grid_journal.specs.Stands.{sets_no_rules}
 use Rattle.service_run.specs.Commands.{noted_in}
 use Rattle.service_run.specs.declared.command.Command.{Command}
-use Rattle.undo_run.specs.OneRecovery.{AreKeepable, AreShort, IsShown, passed_over}
-use Rattle.undo_run.specs.Undoing.{stopped_command}
+use Rattle.call_laws.specs.OneCall.{AreKeepable, AreShort, IsKeepable, IsShown, passed_over}
 
 -- ---- tests of lists
 
-front_of : {X : Type 0} (f : X → Bool) (xs ys : List X) → list_all f (xs ++ ys) ≡ true → list_all f xs ≡ true
+pub front_of : {X : Type 0} (f : X → Bool) (xs ys : List X) → list_all f (xs ++ ys) ≡ true → list_all f xs ≡ true
 front_of f xs ys all = (and_parts (list_all f xs) (list_all f ys) (sym (list_all-append f xs ys) ∙ all)).0
 
-back_of : {X : Type 0} (f : X → Bool) (xs ys : List X) → list_all f (xs ++ ys) ≡ true → list_all f ys ≡ true
+pub back_of : {X : Type 0} (f : X → Bool) (xs ys : List X) → list_all f (xs ++ ys) ≡ true → list_all f ys ≡ true
 back_of f xs ys all = (and_parts (list_all f xs) (list_all f ys) (sym (list_all-append f xs ys) ∙ all)).1
 
-joined_of : {X : Type 0} (f : X → Bool) (xs ys : List X) → list_all f xs ≡ true → list_all f ys ≡ true → list_all f (xs ++ ys) ≡ true
+pub joined_of : {X : Type 0} (f : X → Bool) (xs ys : List X) → list_all f xs ≡ true → list_all f ys ≡ true → list_all f (xs ++ ys) ≡ true
 joined_of f xs ys one other = list_all-append f xs ys ∙ and_from (list_all f xs) (list_all f ys) one other
 
 -- ---- a call whose texts may be kept has words
@@ -62,17 +60,17 @@ args_words c fits =
 -- ---- what is pending
 
 -- each part of it may be kept
-record PartsFit (p : Pending) : Type 0 where
-  run : (u64 p.run).fits ≡ true
-  number : (u64 p.number).fits ≡ true
-  user : (u32 p.user).fits ≡ true
-  line : (text_part p.line).fits ≡ true
-  marks : (each mark_parts p.marks).fits ≡ true
-  passed : (each passed_parts p.passed).fits ≡ true
-  running : (running_call p.running).fits ≡ true
-  undo : (each call_parts p.undo).fits ≡ true
+pub record PartsFit (p : Pending) : Type 0 where
+  pub run : (u64 p.run).fits ≡ true
+  pub number : (u64 p.number).fits ≡ true
+  pub user : (u32 p.user).fits ≡ true
+  pub line : (text_part p.line).fits ≡ true
+  pub marks : (each mark_parts p.marks).fits ≡ true
+  pub passed : (each passed_parts p.passed).fits ≡ true
+  pub running : (running_call p.running).fits ≡ true
+  pub undo : (each call_parts p.undo).fits ≡ true
 
-parts_of : (p : Pending) → IsTrue (can_be_kept (delta.Pending p)) → PartsFit p
+pub parts_of : (p : Pending) → IsTrue (can_be_kept (delta.Pending p)) → PartsFit p
 parts_of p kept =
     let fits = (and_parts (all_fit (code 20 ∷ pending_parts p)) (sets_no_rules (delta.Pending p)) kept).0 in
     let a = and_parts (u64 p.run).fits _ fits in
@@ -97,24 +95,34 @@ kept_of p x =
     (and_from (running_call p.running).fits _ x.running (and_from (each call_parts p.undo).fits true x.undo refl))))))))
     refl
 
--- ---- one recovery after another
-
-pub keepable_begun : (p : Pending) → IsTrue (can_be_kept (delta.Pending p)) → AreKeepable (stopped_command p) p.undo
-keepable_begun p kept =
-    let x = parts_of p kept in
+-- what is said of the command that is pending may be kept again
+pub words_kept : (p : Pending) (x : Command) → IsTrue (can_be_kept (delta.Pending p)) → x.run ≡ p.run → x.number ≡ p.number → x.user ≡ p.user
+    → x.line ≡ p.line → IsKeepable x
+words_kept p x kept run number user line =
+    let was = parts_of p kept in
     record {
-      marks = joined_of (λ m. all_fit (mark_parts m)) p.marks (Stop ∷ []) (and_parts (nat_lt (length p.marks) (2 ^ 64)) _ x.marks).1 refl;
-      passed = (and_parts (nat_lt (length p.passed) (2 ^ 64)) _ x.passed).1;
-      calls = (and_parts (nat_lt (length p.undo) (2 ^ 64)) _ x.undo).1;
+      run = ap (λ (n : ℕ). (u64 n).fits) run ∙ was.run;
+      number = ap (λ (n : ℕ). (u64 n).fits) number ∙ was.number;
+      user = ap (λ (n : ℕ). (u32 n).fits) user ∙ was.user;
+      line = ap (λ (t : Text). (text_part t).fits) line ∙ was.line;
     }
 
-pub last_fits : (x : Command) (cs : List Call) (c : Call) → AreKeepable x (cs ++ c ∷ []) → IsTrue (all_fit (call_parts c))
-last_fits x cs c k = (and_parts (all_fit (call_parts c)) true (back_of (λ d. all_fit (call_parts d)) cs (c ∷ []) k.calls)).0
+-- ---- one call after another
 
-pub keepable_next : (x z : Command) (cs : List Call) (c : Call) (marks : List Mark) (fr : Option Failure) → AreKeepable x (cs ++ c ∷ [])
+-- where there is no mark, and no recovery
+pub keepable_none : (x : Command) → x.marks ≡ [] → x.passed ≡ [] → AreKeepable x []
+keepable_none x marks passed = record {
+  marks = ap (list_all (λ m. all_fit (mark_parts m))) marks;
+  passed = ap (list_all (λ q. all_fit (passed_parts q))) passed;
+  calls = refl;
+}
+
+-- behind the call, with these recoveries
+pub keepable_next : (x z : Command) (left more : List Call) (c : Call) (marks : List Mark) (fr : Option Failure) → AreKeepable x left
+    → IsTrue (list_all (λ d. all_fit (call_parts d)) more) → IsTrue (all_fit (call_parts c))
     → z.marks ≡ x.marks ++ marks → IsTrue (list_all (λ m. all_fit (mark_parts m)) marks) → z.passed ≡ x.passed → IsShown fr
-    → AreKeepable (passed_over z c fr) cs
-keepable_next x z cs c marks fr k marks_are fit same shown = by fr shown
+    → AreKeepable (passed_over z c fr) more
+keepable_next x z left more c marks fr k calls call marks_are fit same shown = by fr shown
   where
     all_marks : IsTrue (list_all (λ m. all_fit (mark_parts m)) z.marks)
     all_marks = ap (list_all (λ m. all_fit (mark_parts m))) marks_are ∙ joined_of (λ m. all_fit (mark_parts m)) x.marks marks k.marks fit
@@ -122,29 +130,25 @@ keepable_next x z cs c marks fr k marks_are fit same shown = by fr shown
     all_passed : IsTrue (list_all (λ q. all_fit (passed_parts q)) z.passed)
     all_passed = ap (list_all (λ q. all_fit (passed_parts q))) same ∙ k.passed
 
-    all_calls : IsTrue (list_all (λ d. all_fit (call_parts d)) cs)
-    all_calls = front_of (λ d. all_fit (call_parts d)) cs (c ∷ []) k.calls
-
-    by : (fr : Option Failure) → IsShown fr → AreKeepable (passed_over z c fr) cs
-    by None shown = record { marks = all_marks; passed = all_passed; calls = all_calls }
+    by : (fr : Option Failure) → IsShown fr → AreKeepable (passed_over z c fr) more
+    by None shown = record { marks = all_marks; passed = all_passed; calls = calls }
     by (Some f) shown = record {
       marks = all_marks;
       passed = joined_of (λ q. all_fit (passed_parts q)) z.passed (record { call = c; failure = print_failure f } ∷ []) all_passed
-          (and_from _ true (and_from (all_fit (call_parts c)) _ (last_fits x cs c k) (and_from (text_part (print_failure f)).fits true shown refl)) refl);
-      calls = all_calls;
+          (and_from _ true (and_from (all_fit (call_parts c)) _ call (and_from (text_part (print_failure f)).fits true shown refl)) refl);
+      calls = calls;
     }
 
--- the command may be noted in its next recovery
-pub noted_kept : (p : Pending) (x : Command) (left : List Call) (c : Call) → IsTrue (can_be_kept (delta.Pending p)) → x.run ≡ p.run → x.number ≡ p.number
-    → x.user ≡ p.user
-    → x.line ≡ p.line → AreKeepable x left → AreShort x left → IsTrue (all_fit (call_parts c)) → IsTrue (can_be_kept (delta.Pending (noted_in x c left)))
-noted_kept p x left c kept run number user line k short fits =
-    let was = parts_of p kept in
+-- The command may be noted in its next call, where nothing but marks, what was passed over and what is told is other than at its start.
+pub noted_kept : (start x : Command) (marks : List Mark) (left : List Call) (c : Call) → IsKeepable start
+    → x ≡ record start { marks = marks; passed = x.passed; untold = x.untold }
+    → AreKeepable x left → AreShort x left → IsTrue (all_fit (call_parts c)) → IsTrue (can_be_kept (delta.Pending (noted_in x c left)))
+noted_kept start x marks left c words is k short fits =
     kept_of (noted_in x c left) (record {
-      run = ap (λ (n : ℕ). (u64 n).fits) run ∙ was.run;
-      number = ap (λ (n : ℕ). (u64 n).fits) number ∙ was.number;
-      user = ap (λ (n : ℕ). (u32 n).fits) user ∙ was.user;
-      line = ap (λ (t : Text). (text_part t).fits) line ∙ was.line;
+      run = ap (λ (y : Command). (u64 y.run).fits) is ∙ words.run;
+      number = ap (λ (y : Command). (u64 y.number).fits) is ∙ words.number;
+      user = ap (λ (y : Command). (u32 y.user).fits) is ∙ words.user;
+      line = ap (λ (y : Command). (text_part y.line).fits) is ∙ words.line;
       marks = and_from (nat_lt (length x.marks) (2 ^ 64)) _ (lt-ltb (length x.marks) (2 ^ 64) short.marks) k.marks;
       passed = and_from (nat_lt (length x.passed) (2 ^ 64)) _ (lt-ltb (length x.passed) (2 ^ 64) short.passed) k.passed;
       running = fits;

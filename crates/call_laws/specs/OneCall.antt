@@ -1,9 +1,9 @@
--- One recovery: it is run, and passed over where it fails.
-use Rattle.std.specs.Prelude.{◌≡◌, ◌^◌, ◌<◌, List, [], ◌∷◌, ◌++◌, Option, Some, None, Result, Ok, Err, IsTrue, ⊤, length}
+-- One call of a command: a recovery that is run, and passed over where it fails, and what of the command may be kept.
+use Rattle.std.specs.Prelude.{◌≡◌, ◌^◌, ◌<◌, List, [], ◌∷◌, ◌++◌, Option, Some, None, Result, Ok, Err, IsTrue, length}
 use Rattle.std.specs.List.{list_all}
 use Rattle.grid_model.specs.Rows.{Cat}
 use Rattle.grid_model.specs.RowGrids.{user_name}
-use Rattle.grid_model.specs.Deltas.{all_fit, call as call_parts, mark as mark_parts, passed as passed_parts, text as text_part}
+use Rattle.grid_model.specs.Deltas.{all_fit, call as call_parts, mark as mark_parts, passed as passed_parts, text as text_part, u32, u64}
 use Rattle.grid_model.specs.Doing.{do_call}
 use Rattle.grid_model.specs.Printing.{print_failure}
 use Rattle.grid_model.specs.declared.calls.Call.{Call}
@@ -41,10 +41,17 @@ module _ {B : Type 0} (old new : World B) (kept : Cat) (rows : Journal) (x : Com
     ran_out : (ran : Result Unit Failure) (left : Command)
         → IsStep old new kept rows x call undo left after (do_call (user_name rows.cat x.user) call) (Ok ran) → IsCut y ending.Memory
 
-  -- how that ended
-  abbrev pub RoundEnds : Result ⊤ Ending → Command → Type 0
-  RoundEnds (Ok done) y = RunsOne y
+  -- how that ended: it was run, and failed so, if it did, or it was cut short
+  abbrev pub RoundEnds : Result (Option Failure) Ending → Command → Type 0
+  RoundEnds (Ok failure) y = (one : RunsOne y) × (failure ≡ failure_in one.ran)
   RoundEnds (Err e) y = IsCut y e
+
+-- What is said of the command before any of its calls may be kept.
+pub record IsKeepable (x : Command) : Type 0 where
+  pub run : IsTrue (u64 x.run).fits
+  pub number : IsTrue (u64 x.number).fits
+  pub user : IsTrue (u32 x.user).fits
+  pub line : IsTrue (text_part x.line).fits
 
 -- The marks of the command, the recoveries that it passed over and those that are left may be kept.
 pub record AreKeepable (x : Command) (left : List Call) : Type 0 where

@@ -29,6 +29,17 @@ passes_well disk plugin sink failed sink_failed other other_sink a b well other_
   sink_cause = λ f. absurd (sunk f);
 }
 
+-- with other words for the same failures
+pub passes_as : {D A P K : Type 0} (disk : D → DiskState) (plugin : P → StoreState) (sink : K → SinkState) (failed sink_failed other other_sink : Type 0)
+    (a b : Seen D A P K) → (failed → other) → (other → failed) → (other_sink → sink_failed) → CallsPass disk plugin sink failed sink_failed a b
+    → CallsPass disk plugin sink other other_sink a b
+passes_as disk plugin sink failed sink_failed other other_sink a b there back sink_back one = record {
+  frame = frame_as disk plugin failed other (record a.outside { ambient = b.outside.ambient }) b.outside there back one.frame;
+  sink_last = one.sink_last;
+  goes = one.goes;
+  sink_cause = λ f. one.sink_cause (sink_back f);
+}
+
 module _ {D A P K : Type 0} (disk : D → DiskState) (plugin : P → StoreState) (sink : K → SinkState) (failed sink_failed : Type 0) where
   -- the first of them did not fail
   pub passes_then : (a b c : Seen D A P K) → CallsPass disk plugin sink ⊥ ⊥ a b → CallsPass disk plugin sink failed sink_failed b c
