@@ -1,0 +1,426 @@
+-- A request whose calls were made, once its last commit and the rest of its reply were tried, or where it was cut short.
+use Rattle.std.proofs.Common.{◌≡◌, ◌⊎◌, inl, inr, ℕ, ◌<◌, ◌≤◌, List, [], ◌++◌, length, Option, None, Some, Result, Ok, Err, IsTrue}
+use Rattle.std.proofs.Common.{refl, sym, ap, ◌∙◌, subst, append_assoc, arith}
+use Rattle.std.specs.Prelude.{⊤}
+use Rattle.std.specs.List.{AllByRecursion}
+use Rattle.std.proofs.lemmas.Bool.{cases_lt}
+use Rattle.std.proofs.lemmas.List.{length-map}
+use Rattle.grid_outside.specs.Ambient.{AmbientState}
+use Rattle.grid_outside.specs.Device.{IsSettled}
+use Rattle.grid_outside.specs.Disk.{DiskState}
+use Rattle.grid_outside.specs.Files.{StoreState}
+use Rattle.grid_outside.specs.Sink.{AddsPart, SinkState}
+use Rattle.grid_outside.specs.Source.{SourceState}
+use Rattle.grid_outside.specs.declared.outside.Wear.TheVariants as wear
+use Rattle.grid_model.specs.Grid.{Grid}
+use Rattle.grid_model.specs.Names.{Text}
+use Rattle.grid_model.specs.Rows.{Cat}
+use Rattle.grid_model.specs.RowGrids.{grid_of}
+use Rattle.grid_model.specs.Applying.{apply_all}
+use Rattle.grid_model.specs.Meanings.{gives}
+use Rattle.grid_model.specs.Replies.{mark_line}
+use Rattle.grid_model.specs.ReplyTexts.{ArePieces, reply_text}
+use Rattle.grid_model.specs.Completing.{AreClean, EndsByRows}
+use Rattle.grid_model.specs.Sessions.{State}
+use Rattle.grid_model.specs.Working.{Done, Sent}
+use Rattle.grid_model.specs.Runs.{Request, does}
+use Rattle.grid_model.specs.declared.marks.Mark.{Mark}
+use Rattle.grid_model.specs.declared.replies.End.{End}
+use Rattle.grid_model.specs.declared.replies.Reply.{Reply}
+use Rattle.grid_journal.specs.Journal.{Journal}
+use Rattle.grid_journal.specs.Stands.{StandsFor}
+use Rattle.grid_deed.specs.Held.{IsHeld}
+use Rattle.grid_deed.specs.Safe.{AreWhole, KeepBothWhole, KeepWhole}
+use Rattle.grid_deed.proofs.Keeping.{held_stands}
+use Rattle.grid_deed.proofs.Wholes.{one_cat, whole_before}
+use Rattle.grid_headline.specs.Files.{IsKnown}
+use Rattle.grid_headline.specs.Stops.{AreFirst}
+use Rattle.grid_headline.specs.Worlds.{World}
+use Rattle.run_laws.specs.Passes.{CallsPass, Seen}
+use Rattle.run_laws.specs.Steps.{CallsNoRules, ComesAfter, Gave, IsHandledWhole, IsLeftBehind, IsLike, IsToldOf, OneOf, RequestStep, ShowsFew}
+use Rattle.run_laws.specs.Steps.{kept, kept_so, unseen as nothing_seen}
+use Rattle.run_laws.proofs.Causes.{caused-on}
+use Rattle.run_laws.proofs.Images.{keeps-then}
+use Rattle.run_laws.proofs.Known.{told-less}
+use Rattle.run_laws.proofs.Lists.{all-map}
+use Rattle.run_laws.proofs.Texts.{whole-most}
+use Rattle.run_laws.proofs.Users.{KeepsUsers, users_then}
+use Rattle.service_run.specs.Noting.{IsOutOfRoom, OneOfNote, noted, unnoted}
+use Rattle.service_run.specs.Steps.{IsKnownBy, lines_of}
+use Rattle.service_run.specs.declared.command.Command.{Command}
+use Rattle.service_run.specs.declared.ending.Ending.{Ending}
+use Rattle.service_run.specs.declared.ending.Ending.TheVariants as ending
+use Rattle.call_laws.specs.Amid.{AreRan, HoldsSo, IsAmid, IsCutShort, WereAllWhole, world}
+use Rattle.call_laws.proofs.Joined.{went_of}
+use Rattle.call_laws.proofs.Ran.{caused_on, told_on}
+use Rattle.call_laws.proofs.Rows.{first_all, named_then}
+use Rattle.call_laws.proofs.Told.{adds_all, adds_behind, lines-append}
+use Rattle.rule_run.specs.Asked.{EndOf, IsAsked, IsOnMain, IsOnWay, asked_setting, mark_lines, not_noted, noted as noted_there}
+use Rattle.rule_run.specs.Executing.{ExecuteEnds, Executes, HasRunOut, IsRested}
+use Rattle.rule_run.specs.Finishing.{FinishEnds, Finishes, HasNothing, IsDone, IsLeft, ended, reply_of, rest_text}
+use Rattle.rule_run.proofs.Leaving.{grid_ended, keeps_ended, named_ended, users_ended}
+use Rattle.rule_run.proofs.Replies.{few_told, part_of, pieces_are, text_is}
+use Rattle.rule_run.proofs.Settings.{like_self, on_way, one_image}
+
+-- What the request does with all of its marks: it sends no bytes, and with clean marks it ends by the rows.
+pub record IsWholeEnd (at : State) (request : Request) (marks : List Mark) : Type 0 where
+  pub d : Done
+  pub does_so : does at request marks ≡ gives d
+  pub all : d.left ≡ []
+  pub marks_are : d.reply.marks ≡ marks
+  pub sent : d.sent ≡ None
+  pub by_rows : AreClean marks → EndsByRows d.reply.end
+
+abbrev pub end_of_all : {at : State} {request : Request} {marks : List Mark} → IsWholeEnd at request marks → EndOf at request
+end_of_all {marks = marks} w = record { marks = marks; d = w.d; does_so = w.does_so; all = w.all; marks_are = w.marks_are }
+
+-- the pieces of its reply are the lines of its marks
+pub its_pieces : (known : ℕ → Type 0) (n : ℕ) (at : State) (request : Request) (marks : List Mark) (w : IsWholeEnd at request marks)
+    → ArePieces known n w.d.sent 0 w.d.reply.marks (mark_lines n marks)
+its_pieces known n at request marks w =
+    let F : Option Sent → Type 0 = λ o. ArePieces known n o 0 w.d.reply.marks (mark_lines n marks) in
+    let G : List Mark → Type 0 = λ ms. ArePieces known n None 0 ms (mark_lines n marks) in
+    subst F (sym w.sent) (subst G (sym w.marks_are) (pieces_are known n 0 marks))
+
+module _ {D A P K : Type 0} (disk : D → DiskState) (ambient : A → AmbientState) (plugin : P → StoreState) (sink : K → SinkState) (source : SourceState)
+    (at : State) (request : Request) (before : Cat) (x : Command) (asked : IsAsked at request before x) (from : Seen D A P K) where
+  abbrev n : ℕ
+  n = x.number
+
+  abbrev at_old : World P
+  at_old = world disk ambient plugin sink source from
+
+  abbrev stores : ℕ
+  stores = length from.outside.stores.items
+
+  -- the files that are known to be whole are so by the catalogue before it
+  known_by : (slot : ℕ) → IsKnown at_old before slot → IsKnownBy at_old before slot
+  known_by slot known = record {
+    settled = known.settled.of_main;
+    whole = λ t late. (let was = known.whole t late in record {
+      rows = was.rows;
+      files = λ slot store image is tells left. was.files slot image (record { store = store; is = is; tells = tells; of_store = left });
+    });
+    there = known.there;
+  }
+
+  pub told_by : (marks : List Mark) → AllByRecursion (IsToldOf (IsKnownBy at_old before) stores) marks
+      → AllByRecursion (IsToldOf (IsKnown at_old before) stores) marks
+  told_by marks all =
+      all-map (IsToldOf (IsKnownBy at_old before) stores) (IsToldOf (IsKnown at_old before) stores)
+      (told-less (IsKnownBy at_old before) (IsKnown at_old before) known_by stores) marks all
+
+  -- ---- cut short
+
+  module _ (new : Seen D A P K) (taken : List Mark) (short : IsCutShort disk ambient plugin sink source (asked_setting at request before x) from new taken)
+      (count : length new.outside.stores.items ≡ stores) (rest : List Mark) (ran : AreRan rest) (w : IsWholeEnd at request (taken ++ rest)) where
+    abbrev at_cut : World P
+    at_cut = world disk ambient plugin sink source new
+
+    abbrev front : AreFirst taken (taken ++ rest)
+    front = record { rest = rest; are = refl }
+
+    shown_cut : IsTrue at_old.sink.tells
+        → ShowsFew (mark_lines n (taken ++ rest)) (reply_text n w.d.reply (mark_lines n (taken ++ rest))) (length taken) at_old.sink.holds at_cut.sink.holds
+    shown_cut told =
+        let part = short.shown told in
+        record {
+          part = part_of n w.d.reply taken (taken ++ rest) front at_old.sink.holds at_cut.sink.holds part;
+          few = few_told n w.d.reply taken (taken ++ rest) front part.count part.within;
+        }
+
+    pub cut_step : RequestStep at_old at_cut at before n request
+    cut_step = record {
+      marks = taken ++ rest;
+      d = w.d;
+      does_so = w.does_so;
+      all = w.all;
+      marks_are = w.marks_are;
+      taken = taken;
+      first = front;
+      told_of = λ told. told_by (taken ++ rest)
+          (told_on disk ambient plugin sink source (asked_setting at request before x) from new taken rest short.marks ran told);
+      by_rows = w.by_rows;
+      pieces = mark_lines n (taken ++ rest);
+      pieces_are = its_pieces (IsKnown at_old before) n at request (taken ++ rest) w;
+      shown = shown_cut;
+      caused = caused_on disk ambient plugin sink source (asked_setting at request before x) from new taken rest short.marks ran count;
+      gave = short.marks.gave;
+      images = short.safe.images (end_of_all w) front;
+    }
+
+    pub cut_executes : (e : Ending) → HasRunOut disk ambient plugin sink source at request before x from new e → (after : Journal)
+        → Executes disk ambient plugin sink source at request before x from new (Err e) after
+    cut_executes e out after = record {
+      step = cut_step;
+      ends = out;
+      way = short.safe.main;
+      whole = λ told settled were. short.safe.whole were told settled;
+    }
+
+  -- ---- ended
+
+  module _ (mid : Seen D A P K) (y : Command) (rows : Journal) (taken : List Mark)
+      (amid : IsAmid disk ambient plugin sink source (asked_setting at request before x) from mid y rows taken)
+      (main_last : (disk mid.outside.main).last ≤ mid.outside.moments)
+      (e : End) (w : IsWholeEnd at request taken) (reply_is : w.d.reply ≡ reply_of taken y.passed e)
+      (state_is : w.d.state ≡ record at { grid = grid_of rows.cat }) (new : Seen D A P K) (result : Result ⊤ Ending) (after : Journal) where
+    abbrev at_mid : World P
+    at_mid = world disk ambient plugin sink source mid
+
+    abbrev at_new : World P
+    at_new = world disk ambient plugin sink source new
+
+    abbrev holds : HoldsSo disk ambient plugin sink source (asked_setting at request before x) from mid y.untold rows taken
+    holds = amid.holds
+
+    abbrev rest : Text
+    rest = rest_text n y.passed e
+
+    abbrev text : Text
+    text = y.untold ++ rest
+
+    abbrev pieces : List Text
+    pieces = mark_lines n taken
+
+    main_told : IsTrue at_old.main.tells → IsTrue at_mid.main.tells
+    main_told told = subst IsTrue (sym amid.passes.frame.main.tells) told
+
+    sink_told : IsTrue at_old.sink.tells → IsTrue at_mid.sink.tells
+    sink_told told = subst IsTrue (sym amid.passes.goes.tells) told
+
+    -- what main had was whole
+    whole_kept : WereAllWhole at_old before → IsTrue at_old.main.tells → IsSettled at_old.main → (t : ℕ) → mid.outside.moments < t
+        → AreWhole plugin t holds.cat mid.outside.stores.items
+    whole_kept were told settled t late =
+        amid.safe.whole were told settled t at_mid.main.holds holds.cat (omega (arith, late, amid.passes.frame.drawn))
+        (at_mid.main.now (main_told told) t (omega (arith, late, main_last)))
+        (held_stands holds.cat at_mid.main rows holds.held (main_told told))
+
+    -- ---- what was left
+
+    left_behind : IsLeftBehind before n w.d (ended n rows.cat)
+    left_behind = record {
+      grid = grid_ended n rows.cat ∙ sym (ap (λ (s : State). s.grid) state_is);
+      run = amid.beside.run;
+      last = refl;
+      rules = amid.beside.rules;
+      stores = amid.beside.stores;
+      pending = sym asked.none;
+      keeps = keeps-then before rows.cat (ended n rows.cat) amid.beside.keeps (keeps_ended n rows.cat);
+    }
+
+    marks_are : y.marks ≡ taken
+    marks_are = ap (λ (z : Command). z.marks) amid.command ∙ ap (λ (z : Command). z.marks ++ taken) asked.begun
+
+    -- where nothing was to be kept main has what it had, and no mark was taken
+    rows_kept : rows.staged ≡ [] → rows.cat ≡ holds.cat
+    rows_kept none =
+        let both : Ok holds.cat ≡ Ok rows.cat = sym (ap (apply_all holds.cat) none) ∙ holds.held.staged in
+        let same : holds.cat ≡ rows.cat = cc both in
+        sym same
+
+    kept_before : (c : Cat) (told : List Mark) → IsOnMain at request before x c told → c.pending ≡ None → c ≡ before
+    kept_before c told (not_noted same none) free = same
+    kept_before c told (noted_there p amid is line marks call named waits) free = absurd (let both : Some p ≡ None = sym is ∙ free in cc both)
+
+    module _ (nothing : HasNothing rows y) where
+      pub rows_before : rows.cat ≡ before
+      rows_before =
+          let same = rows_kept nothing.staged in
+          same ∙ kept_before holds.cat holds.told holds.on_main (sym (ap (λ (c : Cat). c.pending) same) ∙ nothing.pending)
+
+      pub none_taken : taken ≡ []
+      none_taken = sym marks_are ∙ nothing.marks
+
+    module _ (finishes : Finishes at_mid.main at_new.main at_mid.sink at_new.sink holds.cat mid.outside.moments n rows y text result after) where
+      abbrev left : Cat
+      left = finishes.left
+
+      comes_by : IsLeft n rows y left → ComesAfter before n w.d left
+      comes_by (inl is) = subst (ComesAfter before n w.d) (sym is) (kept left_behind)
+      comes_by (inr (nothing, is)) =
+          let same = is ∙ rows_before nothing in
+          nothing_seen (subst (IsLike before) (sym same) (like_self before)) (w.marks_are ∙ none_taken nothing)
+          (ap (λ (s : State). s.grid) state_is ∙ ap grid_of (rows_before nothing))
+
+      comes : ComesAfter before n w.d left
+      comes = comes_by finishes.is_left
+
+      grid_by : IsLeft n rows y left → grid_of left ≡ grid_of rows.cat
+      grid_by (inl is) = ap grid_of is ∙ grid_ended n rows.cat
+      grid_by (inr (nothing, is)) = ap grid_of is
+
+      way_by : IsLeft n rows y left → IsOnWay before x.line left
+      way_by (inl is) =
+          let its : IsOnWay before x.line (ended n rows.cat) = record {
+            call = tt;
+            line_is = tt;
+            named = named_then before rows.cat (ended n rows.cat) amid.beside.named (named_ended n rows.cat);
+          } in
+          subst (IsOnWay before x.line) (sym is) its
+      way_by (inr (nothing, is)) =
+          subst (IsOnWay before x.line) (sym (is ∙ rows_kept nothing.staged)) (on_way at request before x asked holds.cat holds.told holds.on_main)
+
+      users_rows : KeepsUsers before rows.cat
+      users_rows = record { there = amid.beside.users; names = amid.beside.names }
+
+      users_by : IsLeft n rows y left → KeepsUsers before left
+      users_by (inl is) = subst (KeepsUsers before) (sym is) (users_then before rows.cat (ended n rows.cat) users_rows (users_ended n rows.cat))
+      users_by (inr (nothing, is)) = subst (KeepsUsers before) (sym is) users_rows
+
+      pending_by : IsLeft n rows y left → left.pending ≡ None
+      pending_by (inl is) = ap (λ (c : Cat). c.pending) is
+      pending_by (inr (nothing, is)) = ap (λ (c : Cat). c.pending) is ∙ nothing.pending
+
+      rules_by : IsLeft n rows y left → left.rules ≡ before.rules
+      rules_by (inl is) = ap (λ (c : Cat). c.rules) is ∙ amid.beside.rules
+      rules_by (inr (nothing, is)) = ap (λ (c : Cat). c.rules) is ∙ amid.beside.rules
+
+      stores_by : IsLeft n rows y left → left.stores ≡ before.stores
+      stores_by (inl is) = ap (λ (c : Cat). c.stores) is ∙ amid.beside.stores
+      stores_by (inr (nothing, is)) = ap (λ (c : Cat). c.stores) is ∙ amid.beside.stores
+
+      -- ---- what was told
+
+      text_all : lines_of n holds.told ++ text ≡ reply_text n w.d.reply pieces
+      text_all =
+          ap (λ (u : Text). lines_of n holds.told ++ (u ++ rest)) holds.untold_is
+          ∙ sym (append_assoc (lines_of n holds.told) (lines_of n holds.fresh) rest)
+          ∙ ap (λ (t : Text). t ++ rest) (sym (ap (lines_of n) holds.taken_are ∙ lines-append n holds.told holds.fresh))
+          ∙ sym (text_is n (reply_of taken y.passed e) taken)
+          ∙ ap (λ (r : Reply). reply_text n r pieces) (sym reply_is)
+
+      part_all : IsTrue at_old.sink.tells → (shown : Text) → AddsPart text at_mid.sink.holds shown
+          → AddsPart (reply_text n w.d.reply pieces) at_old.sink.holds shown
+      part_all told shown part =
+          subst (λ (t : Text). AddsPart t at_old.sink.holds shown) text_all
+          (adds_behind (lines_of n holds.told) text at_old.sink.holds at_mid.sink.holds shown (holds.shown told) part)
+
+      pub shown_all : IsTrue at_old.sink.tells → ShowsFew pieces (reply_text n w.d.reply pieces) (length taken) at_old.sink.holds at_new.sink.holds
+      shown_all told =
+          let part = part_all told at_new.sink.holds (finishes.leaves.shown (sink_told told)) in
+          record { part = part; few = omega (arith, whole-most pieces part.count, length-map taken (mark_line n)) }
+
+      -- ---- what a stop leaves
+
+      first_told : AreFirst holds.told taken
+      first_told = record { rest = holds.fresh; are = holds.taken_are }
+
+      image_now : IsTrue at_old.sink.tells → (main shown : Text) → OneOfNote holds.cat left text at_mid.sink.holds main shown
+          → OneOf at before n request w.d pieces at_old.sink.holds main shown
+      image_now told main shown (unnoted stands still) =
+          one_image at request before x asked (end_of_all w) holds.told first_told holds.cat holds.on_main at_old.sink.holds main shown stands
+          (adds_all (lines_of n holds.told) at_old.sink.holds shown (still ∙ holds.shown told))
+      image_now told main shown (noted stands part) = kept_so left comes stands (part_all told shown part)
+
+      way_now : (main : Text) (c : Cat) → StandsFor main holds.cat ⊎ StandsFor main left → StandsFor main c → IsOnWay before x.line c
+      way_now main c (inl was) stands =
+          subst (IsOnWay before x.line) (sym (one_cat main holds.cat c was stands)) (on_way at request before x asked holds.cat holds.told holds.on_main)
+      way_now main c (inr now) stands = subst (IsOnWay before x.line) (sym (one_cat main left c now stands)) (way_by finishes.is_left)
+
+      module _ (failed sink_failed : Type 0) (passes : CallsPass disk plugin sink failed sink_failed mid new)
+          (same : new.outside.ambient ≡ mid.outside.ambient)
+          (whole : KeepBothWhole plugin mid.outside.moments holds.cat rows.cat at_mid.main at_new.main mid.outside.stores.items new.outside.stores.items) where
+        pub gave_all : IsTrue (ambient new.outside.ambient).tells → Gave taken (ambient from.outside.ambient) (ambient new.outside.ambient)
+        gave_all =
+            let G : A → Type 0 = λ a. IsTrue (ambient a).tells → Gave taken (ambient from.outside.ambient) (ambient a) in
+            subst G (sym same) amid.marks.gave
+
+        pub images_all : IsTrue at_old.main.tells → IsTrue at_old.sink.tells → IsSettled at_old.main → IsSettled at_old.sink → (t : ℕ) (main shown : Text)
+            → from.outside.moments < t → at_new.main.left t main → at_new.sink.left t shown
+            → OneOf at before n request w.d pieces at_old.sink.holds main shown
+        images_all told s_told settled s_settled t main shown late l s_left = elim (cases_lt mid.outside.moments t) [
+          | inl now ↦ image_now s_told main shown
+              (finishes.leaves.images (main_told told) (sink_told s_told) (holds.settled told settled) (holds.sink_settled s_told s_settled) t main shown now l
+              s_left)
+          | inr early ↦ amid.safe.images (end_of_all w) (first_all taken) told s_told settled s_settled t main shown late
+              (passes.frame.main.earlier t main early l) (passes.goes.earlier t shown early s_left)
+        ]
+
+        abbrev pub done_step : RequestStep at_old at_new at before n request
+        done_step = record {
+          marks = taken;
+          d = w.d;
+          does_so = w.does_so;
+          all = w.all;
+          marks_are = w.marks_are;
+          taken = taken;
+          first = first_all taken;
+          told_of = λ told. told_by taken (amid.marks.told_of told);
+          by_rows = w.by_rows;
+          pieces = pieces;
+          pieces_are = its_pieces (IsKnown at_old before) n at request taken w;
+          shown = shown_all;
+          caused = caused-on at_old at_mid at_new taken (went_of disk plugin sink failed sink_failed ambient source mid new passes) amid.marks.caused;
+          gave = gave_all;
+          images = images_all;
+        }
+
+        way_all : IsTrue at_old.main.tells → IsSettled at_old.main → (t : ℕ) (main : Text) (c : Cat) → from.outside.moments < t → at_new.main.left t main
+            → StandsFor main c → IsOnWay before x.line c
+        way_all told settled t main c late l stands = elim (cases_lt mid.outside.moments t) [
+          | inl now ↦ way_now main c (finishes.leaves.main (main_told told) (holds.settled told settled) t main now l) stands
+          | inr early ↦ amid.safe.main told settled t main c late (passes.frame.main.earlier t main early l) stands
+        ]
+
+        whole_all : KeepWhole plugin from.outside.moments before at_old.main at_new.main from.outside.stores.items new.outside.stores.items
+        whole_all told settled were t main c late l stands = elim (cases_lt mid.outside.moments t) [
+          | inl now ↦ whole (amid.whole_now were told settled) (main_told told) (holds.settled told settled) (whole_kept were told settled) t main c
+              now l stands
+          | inr early ↦ whole_before plugin t mid.outside.moments c mid.outside.stores.items new.outside.stores.items early passes.frame.stores
+              (amid.safe.whole were told settled t main c late (passes.frame.main.earlier t main early l) stands)
+        ]
+
+        -- ---- how it ended
+
+        module _ (calls : CallsNoRules request → ⊥) (done : IsDone at_mid.main at_new.main at_mid.sink at_new.sink left text after) where
+          abbrev IsWhole : Cat → Type 0
+          IsWhole c = IsHandledWhole at_old at_new at before n request done_step c (record at { grid = grid_of c })
+
+          whole_left : IsWhole left
+          whole_left = record {
+            state = state_is ∙ ap (λ (g : Grid). record at { grid = g }) (sym (grid_by finishes.is_left));
+            grid = refl;
+            all_taken = refl;
+            follows = comes;
+            stands = λ told. held_stands left at_new.main after done.held (subst IsTrue (sym passes.frame.main.tells) (main_told told));
+            text = λ told.
+                done.sink (sink_told told)
+                ∙ ap (λ (h : Text). h ++ text) (holds.shown told)
+                ∙ append_assoc at_old.sink.holds (lines_of n holds.told) text
+                ∙ ap (λ (t : Text). at_old.sink.holds ++ t) text_all;
+            still = λ no_sweep no_rules none same_grid told. absurd (calls no_rules);
+            main_settled = λ told settled. done.settled (main_told told) (holds.settled told settled);
+            sink_settled = λ told settled. done.sink_settled (sink_told told) (holds.sink_settled told settled);
+          }
+
+          pub handled_whole : IsWhole after.cat
+          handled_whole = subst IsWhole (sym done.cat) whole_left
+
+          pub rested : IsRested before at_new.main after
+          rested = record {
+            held = subst (λ (c : Cat). IsHeld c at_new.main after) (sym done.cat) done.held;
+            staged = done.staged;
+            pending = ap (λ (c : Cat). c.pending) done.cat ∙ pending_by finishes.is_left;
+            rules = ap (λ (c : Cat). c.rules) done.cat ∙ rules_by finishes.is_left;
+            stores = ap (λ (c : Cat). c.stores) done.cat ∙ stores_by finishes.is_left;
+            users = subst (KeepsUsers before) (sym done.cat) (users_by finishes.is_left);
+          }
+
+        out_of : (e : Ending) → IsOutOfRoom at_mid.main at_new.main at_mid.sink at_new.sink e
+            → HasRunOut disk ambient plugin sink source at request before x from new e
+        out_of ending.Disk out = tt
+        out_of ending.Sink out = tt
+        out_of ending.Memory out = tt
+        out_of (ending.Worn wear.Runs place) out = let no = out.0 in absurd (cc no)
+        out_of (ending.Worn wear.Vaults place) out = let no = out.0 in absurd (cc no)
+        out_of (ending.Worn wear.Log place) out = (out.1, λ told. out.2 (main_told told))
+
+        ends_so : (CallsNoRules request → ⊥) → (r : Result ⊤ Ending) → FinishEnds at_mid.main at_new.main at_mid.sink at_new.sink left text r after
+            → ExecuteEnds disk ambient plugin sink source at request before x from new done_step r after
+        ends_so calls (Ok done) ends = (handled_whole calls ends, rested calls ends)
+        ends_so calls (Err e) ends = out_of e ends
+
+        pub executes : (CallsNoRules request → ⊥) → Executes disk ambient plugin sink source at request before x from new result after
+        executes calls = record { step = done_step; ends = ends_so calls result finishes.ends; way = way_all; whole = whole_all }
