@@ -1,0 +1,2 @@
+pub mod PutSteps
+pub mod WriteSteps
