@@ -113,7 +113,7 @@ module _ {B : Type 0} (old new : World B) (at : State) (c : Cat) (number : ℕ) 
     marks_are = marks_none;
     taken = [];
     first = record { rest = []; are = refl };
-    told_of = tt;
+    told_of = λ told. tt;
     by_rows = λ clean. subst EndsByRows (sym (ap (λ (r : Reply). r.end) s.reply_is)) tt;
     pieces = [];
     pieces_are = (let Q : List Mark → Type 0 = λ ms. ArePieces (IsKnown old c) number s.d.sent 0 ms [] in subst Q (sym marks_none) tt);
@@ -155,7 +155,7 @@ module _ {B : Type 0} (old new : World B) (at : State) (c : Cat) (number : ℕ) 
         follows = kept behind;
         stands = stands;
         text = λ told. all told ∙ ap (λ (t : Text). old.sink.holds ++ t) (sym text_is);
-        still = λ no_sweep none same told. absurd (differs (sym (ap (λ (x : State). x.grid) s.state) ∙ same));
+        still = λ no_sweep no_calls none same told. absurd (differs (sym (ap (λ (x : State). x.grid) s.state) ∙ same));
         main_settled = λ told settled. settled_new told;
         sink_settled = λ told settled. put.settled told;
       }

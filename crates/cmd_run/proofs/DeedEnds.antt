@@ -120,7 +120,7 @@ worn_vaults new s request asks next is more stands what place same =
     let what_is : wear.Vaults ≡ what = cc in
     let place_is : next ≡ place = cc in
     let W : Wear → Type 0 = λ w. IsWornAt new s request place w in
-    subst W what_is (sym place_is ∙ is, omega (arith, more, place_is), stands, asks)
+    subst W what_is (omega (arith, more, place_is), (λ told. (s.store.cat, stands told, sym is ∙ place_is)), asks)
 
 -- it is refused by its row
 pub refused_said : (s : Server) (request : Request) (id : ℕ) (op : Operation) (asks : AsksToDo s id op request) → ((marks : List Mark) → sent_by (begun (grid_of s.store.cat) marks) asks.of.user op ≡ None) → (r : Refusal) → row (grid_of s.store.cat) (user_name s.store.cat id) op ≡ Err r → IsOfGrid r

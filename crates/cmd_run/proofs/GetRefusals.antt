@@ -1,38 +1,34 @@
 -- A get of a session: who asks, and why it is refused.
-use Rattle.std.proofs.Common.{◌≡◌, ◌==◌, ℕ, ◌<◌, Bool, true, false, List, [], ◌∷◌, Option, None, Some, Ok, Err, IsTrue, refl, sym, ap, ◌∙◌, subst, arith, eqb-true}
+use Rattle.std.proofs.Common.{◌≡◌, ◌==◌, ℕ, ◌<◌, Bool, true, false, [], ◌∷◌, Option, None, Some, Ok, Err, IsTrue, refl, sym, ap, ◌∙◌, subst, arith, eqb-true}
 use Rattle.std.specs.Prelude.{option_map, ◌&&◌, nat_lt}
 use Rattle.std.proofs.lemmas.Bool.{and_parts, ltb-true}
 use Rattle.grid_model.specs.Applying.{IsMade, is_storage}
-use Rattle.grid_model.specs.Completing.{IsOfGrid}
-use Rattle.grid_model.specs.Grid.{Grid, Object, Replica}
-use Rattle.grid_model.specs.Levels.{may}
-use Rattle.grid_model.specs.Maps.{get, has}
+use Rattle.grid_model.specs.Maps.{get}
 use Rattle.grid_model.specs.Names.{Text, Path}
 use Rattle.grid_model.specs.Obeying.{command}
-use Rattle.grid_model.specs.Operations.Common.{needs, object_there}
-use Rattle.grid_model.specs.Operations.Replicas.{Source, asked_there, first_of, got}
+use Rattle.grid_model.specs.Operations.Replicas.{Source, got}
 use Rattle.grid_model.specs.Operations.Table.{get as fetch}
 use Rattle.grid_model.specs.Deeds.{Act, deed, sending}
 use Rattle.grid_model.specs.Meanings.{gives}
 use Rattle.grid_model.specs.Orders.{works}
-use Rattle.grid_model.specs.Refusing.{Or, ◌>>=◌, there, unless}
+use Rattle.grid_model.specs.Refusing.{Or, ◌>>=◌}
 use Rattle.grid_model.specs.RowGrids.{user_name}
 use Rattle.grid_model.specs.Rows.{Cat, resource}
 use Rattle.grid_model.specs.Runs.{Request, does}
 use Rattle.grid_model.specs.Sessions.{Session, State}
-use Rattle.grid_model.specs.Trees.{candidates}
 use Rattle.grid_model.specs.Working.{Done, begun, refused_at_once}
 use Rattle.grid_model.specs.declared.deltas.ResourceRow.{ResourceRow}
-use Rattle.grid_model.specs.declared.grid.Level.TheVariants.{Read}
 use Rattle.grid_model.specs.declared.plans.OldFile.{OldFile}
 use Rattle.grid_model.specs.declared.refusal.Refusal.{Refusal}
-use Rattle.grid_model.specs.declared.refusal.Refusal.TheVariants.{NoAccess, NoLogin, NoObject, NoReplica, NoResource}
+use Rattle.grid_model.specs.declared.refusal.Refusal.TheVariants.{NoLogin}
 use Rattle.grid_model.specs.declared.replies.End.TheVariants as end
 use Rattle.file_laws.proofs.Members.{in_of}
 use Rattle.tables_laws.proofs.Numbered.{found_in}
 use Rattle.tables_laws.proofs.Rows.{in_from_all, in_from_any}
 use Rattle.tables_laws.proofs.Sound.{IsSound, sound-made}
 use Rattle.tables_laws.proofs.Standing.{ReplicaStands, ResourceStands}
+use Rattle.chain_laws.proofs.OfDeeds.{got_of}
+use Rattle.chain_laws.proofs.OfGrid.{OfGrid}
 use Rattle.sess.specs.Places.{at, user_of}
 use Rattle.sess.proofs.PlacesLemmas.{sessions_of-user, sessions_of-nobody}
 use Rattle.plan_object.specs.Sending.{Sends}
@@ -41,35 +37,6 @@ use Rattle.cmd_run.specs.Fits.{state_of}
 use Rattle.cmd_run.specs.Gets.{AsksToGet, get_request}
 use Rattle.cmd_run.specs.Obeys.{SaysOnly}
 use Rattle.cmd_run.proofs.Operating.{with_login, without_login, not_too_much, refused_so, refused_work}
-
--- ---- a refusal is one of the grid
-
-of_there : (o : Option Object) (r : Refusal) → there o NoObject ≡ Err r → IsOfGrid r
-of_there None r is = let same : NoObject ≡ r = cc in subst IsOfGrid same tt
-of_there (Some o) r is = absurd cc
-
-of_unless : (b : Bool) (s r : Refusal) → IsOfGrid s → unless b s ≡ Err r → IsOfGrid r
-of_unless true s r of_grid is = absurd cc
-of_unless false s r of_grid is = let same : s ≡ r = cc in subst IsOfGrid same of_grid
-
-of_asked : (g : Grid) (asked : Option Text) (r : Refusal) → asked_there g asked ≡ Err r → IsOfGrid r
-of_asked g None r is = absurd cc
-of_asked g (Some name) r is = of_unless (has g.resources name) NoResource r tt is
-
-of_first : (g : Grid) (o : Object) (es : List (ℕ × Replica)) (r : Refusal) → first_of g o es ≡ Err r → IsOfGrid r
-of_first g o [] r is = let same : NoReplica ≡ r = cc in subst IsOfGrid same tt
-of_first g o (e ∷ es) r is = absurd cc
-
-of_both : {A : Type 0} (a : Or A) (next : A → Or Source) (r : Refusal) → ((s : Refusal) → a ≡ Err s → IsOfGrid s) → ((x : A) → next x ≡ Err r → IsOfGrid r) → (a >>= next) ≡ Err r → IsOfGrid r
-of_both (Ok x) next r first later is = later x is
-of_both (Err s) next r first later is = let same : s ≡ r = cc in subst IsOfGrid same (first s refl)
-
-pub got_of_grid : (g : Grid) (user : Text) (p : Path) (asked : Option Text) (r : Refusal) → got g user p asked ≡ Err r → IsOfGrid r
-got_of_grid g user p asked r is =
-    of_both (object_there g p) (λ o. needs g user p Read >>= (λ _. asked_there g asked >>= (λ _. first_of g o (candidates g.resources o asked)))) r (of_there (get g.objects p))
-    (λ o allowed. of_both (needs g user p Read) (λ _. asked_there g asked >>= (λ _. first_of g o (candidates g.resources o asked))) r (λ s e. of_unless (may g user p Read) NoAccess s tt e)
-    (λ _ known. of_both (asked_there g asked) (λ _. first_of g o (candidates g.resources o asked)) r (of_asked g asked)
-    (λ _ first. of_first g o (candidates g.resources o asked) r first) known) allowed) is
 
 -- ---- the slot of a file
 
@@ -140,5 +107,5 @@ module _ (server : Server) (session : ℕ) (p : Path) (asked : Option Text) (req
       all = refl;
       state = refl;
       grid = refl;
-      by_rows = got_of_grid now.grid (user_name c user) p asked r why;
+      by_rows = subst OfGrid why (got_of now.grid (user_name c user) p asked);
     }

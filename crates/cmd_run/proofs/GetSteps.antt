@@ -149,7 +149,7 @@ module _ {B : Type 0} (old new : World B) (server : Server) (n : ℕ) (request :
     marks_are = refl;
     taken = t.m ∷ [];
     first = record { rest = []; are = refl };
-    told_of = (t.told_of, tt);
+    told_of = λ told. (t.told_of, tt);
     by_rows = t.by_rows;
     pieces = piece ∷ [];
     pieces_are = ((bytes, t.sends, refl), tt);
@@ -195,7 +195,7 @@ module _ {B : Type 0} (old new : World B) (server : Server) (n : ℕ) (request :
         follows = kept behind;
         stands = stands;
         text = λ told. put_all (mid_tells told) ∙ ap (λ (x : Text). x ++ text) (all.all told) ∙ append_assoc old.sink.holds lines text ∙ ap (λ (x : Text). old.sink.holds ++ x) (sym reply_is);
-        still = λ no_sweep none same told. absurd (cc none);
+        still = λ no_sweep no_calls none same told. absurd (cc none);
         main_settled = λ told settled. settled_new told;
         sink_settled = λ told settled. put.settled (mid_tells told);
       }

@@ -1,9 +1,12 @@
+pub mod CallTexts
+pub mod Called
 pub mod ChangeEnds
 pub mod ChangeLemmas
 pub mod CopyEnds
 pub mod CopyLemmas
 pub mod DeedEnds
 pub mod DeedMarks
+pub mod Executed
 pub mod FetchLemmas
 pub mod GetEnds
 pub mod GetRefusals
@@ -16,11 +19,8 @@ pub mod LeftOrphans
 pub mod Listings
 pub mod LoginLemmas
 pub mod Meant
-pub mod Noted
 pub mod NotRefused
-pub mod OfDeeds
-pub mod OfGrid
-pub mod OfRows
+pub mod Noted
 pub mod Operated
 pub mod Operating
 pub mod PutEnds
@@ -32,6 +32,7 @@ pub mod Resting
 pub mod SayLemmas
 pub mod SentFiles
 pub mod SilentSweeps
+pub mod SilentVerbs
 pub mod SumEnds
 pub mod SumLemmas
 pub mod SweepEnds

@@ -27,11 +27,11 @@ use Rattle.grid_model.specs.declared.refusal.Refusal.TheVariants.{BadQuery, NoOb
 use Rattle.grid_model.specs.declared.replies.End.TheVariants as end
 use Rattle.grid_model.proofs.WithoutRules.{answers, points_alone}
 use Rattle.query_parse.proofs.TextLemmas.{one_place, one_text, never_both}
+use Rattle.chain_laws.proofs.OfGrid.{OfGrid, then_of, there_of, unless_of}
 use Rattle.sess.specs.Places.{at, user_of}
 use Rattle.cmd_run.specs.declared.server.Server.{Server}
 use Rattle.cmd_run.specs.Fits.{state_of}
 use Rattle.cmd_run.specs.Obeys.{SaysOnly, SaysRows}
-use Rattle.cmd_run.proofs.OfGrid.{OfGrid, then_of, there_of, unless_of}
 use Rattle.cmd_run.proofs.Operating.{with_login}
 use Rattle.cmd_run.proofs.WorkingLemmas.{login, who}
 

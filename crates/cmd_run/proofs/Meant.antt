@@ -3,7 +3,7 @@ use Rattle.std.proofs.Common.{◌≡◌, true, false, refl}
 use Rattle.std.specs.Prelude.{nat_le}
 use Rattle.grid_model.specs.Names.{Text}
 use Rattle.grid_model.specs.Limits.{object_size}
-use Rattle.grid_model.specs.Orders.{Order, lists, lists_triples, logs_in, logs_out, queries, quits, sweeps, works}
+use Rattle.grid_model.specs.Orders.{Order, executes, lists, lists_triples, logs_in, logs_out, queries, quits, sweeps, works}
 use Rattle.grid_model.specs.Operations.Table.{mkuser, mkgroup, mkdir, rmdir, mv, chmod, inherit, addmember, rmmember, mkresc, addchild, modresc, put, get, repl, chksum, trim, rm, addmeta, rmmeta}
 use Rattle.grid_model.specs.Sessions.{State}
 use Rattle.grid_model.specs.declared.grid.ResourceKind.TheVariants.{Storage}
@@ -11,6 +11,7 @@ use Rattle.grid_model.specs.declared.requests.Verb.{Verb}
 use Rattle.grid_model.specs.declared.requests.Verb.TheVariants as verb
 use Rattle.cmd_read.specs.Orders.{MeansOrder, promised}
 use Rattle.query_parse.proofs.EachText.{each_text}
+use Rattle.rule_texts.proofs.EachText.{each_call}
 use Rattle.grid_headline.specs.Reads.{texts, is_built}
 use Rattle.cmd_run.specs.Asking.{HasGoodWords, MeansHeld, is_end}
 
@@ -45,6 +46,7 @@ order_of at (verb.AddMeta kind name a v u) body built good = (works (addmeta (re
 order_of at (verb.RmMeta kind name a v u) body built good = (works (rmmeta (record { of = good.0; attribute = a; value = v; unit = u })) 0, (good.0, good.1, refl))
 order_of at (verb.LsMeta kind name) body built good = (lists_triples good.0, (good.0, good.1, refl))
 order_of at (verb.Query text) body built good = let read = each_text text in (queries read.0, (read.0, read.1, refl))
+order_of at (verb.Exec text) body built good = let read = each_call at.rules text in (executes read.0, (read.0, read.1, refl))
 order_of at other body built good = absurd (cc built)
 
 -- the same with what is held of the body

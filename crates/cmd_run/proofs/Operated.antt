@@ -2,7 +2,7 @@
 use Rattle.std.proofs.Common.{◌≡◌, ℕ, List, Option, Some, None, Ok, Err, refl, sym, subst}
 use Rattle.std.specs.Prelude.{Result, is_some, true, false}
 use Rattle.grid_model.specs.Names.{Text}
-use Rattle.grid_model.specs.Operations.Table.{Operation, row}
+use Rattle.grid_model.specs.Operations.Table.{Operation}
 use Rattle.grid_model.specs.Rows.{Cat}
 use Rattle.grid_model.specs.RowGrids.{grid_of, user_name}
 use Rattle.grid_model.specs.Runs.{Request}
@@ -12,14 +12,15 @@ use Rattle.grid_model.specs.declared.plans.PlanError.TheVariants.{Refused}
 use Rattle.grid_model.specs.declared.replies.End.TheVariants as end
 use Rattle.grid_model.specs.declared.refusal.Refusal.{Refusal}
 use Rattle.grid_model.specs.declared.requests.Verb.{Verb}
+use Rattle.chain_laws.proofs.OfGrid.{OfGrid}
+use Rattle.chain_laws.proofs.OfOperations.{of_row}
 use Rattle.sess.specs.Places.{at, user_of}
 use Rattle.cmd_run.specs.declared.server.Server.{Server}
 use Rattle.cmd_run.specs.Fits.{state_of}
 use Rattle.cmd_run.specs.Keeps.{ChangesOrNone, IsChange}
 use Rattle.cmd_run.specs.Obeys.{SaysOnly, ChangesGrid}
 use Rattle.cmd_run.specs.Operating.{operation_by, PlansBy, AsksBy, AsksToOperate}
-use Rattle.cmd_run.proofs.OfGrid.{OfGrid}
-use Rattle.cmd_run.proofs.OfRows.{RowOfGrid, IsSilent, row_of_grid, silent_by}
+use Rattle.cmd_run.proofs.SilentVerbs.{IsSilent, silent_by}
 use Rattle.cmd_run.proofs.WorkingLemmas.{says_row, changes_of, is_change}
 
 module _ (s : Server) where
@@ -44,9 +45,6 @@ module _ (s : Server) where
     abbrev name : Text
     name = user_name c user
 
-    of_row : OfGrid (row (grid_of c) name op)
-    of_row = subst (RowOfGrid (grid_of c) name) by_verb (row_of_grid (grid_of c) name v)
-
     -- what was planned for a verb is asked for
     pub asks_by : (planned : Result (List Delta) PlanError) (request : Request) → PlansBy c name (operation_by v) planned → AsksBy session (operation_by v) request
         → AsksToOperate s planned request
@@ -61,7 +59,7 @@ module _ (s : Server) where
           logged_in = logged_in;
           plans = subst P by_verb plans_it;
           silent = subst (IsSilent (grid_of c) name) by_verb (silent_by (grid_of c) name v);
-          of_grid = λ r is. subst OfGrid is of_row;
+          of_grid = λ r is. subst OfGrid is (of_row (grid_of c) name op);
         }
 
 -- an operation there is

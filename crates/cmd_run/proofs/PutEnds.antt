@@ -54,7 +54,7 @@ use Rattle.file_laws.specs.Plans.{IsPlan, Turns}
 use Rattle.grid_headline.specs.Numbers.{last_vault}
 use Rattle.run_laws.specs.Passes.{CallsPass}
 use Rattle.plan_object.specs.Writing.{FindsTargets}
-use Rattle.cmd_run.proofs.OfGrid.{OfGrid, put_of}
+use Rattle.chain_laws.proofs.OfGrid.{OfGrid, put_of}
 use Rattle.cmd_run.specs.Puts.{wanted, AsksToPut, PlansPut, operation_of}
 use Rattle.cmd_run.specs.Writes.{Kept, Writing, WriteEnds, IsWritten}
 use Rattle.cmd_run.proofs.ChangeEnds.{rests_self, fits_on}

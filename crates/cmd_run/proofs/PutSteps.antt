@@ -116,7 +116,7 @@ module _ {B : Type 0} (old new : World B) (at : State) (c mid fin : Cat) (n : �
     marks_are = refl;
     taken = m ∷ [];
     first = record { rest = []; are = refl };
-    told_of = (t.told_of, tt);
+    told_of = λ told. (t.told_of, tt);
     by_rows = t.by_rows;
     pieces = pieces;
     pieces_are = (refl, tt);
@@ -158,7 +158,7 @@ module _ {B : Type 0} (old new : World B) (at : State) (c mid fin : Cat) (n : �
         follows = kept behind;
         stands = stands;
         text = λ told. all told ∙ ap (λ (x : Text). old.sink.holds ++ x) (sym text_is);
-        still = λ no_sweep none same told. absurd (cc none);
+        still = λ no_sweep no_calls none same told. absurd (cc none);
         main_settled = λ told settled. settled_new told;
         sink_settled = λ told settled. put.settled told;
       }

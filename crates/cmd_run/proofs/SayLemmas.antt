@@ -90,7 +90,7 @@ module _ {D A P : Type 0} (disk : D → DiskState) (ambient : A → AmbientState
           marks_are = marks_none;
           taken = [];
           first = record { rest = []; are = refl };
-          told_of = tt;
+          told_of = λ told. tt;
           by_rows = λ clean. by_rows;
           pieces = [];
           pieces_are = pieces_are;
@@ -112,7 +112,7 @@ module _ {D A P : Type 0} (disk : D → DiskState) (ambient : A → AmbientState
       follows = unseen (let L : Cat → Type 0 = λ x. IsLike before.store.cat x in subst L (ap (λ x. x.cat) store_same) (like_self before.store.cat)) marks_none s.grid;
       stands = λ told. (let S : D → Type 0 = λ m. StandsFor (disk m).holds after.store.cat in subst S (sym main_same) (held_stands after.store.cat (disk o.main) after.store fits.held told));
       text = λ told. all told ∙ ap (λ (t : Text). from.holds ++ t) (sym text_is);
-      still = λ no_sweep none same told. ap (λ (m : D). (disk m).holds) main_same;
+      still = λ no_sweep no_calls none same told. ap (λ (m : D). (disk m).holds) main_same;
       main_settled = λ told settled. (let S : D → Type 0 = λ m. IsSettled (disk m) in subst S (sym main_same) settled);
       sink_settled = λ told settled. put.settled told;
     }

@@ -142,7 +142,7 @@ module _ {D A P : Type 0} (disk : D → DiskState) (ambient : A → AmbientState
     marks_are = marks_none;
     taken = [];
     first = record { rest = []; are = refl };
-    told_of = tt;
+    told_of = λ told. tt;
     by_rows = λ clean. subst EndsByRows (sym (ap (λ (r : Reply). r.end) s.reply_is)) tt;
     pieces = [];
     pieces_are = (let Q : List Mark → Type 0 = λ ms. ArePieces (IsKnown old c) number s.d.sent 0 ms [] in subst Q (sym marks_none) tt);
@@ -180,7 +180,7 @@ module _ {D A P : Type 0} (disk : D → DiskState) (ambient : A → AmbientState
       follows = unseen its.like marks_none s.grid;
       stands = λ told. held_stands after_server.store.cat (disk n.main) after_server.store its.fits.held (subst IsTrue (sym tells) told);
       text = λ told. all told ∙ ap (λ (t : Text). from.holds ++ t) (sym text_is);
-      still = λ none_swept none same told. absurd (sweep none_swept);
+      still = λ none_swept no_calls none same told. absurd (sweep none_swept);
       main_settled = its.settled;
       sink_settled = λ told settled. put.settled told;
     }

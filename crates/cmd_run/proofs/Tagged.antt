@@ -9,13 +9,14 @@ use Rattle.grid_model.specs.declared.deltas.Delta.{Delta}
 use Rattle.grid_model.specs.declared.plans.PlanError.{PlanError}
 use Rattle.cmd_read.specs.Orders.{NamesThing}
 use Rattle.plan_base.specs.Plans.{PlansChange}
+use Rattle.chain_laws.proofs.OfGrid.{OfGrid}
+use Rattle.chain_laws.proofs.OfOperations.{of_row}
 use Rattle.sess.specs.Places.{at, user_of}
 use Rattle.cmd_run.specs.declared.server.Server.{Server}
 use Rattle.cmd_run.specs.declared.tagging.TagLine.{TagLine}
 use Rattle.cmd_run.specs.Asking.{FitsTag, NamesSome, TagOf, said_of, tagging}
 use Rattle.cmd_run.specs.Operating.{AsksToOperate}
-use Rattle.cmd_run.proofs.OfGrid.{OfGrid}
-use Rattle.cmd_run.proofs.OfRows.{tag_of_grid, tag_is_silent}
+use Rattle.cmd_run.proofs.SilentVerbs.{tag_is_silent}
 
 -- what was planned for the thing is asked for
 pub asks_to_tag : (s : Server) (session user : ℕ) → user_of (at s.sessions session) ≡ Some user → (adds : Bool) (line : TagLine) (thing : Thing) (planned : Result (List Delta) PlanError) (request : Request)
@@ -32,7 +33,7 @@ asks_to_tag s session user logged_in adds line thing planned request plans asks 
       logged_in = logged_in;
       plans = plans;
       silent = tag_is_silent g name adds t;
-      of_grid = λ r is. subst OfGrid is (tag_of_grid g name adds t);
+      of_grid = λ r is. subst OfGrid is (of_row g name (tagging adds t));
     }
 
 -- the thing that a line tells

@@ -139,9 +139,9 @@ pub asks_other : (at : State) (asked : Result model.Request Refusal) (body : Tex
     → ((p : Path) (o : Option Text) → r.verb ≡ verb.Get p o → ⊥)
     → ((k : ItemKind) (n a v u : Text) → r.verb ≡ verb.AddMeta k n a v u → ⊥) → ((k : ItemKind) (n a v u : Text) → r.verb ≡ verb.RmMeta k n a v u → ⊥) → ((k : ItemKind) (n : Text) → r.verb ≡ verb.LsMeta k n → ⊥)
     → ((p : Path) (o : Text) → r.verb ≡ verb.Repl p o → ⊥) → ((p : Path) → r.verb ≡ verb.ChkSum p → ⊥)
-    → ((text : Text) → r.verb ≡ verb.Query text → ⊥)
+    → ((text : Text) → r.verb ≡ verb.Query text → ⊥) → ((text : Text) → r.verb ≡ verb.Exec text → ⊥)
     → AsksForRequest at asked body request → AsksBy r.session (operation_by r.verb) request
-asks_other at asked body request r is no_login no_logout no_quit no_sweep no_ls no_put no_get no_add no_drop no_show no_repl no_sum no_query asks = by r.verb no_login no_logout no_quit no_sweep no_ls no_put no_get no_add no_drop no_show no_repl no_sum no_query (verb_asks at asked body request r r.verb is refl asks)
+asks_other at asked body request r is no_login no_logout no_quit no_sweep no_ls no_put no_get no_add no_drop no_show no_repl no_sum no_query no_exec asks = by r.verb no_login no_logout no_quit no_sweep no_ls no_put no_get no_add no_drop no_show no_repl no_sum no_query no_exec (verb_asks at asked body request r r.verb is refl asks)
   where
     worked : (o order : Order) → request ≡ Ok (r.session, order) → order ≡ o → request ≡ Ok (r.session, o)
     worked o order its same = its ∙ ap (λ (x : Order). Ok (r.session, x)) same
@@ -151,39 +151,40 @@ asks_other at asked body request r is no_login no_logout no_quit no_sweep no_ls 
         → ((p : Path) (o : Option Text) → v ≡ verb.Get p o → ⊥)
         → ((k : ItemKind) (n a w u : Text) → v ≡ verb.AddMeta k n a w u → ⊥) → ((k : ItemKind) (n a w u : Text) → v ≡ verb.RmMeta k n a w u → ⊥) → ((k : ItemKind) (n : Text) → v ≡ verb.LsMeta k n → ⊥)
         → ((p : Path) (o : Text) → v ≡ verb.Repl p o → ⊥) → ((p : Path) → v ≡ verb.ChkSum p → ⊥)
-        → ((text : Text) → v ≡ verb.Query text → ⊥)
+        → ((text : Text) → v ≡ verb.Query text → ⊥) → ((text : Text) → v ≡ verb.Exec text → ⊥)
         → MatchBool (is_built v) ((order : Order) × (request ≡ Ok (r.session, order)) × MeansHeld at v body order) (request ≡ Err refusal.UnknownCommand)
         → AsksBy r.session (operation_by v) request
-    by (verb.Login u) n0 n1 n2 ns nl n3 n4 na nr nm np nc nq its = absurd (n0 u refl)
-    by verb.Logout n0 n1 n2 ns nl n3 n4 na nr nm np nc nq its = absurd (n1 refl)
-    by verb.Quit n0 n1 n2 ns nl n3 n4 na nr nm np nc nq its = absurd (n2 refl)
-    by verb.Sweep n0 n1 n2 ns nl n3 n4 na nr nm np nc nq its = absurd (ns refl)
-    by (verb.Ls p) n0 n1 n2 ns nl n3 n4 na nr nm np nc nq its = absurd (nl p refl)
-    by (verb.Put p o m n) n0 n1 n2 ns nl n3 n4 na nr nm np nc nq its = absurd (n3 p o m n refl)
-    by (verb.AddMeta k n a v u) n0 n1 n2 ns nl n3 n4 na nr nm np nc nq its = absurd (na k n a v u refl)
-    by (verb.RmMeta k n a v u) n0 n1 n2 ns nl n3 n4 na nr nm np nc nq its = absurd (nr k n a v u refl)
-    by (verb.LsMeta k n) n0 n1 n2 ns nl n3 n4 na nr nm np nc nq its = absurd (nm k n refl)
-    by (verb.Repl p o) n0 n1 n2 ns nl n3 n4 na nr nm np nc nq its = absurd (np p o refl)
-    by (verb.ChkSum p) n0 n1 n2 ns nl n3 n4 na nr nm np nc nq its = absurd (nc p refl)
-    by (verb.Query text) n0 n1 n2 ns nl n3 n4 na nr nm np nc nq its = absurd (nq text refl)
-    by (verb.Get p o) n0 n1 n2 ns nl n3 n4 na nr nm np nc nq its = absurd (n4 p o refl)
-    by (verb.MkUser name kind) n0 n1 n2 ns nl n3 n4 na nr nm np nc nq its = worked (works (mkuser name kind) 0) its.0 its.1 its.2.1
-    by (verb.MkGroup name) n0 n1 n2 ns nl n3 n4 na nr nm np nc nq its = worked (works (mkgroup name) 0) its.0 its.1 its.2.1
-    by (verb.RmDir path) n0 n1 n2 ns nl n3 n4 na nr nm np nc nq its = worked (works (rmdir path) 0) its.0 its.1 its.2.1
-    by (verb.AddMember group user) n0 n1 n2 ns nl n3 n4 na nr nm np nc nq its = worked (works (addmember group user) 0) its.0 its.1 its.2.1
-    by (verb.RmMember group user) n0 n1 n2 ns nl n3 n4 na nr nm np nc nq its = worked (works (rmmember group user) 0) its.0 its.1 its.2.1
-    by (verb.MkStorage name slot) n0 n1 n2 ns nl n3 n4 na nr nm np nc nq its = worked (works (mkresc name Storage slot) 0) its.0 its.1 its.2.1
-    by (verb.MkCoordinating name kind) n0 n1 n2 ns nl n3 n4 na nr nm np nc nq its = worked (works (mkresc name kind 0) 0) its.0 its.1 its.2.1
-    by (verb.AddChild parent child) n0 n1 n2 ns nl n3 n4 na nr nm np nc nq its = worked (works (addchild parent child) 0) its.0 its.1 its.2.1
-    by (verb.ModResc name up) n0 n1 n2 ns nl n3 n4 na nr nm np nc nq its = worked (works (modresc name up) 0) its.0 its.1 its.2.1
-    by (verb.Trim path resource) n0 n1 n2 ns nl n3 n4 na nr nm np nc nq its = worked (works (trim path resource) 0) its.0 its.1 its.2.1
-    by (verb.Rm path) n0 n1 n2 ns nl n3 n4 na nr nm np nc nq its = worked (works (rm path) 0) its.0 its.1 its.2.1
-    by (verb.MkDir path) n0 n1 n2 ns nl n3 n4 na nr nm np nc nq its = worked (works (mkdir path) 0) its.0 its.1 its.2.1
-    by (verb.Mv from to) n0 n1 n2 ns nl n3 n4 na nr nm np nc nq its = worked (works (mv from to) 0) its.0 its.1 its.2.1
-    by (verb.ChMod level name path) n0 n1 n2 ns nl n3 n4 na nr nm np nc nq its = worked (works (chmod level name path) 0) its.0 its.1 its.2.1
-    by (verb.Inherit path) n0 n1 n2 ns nl n3 n4 na nr nm np nc nq its = worked (works (inherit path true) 0) its.0 its.1 its.2.1
-    by (verb.NoInherit path) n0 n1 n2 ns nl n3 n4 na nr nm np nc nq its = worked (works (inherit path false) 0) its.0 its.1 its.2.1
-    by other n0 n1 n2 ns nl n3 n4 na nr nm np nc nq its = its
+    by (verb.Login u) n0 n1 n2 ns nl n3 n4 na nr nm np nc nq ne its = absurd (n0 u refl)
+    by verb.Logout n0 n1 n2 ns nl n3 n4 na nr nm np nc nq ne its = absurd (n1 refl)
+    by verb.Quit n0 n1 n2 ns nl n3 n4 na nr nm np nc nq ne its = absurd (n2 refl)
+    by verb.Sweep n0 n1 n2 ns nl n3 n4 na nr nm np nc nq ne its = absurd (ns refl)
+    by (verb.Ls p) n0 n1 n2 ns nl n3 n4 na nr nm np nc nq ne its = absurd (nl p refl)
+    by (verb.Put p o m n) n0 n1 n2 ns nl n3 n4 na nr nm np nc nq ne its = absurd (n3 p o m n refl)
+    by (verb.AddMeta k n a v u) n0 n1 n2 ns nl n3 n4 na nr nm np nc nq ne its = absurd (na k n a v u refl)
+    by (verb.RmMeta k n a v u) n0 n1 n2 ns nl n3 n4 na nr nm np nc nq ne its = absurd (nr k n a v u refl)
+    by (verb.LsMeta k n) n0 n1 n2 ns nl n3 n4 na nr nm np nc nq ne its = absurd (nm k n refl)
+    by (verb.Repl p o) n0 n1 n2 ns nl n3 n4 na nr nm np nc nq ne its = absurd (np p o refl)
+    by (verb.ChkSum p) n0 n1 n2 ns nl n3 n4 na nr nm np nc nq ne its = absurd (nc p refl)
+    by (verb.Query text) n0 n1 n2 ns nl n3 n4 na nr nm np nc nq ne its = absurd (nq text refl)
+    by (verb.Exec text) n0 n1 n2 ns nl n3 n4 na nr nm np nc nq ne its = absurd (ne text refl)
+    by (verb.Get p o) n0 n1 n2 ns nl n3 n4 na nr nm np nc nq ne its = absurd (n4 p o refl)
+    by (verb.MkUser name kind) n0 n1 n2 ns nl n3 n4 na nr nm np nc nq ne its = worked (works (mkuser name kind) 0) its.0 its.1 its.2.1
+    by (verb.MkGroup name) n0 n1 n2 ns nl n3 n4 na nr nm np nc nq ne its = worked (works (mkgroup name) 0) its.0 its.1 its.2.1
+    by (verb.RmDir path) n0 n1 n2 ns nl n3 n4 na nr nm np nc nq ne its = worked (works (rmdir path) 0) its.0 its.1 its.2.1
+    by (verb.AddMember group user) n0 n1 n2 ns nl n3 n4 na nr nm np nc nq ne its = worked (works (addmember group user) 0) its.0 its.1 its.2.1
+    by (verb.RmMember group user) n0 n1 n2 ns nl n3 n4 na nr nm np nc nq ne its = worked (works (rmmember group user) 0) its.0 its.1 its.2.1
+    by (verb.MkStorage name slot) n0 n1 n2 ns nl n3 n4 na nr nm np nc nq ne its = worked (works (mkresc name Storage slot) 0) its.0 its.1 its.2.1
+    by (verb.MkCoordinating name kind) n0 n1 n2 ns nl n3 n4 na nr nm np nc nq ne its = worked (works (mkresc name kind 0) 0) its.0 its.1 its.2.1
+    by (verb.AddChild parent child) n0 n1 n2 ns nl n3 n4 na nr nm np nc nq ne its = worked (works (addchild parent child) 0) its.0 its.1 its.2.1
+    by (verb.ModResc name up) n0 n1 n2 ns nl n3 n4 na nr nm np nc nq ne its = worked (works (modresc name up) 0) its.0 its.1 its.2.1
+    by (verb.Trim path resource) n0 n1 n2 ns nl n3 n4 na nr nm np nc nq ne its = worked (works (trim path resource) 0) its.0 its.1 its.2.1
+    by (verb.Rm path) n0 n1 n2 ns nl n3 n4 na nr nm np nc nq ne its = worked (works (rm path) 0) its.0 its.1 its.2.1
+    by (verb.MkDir path) n0 n1 n2 ns nl n3 n4 na nr nm np nc nq ne its = worked (works (mkdir path) 0) its.0 its.1 its.2.1
+    by (verb.Mv from to) n0 n1 n2 ns nl n3 n4 na nr nm np nc nq ne its = worked (works (mv from to) 0) its.0 its.1 its.2.1
+    by (verb.ChMod level name path) n0 n1 n2 ns nl n3 n4 na nr nm np nc nq ne its = worked (works (chmod level name path) 0) its.0 its.1 its.2.1
+    by (verb.Inherit path) n0 n1 n2 ns nl n3 n4 na nr nm np nc nq ne its = worked (works (inherit path true) 0) its.0 its.1 its.2.1
+    by (verb.NoInherit path) n0 n1 n2 ns nl n3 n4 na nr nm np nc nq ne its = worked (works (inherit path false) 0) its.0 its.1 its.2.1
+    by other n0 n1 n2 ns nl n3 n4 na nr nm np nc nq ne its = its
 
 -- ---- a put
 

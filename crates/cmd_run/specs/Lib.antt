@@ -1,5 +1,6 @@
 pub mod Answers
 pub mod Asking
+pub mod Calls
 pub mod Copies
 pub mod Errors
 pub mod Fits

@@ -71,12 +71,11 @@ abbrev pub AsksForFile : Request → Type 0
 AsksForFile (Ok (session, order)) = MakesFile order
 AsksForFile (Err r) = ⊥
 
--- what has run out: the numbers of vault files, before a file was made, or the room behind the log
+-- what has run out: the numbers of vault files, in the catalogue on main, or the room behind the log
 abbrev pub IsWornAt : {B : Type 0} → World B → Server → Request → ℕ → Wear → Type 0
 IsWornAt new before request place wear.Runs = ⊥
 IsWornAt new before request place wear.Vaults =
-    (place ≡ before.store.cat.numbers.next_vault) × (last_vault < place) × (IsTrue new.main.tells → StandsFor new.main.holds before.store.cat)
-    × AsksForFile request
+    (last_vault < place) × (IsTrue new.main.tells → (c : Cat) × StandsFor new.main.holds c × (c.numbers.next_vault ≡ place)) × AsksForFile request
 IsWornAt new before request place wear.Log = (2 ^ 62 < place) × (IsTrue new.main.tells → ClosesAt new.main.holds place)
 
 -- a run that ended for that has run out of it

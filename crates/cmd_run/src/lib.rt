@@ -3,8 +3,10 @@
 
 mod answers;
 mod asking;
+mod calling;
 mod changing;
 mod copying;
+mod executing;
 mod getting;
 mod keeping;
 mod listing;

@@ -1,11 +1,11 @@
-ghost use Rattle.std.specs.Prelude.{◌≡◌, ℕ, ◌+◌, ◌≤◌, ◌^◌, Err, IsTrue, IsErrOf, length, vec_len};
+ghost use Rattle.std.specs.Prelude.{◌≡◌, ◌⊎◌, ℕ, ◌+◌, ◌≤◌, ◌^◌, Err, IsTrue, IsErrOf, length, vec_len};
 ghost use Rattle.grid_outside.specs.Source.{SourceState};
 ghost use Rattle.grid_model.specs.Limits.{object_size};
 ghost use Rattle.grid_model.specs.Names.{Text as TextOf};
 ghost use Rattle.grid_model.specs.Runs.{Request as RequestOf};
 ghost use Rattle.grid_model.specs.Writable.{is_word};
 ghost use Rattle.grid_deed.specs.Safe.{KeepWhole};
-ghost use Rattle.run_laws.specs.Steps.{RemovesNoFile};
+ghost use Rattle.run_laws.specs.Steps.{CallsNoRules, RemovesNoFile, RequestStep};
 ghost use Rattle.run_laws.specs.Around.{around};
 ghost use Rattle.cmd_run.specs.Asking.{AsksForRequest, IsForm, IsLineOf};
 ghost use Rattle.run_laws.specs.Passes.{AreReady, CallsPass};
@@ -28,7 +28,7 @@ impl Server {
     /// refused, that is answered. `body` is the request's body, and empty where its verb has none or promised more bytes
     /// than an object may have. `line` is its line, which is noted while a deed of it runs. `Disk` and `Sink` come only where that
     /// device failed, and `Worn` only where numbers of vault files or the room of the log have run out; a run ends after any error.
-    /// Draws at most 2^72 moments.
+    /// Draws at most 2^79 moments.
     pub fn command<D: Disk, K: Sink, A: Ambient, P: Plugin>(
         &mut self,
         alloc: Global,
@@ -44,7 +44,7 @@ impl Server {
         requires line { IsTrue (is_word line) }
         requires small { length body ≤ object_size }
         requires slots { self.old.store.cat.stores ≡ vec_len outside.old.stores }
-        requires ready { AreReady D.disk P.plugin K.sink (2 ^ 72) (record { outside = outside.old; sink = sink.old }) }
+        requires ready { AreReady D.disk P.plugin K.sink (2 ^ 79) (record { outside = outside.old; sink = sink.old }) }
         ensures obeys { (source : SourceState) (request : RequestOf) → AsksForRequest (state_of self.old) asked body request →
             Obeys (around D.disk A.ambient P.plugin outside.old (K.sink sink.old) source)
             (around D.disk A.ambient P.plugin outside.new (K.sink sink.new) source)
@@ -63,12 +63,17 @@ impl Server {
             (D.disk outside.old.main) (D.disk outside.new.main) outside.old.stores.items outside.new.stores.items }
         ensures passes { CallsPass D.disk P.plugin K.sink (IsErrOf result Ending.Disk) (IsErrOf result Ending.Sink)
             (record { outside = outside.old; sink = sink.old }) (record { outside = outside.new; sink = sink.new }) }
-        // Where the numbers of vault files have run out no device was asked for anything.
-        ensures untouched { (place : ℕ) → result ≡ Err (Ending.Worn Wear.Vaults place) → (outside.new ≡ outside.old) × (sink.new ≡ sink.old) }
-        // Where a request is refused without a mark nothing is called but the sink.
-        ensures idle { (request : RequestOf) → AsksForRequest (state_of self.old) asked body request → IsRefusedAtOnce (state_of self.old) request →
+        // Where the numbers of vault files have run out no device was asked for anything, or the request was begun.
+        ensures dry { (place : ℕ) → result ≡ Err (Ending.Worn Wear.Vaults place) → ((outside.new ≡ outside.old) × (sink.new ≡ sink.old))
+            ⊎ ((source : SourceState) (request : RequestOf) → AsksForRequest (state_of self.old) asked body request →
+            RequestStep (around D.disk A.ambient P.plugin outside.old (K.sink sink.old) source)
+            (around D.disk A.ambient P.plugin outside.new (K.sink sink.new) source)
+            (state_of self.old) self.old.store.cat number request) }
+        // Where a request that calls no rules is refused without a mark nothing is called but the sink.
+        ensures idle { (request : RequestOf) → AsksForRequest (state_of self.old) asked body request → CallsNoRules request →
+            IsRefusedAtOnce (state_of self.old) request →
             (outside.new.main ≡ outside.old.main) × (outside.new.stores ≡ outside.old.stores) }
-        ensures drawn { outside.new.moments ≤ outside.old.moments + 2 ^ 72 }
+        ensures drawn { outside.new.moments ≤ outside.old.moments + 2 ^ 79 }
     {
         let request = match asked {
             Ok(request) => request,
@@ -140,6 +145,7 @@ impl Server {
                 self.show_tags(alloc, outside, sink, number, session, item, &name)
             }
             Verb::Query { text } => self.query(alloc, outside, sink, number, session, &text),
+            Verb::Exec { text } => self.exec(alloc, outside, sink, number, session, &text, line),
             Verb::Ls { path } => self.list(alloc, outside, sink, number, session, &path),
             Verb::Get { path, resource } => {
                 self.get_for(

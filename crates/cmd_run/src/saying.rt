@@ -38,8 +38,8 @@ impl Server {
             before number request result self.now }
         ensures passes { CallsPass D.disk P.plugin K.sink (IsErrOf result Ending.Disk) (IsErrOf result Ending.Sink)
             (record { outside = outside.old; sink = sink.old }) (record { outside = outside.new; sink = sink.new }) }
-        ensures worn { (source : SourceState) (request : Request) (before : Server) →
-            IsWorn (around D.disk A.ambient P.plugin outside.new (K.sink sink.new) source) before request result }
+        ensures worn { (source : SourceState) (request : Request) →
+            IsWorn (around D.disk A.ambient P.plugin outside.new (K.sink sink.new) source) self.now request result }
         ensures remembers { Remembers self.now.store.cat outside.old.moments (D.disk outside.old.main) (D.disk outside.new.main) }
         ensures whole { KeepWhole P.plugin outside.old.moments self.now.store.cat
             (D.disk outside.old.main) (D.disk outside.new.main) outside.old.stores.items outside.new.stores.items }
@@ -73,8 +73,8 @@ impl Server {
             before number request result self.now }
         ensures passes { CallsPass D.disk P.plugin K.sink (IsErrOf result Ending.Disk) (IsErrOf result Ending.Sink)
             (record { outside = outside.old; sink = sink.old }) (record { outside = outside.new; sink = sink.new }) }
-        ensures worn { (source : SourceState) (request : Request) (before : Server) →
-            IsWorn (around D.disk A.ambient P.plugin outside.new (K.sink sink.new) source) before request result }
+        ensures worn { (source : SourceState) (request : Request) →
+            IsWorn (around D.disk A.ambient P.plugin outside.new (K.sink sink.new) source) self.now request result }
         ensures remembers { Remembers self.now.store.cat outside.old.moments (D.disk outside.old.main) (D.disk outside.new.main) }
         ensures whole { KeepWhole P.plugin outside.old.moments self.now.store.cat
             (D.disk outside.old.main) (D.disk outside.new.main) outside.old.stores.items outside.new.stores.items }

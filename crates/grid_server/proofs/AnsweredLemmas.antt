@@ -1,7 +1,8 @@
 -- A request that is handled behind those that were answered.
-use Rattle.std.proofs.Common.{◌≡◌, ℕ, ◌+◌, List, [], ◌∷◌, ◌++◌, length, subst, IsTrue}
+use Rattle.std.proofs.Common.{◌≡◌, ◌⊎◌, inl, inr, ℕ, ◌+◌, List, [], ◌∷◌, ◌++◌, length, subst, IsTrue}
 use Rattle.std.specs.Prelude.{Result, Ok, ⊤}
 use Rattle.std.specs.List.{AllByRecursion}
+use Rattle.grid_outside.specs.Source.{SourceState}
 use Rattle.grid_model.specs.Names.{Text}
 use Rattle.grid_model.specs.Inputs.{Asked}
 use Rattle.grid_model.specs.Rows.{Cat}
@@ -11,7 +12,7 @@ use Rattle.grid_headline.specs.Reads.{MeansRequest, EndsInput}
 use Rattle.grid_headline.specs.Worlds.{World}
 use Rattle.run_laws.specs.Sofar.{BeginsPlainly, CallsGoOn, KeepsWhole, Sofar}
 use Rattle.grid_model.specs.Working.{Done}
-use Rattle.run_laws.specs.Steps.{ComesAfter, NotesLine, kept, unseen}
+use Rattle.run_laws.specs.Steps.{ComesAfter, NotesLine, RequestStep, kept, unseen}
 use Rattle.run_laws.proofs.RunLaws.{one_more}
 use Rattle.cmd_run.specs.Asking.{IsLineOf}
 use Rattle.cmd_run.specs.Fits.{FitsMain, state_of}
@@ -63,6 +64,15 @@ none_end_at (x ∷ all) none a (f ∷ front) behind e = let rest : all ≡ front
 -- the number of the next request
 pub obeys_at : {B : Type 0} (old new : World B) (before : Server) (m n : ℕ) (request : Request) (r : Result ⊤ Ending) (after : Server) → m ≡ n → Obeys old new before (m + 1) request r after → Obeys old new before (n + 1) request r after
 obeys_at old new before m n request r after e o = let O : ℕ → Type 0 = λ k. Obeys old new before (k + 1) request r after in subst O e o
+
+pub step_at : {B : Type 0} (old new : World B) (before : Server) (m n : ℕ) (request : Request) → m ≡ n
+    → RequestStep old new (state_of before) before.store.cat (m + 1) request → RequestStep old new (state_of before) before.store.cat (n + 1) request
+step_at old new before m n request e s = let S : ℕ → Type 0 = λ k. RequestStep old new (state_of before) before.store.cat (k + 1) request in subst S e s
+
+-- what holds with any source
+pub uncalled_or_begun : {Uncalled : Type 0} {Begun : SourceState → Type 0} (source : SourceState) → Uncalled ⊎ ((s : SourceState) → Begun s) → Uncalled ⊎ Begun source
+uncalled_or_begun source (inl same) = inl same
+uncalled_or_begun source (inr begun) = inr (begun source)
 
 module _ {B : Type 0} {old mid new : World B} {found : Cat} {before : Server} {asked : List Asked} {a : Asked} {request : Request} (after : Server) (plain : BeginsPlainly old found)
     (so : Sofar old mid found before.store.cat (state_of before) asked) (goes : CallsGoOn old.source.left mid new before.store.cat) (notes : NotesLine a.line mid new) (means : MeansRequest (state_of before) a request) where

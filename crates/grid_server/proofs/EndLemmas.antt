@@ -9,6 +9,7 @@ use Rattle.grid_outside.specs.declared.outside.Wear.TheVariants as wear
 use Rattle.grid_model.specs.Names.{Text}
 use Rattle.grid_model.specs.Inputs.{Asked}
 use Rattle.grid_model.specs.Rows.{Cat}
+use Rattle.grid_model.specs.Orders.{Order}
 use Rattle.grid_model.specs.Sessions.{State}
 use Rattle.grid_model.specs.Runs.{Request}
 use Rattle.grid_headline.specs.Ends.{RunEnd, read_all, worn, no_memory, disk_failed, sink_failed, EndsInRequest, EndsAtEnd, ReadsEnded, ReadsMost}
@@ -16,10 +17,10 @@ use Rattle.grid_headline.specs.Headline.{Serves}
 use Rattle.grid_headline.specs.Reads.{MeansRequest, EndsInput}
 use Rattle.grid_headline.specs.Served.{BeginsWithRequests}
 use Rattle.grid_headline.specs.Worlds.{World}
-use Rattle.run_laws.specs.Ends.{NextMakesFile, StopsSo, IsGoodIfNoneFailed}
-use Rattle.run_laws.specs.Steps.{NotesLine}
+use Rattle.run_laws.specs.Ends.{MakesFile, NextMakesFile, StopsSo, IsGoodIfNoneFailed}
+use Rattle.run_laws.specs.Steps.{NotesLine, RequestStep}
 use Rattle.run_laws.specs.Sofar.{BeginsPlainly, CallsGoOn, Sofar}
-use Rattle.run_laws.proofs.RunLaws.{ends_idle, ends_quiet, ends_within, ends_with}
+use Rattle.run_laws.proofs.RunLaws.{ends_dry, ends_idle, ends_quiet, ends_within, ends_with}
 use Rattle.req_lines.specs.Reading.{Input}
 use Rattle.req_lines.specs.Hearing.{Stops}
 use Rattle.req_lines.specs.Progress.{HasHeard, HeardAll, HeardPart, HeardMost, HeardWithin}
@@ -96,6 +97,11 @@ makes_file input at asked a (Ok (session, order)) first means makes =
     record { next = a; first = first; session = session; order = order; asks = means; makes = makes }
 makes_file input at asked a (Err r) first means makes = absurd makes
 
+-- the order that makes a file
+file_asked : (request : Request) → AsksForFile request → (session : ℕ) × (order : Order) × (request ≡ Ok (session, order)) × MakesFile order
+file_asked (Ok (session, order)) makes = (session, order, refl, makes)
+file_asked (Err r) makes = absurd makes
+
 module _ {B : Type 0} {old mid new : World B} {found : Cat} {before : Server} {asked : List Asked} {a : Asked} {request : Request} (after : Server) (plain : BeginsPlainly old found)
     (so : Sofar old mid found before.store.cat (state_of before) asked) (goes : CallsGoOn old.source.left mid new before.store.cat) (notes : NotesLine a.line mid new) (means : MeansRequest (state_of before) a request)
     (first : BeginsWithRequests old.source.left (asked ++ a ∷ [])) where
@@ -127,10 +133,22 @@ module _ {B : Type 0} {old mid new : World B} {found : Cat} {before : Server} {a
       let closes = w.1 told in
       stopped (Err (ending.Worn wear.Log place)) (ending.Worn wear.Log place) refl o short (λ at all. ((w.0, record { records = closes.records; log = closes.log; place_is = closes.place_is }), tt)) (λ none fits. tt)
 
+-- the numbers of vault files ran out in a request that was begun
+pub stops_dry : {B : Type 0} {old mid new : World B} {found : Cat} (before : Server) {asked : List Asked} {a : Asked} {request : Request} (place : ℕ) → BeginsPlainly old found
+    → Sofar old mid found before.store.cat (state_of before) asked → CallsGoOn old.source.left mid new before.store.cat → NotesLine a.line mid new → MeansRequest (state_of before) a request
+    → BeginsWithRequests old.source.left (asked ++ a ∷ []) → RequestStep mid new (state_of before) before.store.cat (length asked + 1) request → IsTrue new.main.tells
+    → IsWorn new before request (Err (ending.Worn wear.Vaults place)) → Serves old new found (worn wear.Vaults place)
+stops_dry before {request = request} place plain so goes notes means first step told wears =
+    let w = wears wear.Vaults place refl in
+    let c = w.1 told in
+    let f = file_asked request w.2 in
+    ends_dry plain so goes notes means step first f.0 f.1 f.2 f.3 place (w.0, record { cat = c.0; stands = c.1 _; holds = c.2 }) (λ none fits. tt)
+
 -- the numbers of vault files had run out, and nothing was done
 pub stops_before : {B : Type 0} {old mid : World B} {found : Cat} (before : Server) {asked : List Asked} {a : Asked} {request : Request} (place : ℕ) → BeginsPlainly old found
     → Sofar old mid found before.store.cat (state_of before) asked → MeansRequest (state_of before) a request → BeginsWithRequests old.source.left (asked ++ a ∷ []) → BeginsWithRequests old.source.left asked
     → IsTrue mid.main.tells → IsWorn mid before request (Err (ending.Worn wear.Vaults place)) → Serves old mid found (worn wear.Vaults place)
 stops_before {old = old} before {asked = asked} {a = a} {request = request} place plain so means first short told wears =
     let w = wears wear.Vaults place refl in
-    ends_idle plain so short ((w.1, record { cat = before.store.cat; stands = w.2 told _; holds = sym w.0 }), inl (makes_file old.source.left (state_of before) asked a request first means w.3)) (λ none fits. tt)
+    let c = w.1 told in
+    ends_idle plain so short ((w.0, record { cat = c.0; stands = c.1 _; holds = c.2 }), inl (makes_file old.source.left (state_of before) asked a request first means w.2)) (λ none fits. tt)

@@ -26,14 +26,14 @@ use Rattle.cmd_run.specs.declared.server.Ending.{Ending}
 use Rattle.cmd_run.specs.declared.server.Ending.TheVariants as ending
 use Rattle.grid_server.specs.Serving.{IsAfter, IsBegun, HasAnswered, before}
 use Rattle.cmd_run.specs.Asking.{IsLineOf, ends_input}
-use Rattle.grid_server.specs.Turning.{Commanded, TakesTurn, handled, none_left, too_long as goes_past, broken_off, no_memory as memory_gone, after, command_of, input_of, is_last, status_of}
+use Rattle.grid_server.specs.Turning.{Commanded, IsUncalledOrBegun, TakesTurn, handled, none_left, too_long as goes_past, broken_off, no_memory as memory_gone, after, command_of, input_of, is_last, status_of}
 use Rattle.grid_server.specs.Views.{Views, WasRead, PassesOn, world_of}
 use Rattle.grid_server.specs.declared.service.Service.{Service}
 use Rattle.grid_server.specs.declared.status.Status.{Status}
 use Rattle.grid_server.specs.declared.status.Status.TheVariants as status
-use Rattle.grid_server.proofs.AnsweredLemmas.{answered_more, fits_more, keeps_whole, none_end_more, notes_line, obeys_at}
+use Rattle.grid_server.proofs.AnsweredLemmas.{answered_more, fits_more, keeps_whole, none_end_more, notes_line, obeys_at, step_at}
 use Rattle.grid_server.proofs.AskLemmas.{Asks, asks_so, kept_line, not_ending}
-use Rattle.grid_server.proofs.EndLemmas.{end_of, last_answered, stops_before, stops_in}
+use Rattle.grid_server.proofs.EndLemmas.{end_of, last_answered, stops_before, stops_dry, stops_in}
 use Rattle.grid_server.proofs.TurnLemmas.{goes_on}
 use Rattle.grid_server.proofs.ViewLemmas.{order_of, passes_as, passes_then, went_of}
 
@@ -140,9 +140,9 @@ module _ {D S K A P : Type 0} (v : Views D S K A P) (from : Server) (start mid n
 
       -- something ran out or failed in it
       pub ends_stopped : (x : Ending) → r ≡ Err x → result ≡ Some (status_of x)
-          → ((place : ℕ) → result ≡ Some (status.Worn wear.Vaults place) → (new.outside ≡ mid.outside) × (new.sink ≡ mid.sink))
+          → ((place : ℕ) → r ≡ Err (ending.Worn wear.Vaults place) → IsUncalledOrBegun v by new (command_of was heard))
           → Serves (world_of v (before v e start)) (world_of v new) found (end_of x)
-      ends_stopped x is status_is untouched = by_ending x is status_is
+      ends_stopped x is status_is dry = by_ending x is status_is
         where
           at_err : (y : Ending) → r ≡ Err y → Obeys (world_of v by) (world_of v new) was.server (length asked + 1) asks.request (Err y) now.server
           at_err y is = let O : Result ⊤ Ending → Type 0 = λ z. Obeys (world_of v by) (world_of v new) was.server (length asked + 1) asks.request z now.server in subst O is obeyed_at
@@ -157,13 +157,19 @@ module _ {D S K A P : Type 0} (v : Views D S K A P) (from : Server) (start mid n
           others y is status_is not_vaults = stops_in now.server began.plain so_read goes_by notes_by asks.means begins_with y (at_err y is) begins_short (worn_err y is) new_told not_vaults
               (λ d. passes.frame.cause (status_is ∙ ap (λ z. Some (status_of z)) d)) (λ d. passes.sink_cause (status_is ∙ ap (λ z. Some (status_of z)) d))
 
-          by_ending : (y : Ending) → r ≡ Err y → result ≡ Some (status_of y) → Serves (world_of v (before v e start)) (world_of v new) found (end_of y)
-          by_ending (ending.Worn wear.Vaults place) is status_is =
-              let same = untouched place status_is in
+          dried : (place : ℕ) → r ≡ Err (ending.Worn wear.Vaults place) → IsUncalledOrBegun v by new (command_of was heard)
+              → Serves (world_of v (before v e start)) (world_of v new) found (worn wear.Vaults place)
+          dried place is (inl same) =
               let M : Around D S K A P → Type 0 = λ a. IsWorn (world_of v a) was.server asks.request (Err (ending.Worn wear.Vaults place)) in
               let N : Around D S K A P → Type 0 = λ a. Serves (world_of v (before v e start)) (world_of v a) found (worn wear.Vaults place) in
               let equal : new ≡ by = λ i. record { outside = same.0 i; source = new.source; sink = same.1 i } in
               subst N (sym equal) (stops_before was.server place began.plain so_read asks.means begins_with begins_short main_told (subst M equal (worn_err (ending.Worn wear.Vaults place) is)))
+          dried place is (inr begun) =
+              let step = step_at (world_of v by) (world_of v new) was.server was.number (length asked) asks.request ans.many (begun asks.request asks.asks) in
+              stops_dry was.server place began.plain so_read goes_by notes_by asks.means begins_with step new_told (worn_err (ending.Worn wear.Vaults place) is)
+
+          by_ending : (y : Ending) → r ≡ Err y → result ≡ Some (status_of y) → Serves (world_of v (before v e start)) (world_of v new) found (end_of y)
+          by_ending (ending.Worn wear.Vaults place) is status_is = dried place is (dry place is)
           by_ending ending.Memory is status_is = others ending.Memory is status_is (λ place x. cc x)
           by_ending ending.Disk is status_is = others ending.Disk is status_is (λ place x. cc x)
           by_ending ending.Sink is status_is = others ending.Sink is status_is (λ place x. cc x)
@@ -173,7 +179,7 @@ module _ {D S K A P : Type 0} (v : Views D S K A P) (from : Server) (start mid n
   -- ---- the run goes on
 
   handled_on : (heard : Heard) (r : Result ⊤ Ending) → result ≡ after (is_last heard) r → (hears : Hears (input_of was (v.source mid.source)) (input_of now (v.source new.source)) heard) → now.number ≡ was.number + 1
-      → Commanded (world_of v by) (world_of v new) (command_of was heard) r now.server → result ≡ None → AreInOrder (world_of v start) → new.outside.moments ≤ mid.outside.moments + 2 ^ 72 → IsAfter v from start new now
+      → Commanded (world_of v by) (world_of v new) (command_of was heard) r now.server → result ≡ None → AreInOrder (world_of v start) → new.outside.moments ≤ mid.outside.moments + 2 ^ 79 → IsAfter v from start new now
   handled_on heard r status_is hears number cmd none order drawn =
       let on = goes_on (is_last heard) r (sym status_is ∙ none) in
       let more : heard.ends ≡ false = or_first heard.ends (ends_input heard.asked) on.0 in
@@ -202,8 +208,8 @@ module _ {D S K A P : Type 0} (v : Views D S K A P) (from : Server) (start mid n
             );
       }
 
-  pub after_turn : TakesTurn v mid new was now result → result ≡ None → AreInOrder (world_of v start) → new.outside.moments ≤ mid.outside.moments + 2 ^ 72 → IsAfter v from start new now
-  after_turn (handled heard r is hears number cmd) none order drawn = handled_on heard r is hears number cmd none order drawn
+  pub after_turn : TakesTurn v mid new was now result → result ≡ None → AreInOrder (world_of v start) → new.outside.moments ≤ mid.outside.moments + 2 ^ 79 → IsAfter v from start new now
+  after_turn (handled heard r is hears number cmd dry) none order drawn = handled_on heard r is hears number cmd none order drawn
   after_turn (none_left is end same) none order drawn = absurd (cc (is, none))
   after_turn (goes_past is past same) none order drawn = absurd (cc (is, none))
   after_turn (broken_off is broken same) none order drawn = absurd (cc (is, none))
@@ -211,7 +217,7 @@ module _ {D S K A P : Type 0} (v : Views D S K A P) (from : Server) (start mid n
 
   -- one request more was begun
   pub one_turn : TakesTurn v mid new was now result → result ≡ None → now.number ≡ was.number + 1
-  one_turn (handled heard r is hears number cmd) none = number
+  one_turn (handled heard r is hears number cmd dry) none = number
   one_turn (none_left is end same) none = absurd (cc (is, none))
   one_turn (goes_past is past same) none = absurd (cc (is, none))
   one_turn (broken_off is broken same) none = absurd (cc (is, none))

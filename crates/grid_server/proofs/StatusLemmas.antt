@@ -28,7 +28,7 @@ use Rattle.cmd_run.specs.Obeys.{IsWornAt}
 use Rattle.grid_server.specs.RunEnds.{run_end_of}
 use Rattle.grid_server.specs.Serving.{IsAfter, IsBegun, HasAnswered, TookFew, before}
 use Rattle.cmd_run.specs.Asking.{ends_input}
-use Rattle.grid_server.specs.Turning.{Commanded, TakesTurn, handled, none_left, too_long as goes_past, broken_off, no_memory as memory_gone, after, command_of, input_of, is_last, status_of}
+use Rattle.grid_server.specs.Turning.{Commanded, IsUncalledOrBegun, TakesTurn, handled, none_left, too_long as goes_past, broken_off, no_memory as memory_gone, after, command_of, input_of, is_last, status_of}
 use Rattle.grid_server.specs.Views.{Views, WasRead, PassesOn, world_of}
 use Rattle.grid_server.specs.Wearing.{HasWorn}
 use Rattle.grid_server.specs.declared.service.Service.{Service}
@@ -94,7 +94,7 @@ or_true false b none is = is
 
 worn_so : {B : Type 0} (what : Wear) (place : ℕ) (new : World B) (before : Server) (request : runs.Request) → IsTrue new.main.tells → IsWornAt new before request place what → HasWorn new.main.holds what place
 worn_so wear.Runs place new before request told w = w
-worn_so wear.Vaults place new before request told w = (w.1, λ spare. record { cat = before.store.cat; stands = w.2 told spare; holds = sym w.0 })
+worn_so wear.Vaults place new before request told w = let c = w.1 told in (w.0, λ spare. record { cat = c.0; stands = c.1 spare; holds = c.2 })
 worn_so wear.Log place new before request told w = let closes = w.1 told in (w.0, record { records = closes.records; log = closes.log; place_is = closes.place_is })
 
 module _ {D S K A P : Type 0} (v : Views D S K A P) (from : Server) (start mid new : Around D S K A P) (was now : Service) (result : Option Status)
@@ -128,7 +128,7 @@ module _ {D S K A P : Type 0} (v : Views D S K A P) (from : Server) (start mid n
   took_so told = by turns
     where
       by : TakesTurn v mid new was now result → TookFew first_source (v.source new.source)
-      by (handled heard r eq hears number cmd) = took_handled told heard r hears number cmd heard.ends refl
+      by (handled heard r eq hears number cmd dry) = took_handled told heard r hears number cmd heard.ends refl
       by (none_left eq end same) =
           let a = so_far.answered told in
           took_all first_source (v.source new.source) a.0 (heard_none first_source in_was a.0 a.1.heard in_now (subst IsTrue (sym so_far.source.tells) told) (subst IsTrue (sym read.tells) (subst IsTrue (sym so_far.source.tells) told)) end)
@@ -146,7 +146,7 @@ module _ {D S K A P : Type 0} (v : Views D S K A P) (from : Server) (start mid n
   long_so taken long = by turns
     where
       by : TakesTurn v mid new was now result → (taken ≡ 2 ^ 48 + 1) × (IsTrue (v.source start.source).tells → (asked : List Asked) × ReadsMost asked first_source (v.source new.source))
-      by (handled heard r eq hears number cmd) = let b = ending_behind (status.Long taken) (λ e. cc e) (is_last heard) r (sym eq ∙ is ∙ ap Some long) in absurd (no_long b.0 taken b.2)
+      by (handled heard r eq hears number cmd dry) = let b = ending_behind (status.Long taken) (λ e. cc e) (is_last heard) r (sym eq ∙ is ∙ ap Some long) in absurd (no_long b.0 taken b.2)
       by (none_left eq end same) = absurd (cc (eq, is, long))
       by (goes_past eq past same) = (
         long_is taken (2 ^ 48 + 1) (sym (ap Some long) ∙ sym is ∙ eq),
@@ -161,7 +161,7 @@ module _ {D S K A P : Type 0} (v : Views D S K A P) (from : Server) (start mid n
   worn_only what place worn told = by turns
     where
       by : TakesTurn v mid new was now result → HasWorn (v.disk new.outside.main).holds what place
-      by (handled heard r eq hears number cmd) =
+      by (handled heard r eq hears number cmd dry) =
           let a = asks v from start mid new was now result so_far passes read heard r hears number cmd in
           let failed : r ≡ Err (ending.Worn what place) = after_worn what place (is_last heard) r (sym eq ∙ is ∙ ap Some worn) in
           worn_so what place (world_of v new) was.server a.request (subst IsTrue (sym passes.frame.main.tells) (subst IsTrue (sym so_far.passes.frame.main.tells) told)) (cmd.worn a.request a.asks what place failed)
@@ -172,7 +172,7 @@ module _ {D S K A P : Type 0} (v : Views D S K A P) (from : Server) (start mid n
 
   -- ---- what was promised
 
-  module _ (order : AreInOrder (world_of v start)) (untouched : (place : ℕ) → result ≡ Some (status.Worn wear.Vaults place) → (new.outside ≡ mid.outside) × (new.sink ≡ mid.sink))
+  module _ (order : AreInOrder (world_of v start))
       (cause : result ≡ Some status.SourceFault → Rose (v.source mid.source).faults (v.source new.source).faults)
       (e : Around D S K A P) (found : Cat) (end : RunEnd) (began : IsBegun v (before v e start) start found from) (its : run_end_of s ≡ Some end) where
     abbrev old : World P
@@ -207,8 +207,9 @@ module _ {D S K A P : Type 0} (v : Views D S K A P) (from : Server) (start mid n
     sofar_new same = let W : Around D S K A P → Type 0 = λ a. Sofar old (world_of v a) found was.server.store.cat (state_of was.server) asked in subst W (sym same) (read_on (v.source new.source) (ans.so e found began))
 
     serves_handled : (heard : Heard) (r : Result ⊤ Ending) → result ≡ after (is_last heard) r → (hears : Hears in_was in_now heard) (number : now.number ≡ was.number + 1)
-        (cmd : Commanded (world_of v (record mid { source = new.source })) (world_of v new) (command_of was heard) r now.server) → is_served end
-    serves_handled heard r eq hears number cmd = by_result r refl eq
+        (cmd : Commanded (world_of v (record mid { source = new.source })) (world_of v new) (command_of was heard) r now.server)
+        → ((place : ℕ) → r ≡ Err (ending.Worn wear.Vaults place) → IsUncalledOrBegun v (record mid { source = new.source }) new (command_of was heard)) → is_served end
+    serves_handled heard r eq hears number cmd dry = by_result r refl eq
       where
         by_ends : (b : Bool) → heard.ends ≡ b → is_last heard ≡ true → EndsAtEnd (asked ++ hears.asked ∷ []) first_source (v.source new.source) ⊎ EndsInRequest (asked ++ hears.asked ∷ []) first_source (v.source new.source)
         by_ends true ends last = inl (reads_end first_source (v.source new.source) _ (all_heard v from start mid new was now result so_far passes read heard r hears number cmd asked told ans.heard ends))
@@ -223,13 +224,13 @@ module _ {D S K A P : Type 0} (v : Views D S K A P) (from : Server) (start mid n
         by_result : (x : Result ⊤ Ending) → r ≡ x → result ≡ after (is_last heard) x → is_served end
         by_result (Ok done) ok eq = by_last (is_last heard) done refl ok eq
         by_result (Err x) failed eq =
-            ends_as (status_of x) (end_of x) eq (end_of_status x) (ends_stopped v from start mid new was now result so_far passes read heard r hears number cmd told asked ans order e found began x failed eq untouched)
+            ends_as (status_of x) (end_of x) eq (end_of_status x) (ends_stopped v from start mid new was now result so_far passes read heard r hears number cmd told asked ans order e found began x failed eq dry)
 
     pub serves_so : is_served end
     serves_so = by turns
       where
         by : TakesTurn v mid new was now result → is_served end
-        by (handled heard r eq hears number cmd) = serves_handled heard r eq hears number cmd
+        by (handled heard r eq hears number cmd dry) = serves_handled heard r eq hears number cmd dry
         by (none_left eq none same) =
             let all = heard_none first_source in_was asked ans.heard in_now told_was told_now none in
             ends_as status.Done read_all eq refl (ends_well began.plain (sofar_new same) (inr all.are) (inl (reads_end first_source (v.source new.source) asked all)) (λ no_fault fits. tt))

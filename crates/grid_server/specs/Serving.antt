@@ -74,6 +74,6 @@ module _ {D S K A P : Type 0} (v : Views D S K A P) where
     pub within : s.number + length s.requests.unread ≤ s.requests.taken
     pub most : s.requests.taken ≤ 2 ^ 48
     pub passes : PassesOn v ⊥ ⊥ start now
-    pub drawn : now.outside.moments ≤ start.outside.moments + s.number * 2 ^ 72
+    pub drawn : now.outside.moments ≤ start.outside.moments + s.number * 2 ^ 79
     pub source : WasRead (v.source start.source) (v.source now.source)
     pub answered : IsTrue (v.source start.source).tells → (asked : List Asked) × HasAnswered from start now s asked

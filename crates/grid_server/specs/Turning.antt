@@ -1,11 +1,12 @@
 -- One turn of a service: a request is read and handled, or the run ends.
-use Rattle.std.specs.Prelude.{◌≡◌, ℕ, ◌+◌, ◌^◌, Bool, true, false, ◌||◌, Option, Some, None, Result, Ok, Err, ⊤}
+use Rattle.std.specs.Prelude.{◌≡◌, ◌⊎◌, ℕ, ◌+◌, ◌^◌, Bool, true, false, ◌||◌, Option, Some, None, Result, Ok, Err, ⊤}
 use Rattle.grid_outside.specs.Source.{SourceState}
+use Rattle.grid_outside.specs.declared.outside.Wear.TheVariants.{Vaults}
 use Rattle.grid_model.specs.Names.{Text}
 use Rattle.grid_model.specs.Runs as runs
 use Rattle.grid_deed.specs.Safe.{KeepWhole}
 use Rattle.grid_headline.specs.Worlds.{World}
-use Rattle.run_laws.specs.Steps.{RemovesNoFile}
+use Rattle.run_laws.specs.Steps.{RemovesNoFile, RequestStep}
 use Rattle.run_laws.specs.declared.around.Around.{Around}
 use Rattle.req_lines.specs.Reading.{Input, input}
 use Rattle.req_lines.specs.Hearing.{Hears, HearsNone, GoesOn, Stops, BreaksOff}
@@ -71,12 +72,19 @@ abbrev pub command_of : Service → Heard → Command
 command_of s heard = record { before = s.server; number = s.number + 1; heard = heard }
 
 module _ {D S K A P : Type 0} (v : Views D S K A P) where
+  -- nothing was called, or the request was begun
+  abbrev pub IsUncalledOrBegun : Around D S K A P → Around D S K A P → Command → Type 0
+  IsUncalledOrBegun old new c = ((new.outside ≡ old.outside) × (new.sink ≡ old.sink))
+      ⊎ ((request : runs.Request) → AsksForRequest (state_of c.before) c.heard.asked c.heard.body request
+      → RequestStep (world_of v old) (world_of v new) (state_of c.before) c.before.store.cat c.number request)
+
   -- what was read, and what was done for it
   pub data TakesTurn (old new : Around D S K A P) (was now : Service) (result : Option Status) : Type 0 where
     handled : (heard : Heard) (r : Result ⊤ Ending) → result ≡ after (is_last heard) r
         → Hears (input_of was (v.source old.source)) (input_of now (v.source new.source)) heard
         → now.number ≡ was.number + 1
         → Commanded (world_of v (record old { source = new.source })) (world_of v new) (command_of was heard) r now.server
+        → ((place : ℕ) → r ≡ Err (ending.Worn Vaults place) → IsUncalledOrBegun (record old { source = new.source }) new (command_of was heard))
         → TakesTurn old new was now result
     none_left : result ≡ Some status.Done → HearsNone (input_of was (v.source old.source)) (input_of now (v.source new.source))
         → new ≡ record old { source = new.source } → TakesTurn old new was now result

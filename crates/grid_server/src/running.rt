@@ -57,7 +57,7 @@ pub fn run<D: Disk, S: Source, K: Sink, A: Ambient, P: Plugin>(
     requires spare_last { (D.disk outside.old.spare).last ≤ outside.old.moments }
     requires sink_last { (K.sink sink.old).last ≤ outside.old.moments }
     requires stores_last { EachMember (λ k store. (P.plugin store).last ≤ outside.old.moments) outside.old.stores.items }
-    requires room { outside.old.moments + 2 ^ 122 < 2 ^ 128 }
+    requires room { outside.old.moments + (2 ^ 127 + 2 ^ 126) < 2 ^ 128 }
     requires stores { (0 < vec_len outside.old.stores) × (vec_len outside.old.stores ≤ 16) }
 
     // Words that ask for nothing: the line of usage, and no device but the sink is touched.
@@ -162,7 +162,7 @@ pub fn run<D: Disk, S: Source, K: Sink, A: Ambient, P: Plugin>(
     ensures stores_last { EachMember (λ k store. (P.plugin store).last ≤ outside.new.moments) outside.new.stores.items }
     ensures stores_go { StoresGo P.plugin outside.old.moments outside.old.stores.items outside.new.stores.items }
     ensures drawn_from { outside.old.moments ≤ outside.new.moments }
-    ensures drawn { outside.new.moments ≤ outside.old.moments + 2 ^ 122 }
+    ensures drawn { outside.new.moments ≤ outside.old.moments + (2 ^ 127 + 2 ^ 126) }
 {
     match read_words(words) {
         Asked::Serve => serve(alloc, outside, source, sink),
@@ -197,7 +197,7 @@ fn serve<D: Disk, S: Source, K: Sink, A: Ambient, P: Plugin>(
     source: &mut S,
     sink: &mut K,
 ) -> Status
-    requires ready { AreReady D.disk P.plugin K.sink (2 ^ 122) (record { outside = outside.old; sink = sink.old }) }
+    requires ready { AreReady D.disk P.plugin K.sink (2 ^ 127 + 2 ^ 126) (record { outside = outside.old; sink = sink.old }) }
     requires spare_last { (D.disk outside.old.spare).last ≤ outside.old.moments }
     requires stores { (0 < vec_len outside.old.stores) × (vec_len outside.old.stores ≤ 16) }
     ensures serve { (found : Cat) (end : RunEnd) →
@@ -237,7 +237,7 @@ fn serve<D: Disk, S: Source, K: Sink, A: Ambient, P: Plugin>(
         (record { outside = outside.old; sink = sink.old }) (record { outside = outside.new; sink = sink.new }) }
     ensures source { result ≡ Status.SourceFault → Rose (S.source source.old).faults (S.source source.new).faults }
     ensures ends { EndsServing result }
-    ensures drawn { outside.new.moments ≤ outside.old.moments + 2 ^ 122 }
+    ensures drawn { outside.new.moments ≤ outside.old.moments + (2 ^ 127 + 2 ^ 126) }
 {
     match Store::open(alloc, &mut outside.main, &mut outside.spare) {
         Ok(store) => serve_over(alloc, store, outside, source, sink),
@@ -263,7 +263,7 @@ fn serve_over<D: Disk, S: Source, K: Sink, A: Ambient, P: Plugin>(
     requires staged { store.staged ≡ [] }
     requires keeps { IsTrue (D.disk outside.old.main).tells → Keeps store.cat store (D.disk outside.old.main).holds }
     requires made { IsMade store.cat }
-    requires ready { AreReady D.disk P.plugin K.sink (2 ^ 122) (record { outside = outside.old; sink = sink.old }) }
+    requires ready { AreReady D.disk P.plugin K.sink (2 ^ 127 + 2 ^ 126) (record { outside = outside.old; sink = sink.old }) }
     requires spare_last { (D.disk outside.old.spare).last ≤ outside.old.moments }
     requires stores { (0 < vec_len outside.old.stores) × (vec_len outside.old.stores ≤ 16) }
     ensures serve { let v : Views D S K A P = record { disk = D.disk; source = S.source; sink = K.sink; ambient = A.ambient; plugin = P.plugin } in
@@ -292,7 +292,7 @@ fn serve_over<D: Disk, S: Source, K: Sink, A: Ambient, P: Plugin>(
         (record { outside = outside.old; sink = sink.old }) (record { outside = outside.new; sink = sink.new }) }
     ensures source { result ≡ Status.SourceFault → Rose (S.source source.old).faults (S.source source.new).faults }
     ensures ends { EndsServing result }
-    ensures drawn { outside.new.moments ≤ outside.old.moments + 2 ^ 122 }
+    ensures drawn { outside.new.moments ≤ outside.old.moments + (2 ^ 127 + 2 ^ 126) }
 {
     let kept = store.tables().stores();
     let given = outside.stores.len() as u8;

@@ -1,11 +1,13 @@
-ghost use Rattle.std.specs.Prelude.{◌≡◌, ◌+◌, ◌^◌, ◌≤◌, [], ℕ, IfOk, IsTrue, nat_le, Result, ⊤, Some, vec_len, length};
+ghost use Rattle.std.specs.Prelude.{◌≡◌, ◌⊎◌, ◌+◌, ◌^◌, ◌≤◌, [], ℕ, Err, IfOk, IsTrue, nat_le, Result, ⊤, Some, vec_len, length};
 ghost use Rattle.grid_outside.specs.Fault.{Rose};
 ghost use Rattle.grid_outside.specs.Source.{SourceState};
 ghost use Rattle.grid_model.specs.Limits.{object_size};
 ghost use Rattle.grid_model.specs.Writable.{is_word};
 ghost use Rattle.run_laws.specs.Around.{around};
-ghost use Rattle.cmd_run.specs.Asking.{IsForm};
-ghost use Rattle.cmd_run.specs.Fits.{FitsMain};
+ghost use Rattle.run_laws.specs.Steps.{RequestStep};
+ghost use Rattle.grid_model.specs.Runs.{Request};
+ghost use Rattle.cmd_run.specs.Asking.{AsksForRequest, IsForm};
+ghost use Rattle.cmd_run.specs.Fits.{FitsMain, state_of};
 ghost use Rattle.run_laws.specs.Passes.{AreReady, CallsPass};
 ghost use Rattle.grid_server.specs.Turning.{Commanded, after, is_last, status_of};
 ghost use Rattle.grid_server.specs.Views.{WasRead};
@@ -57,16 +59,15 @@ impl Service {
         requires slots { self.old.server.store.cat.stores ≡ vec_len outside.old.stores }
         requires most { self.old.requests.taken ≤ 2 ^ 48 }
         requires few { self.old.number ≤ 2 ^ 48 }
-        requires ready { AreReady D.disk P.plugin K.sink (2 ^ 72) (record { outside = outside.old; sink = sink.old }) }
+        requires ready { AreReady D.disk P.plugin K.sink (2 ^ 79) (record { outside = outside.old; sink = sink.old }) }
         ensures turns { TakesTurn (record { disk = D.disk; source = S.source; sink = K.sink; ambient = A.ambient; plugin = P.plugin })
             (record { outside = outside.old; source = source.old; sink = sink.old }) (record { outside = outside.new; source = source.new; sink = sink.new })
             self.old self.new result }
         ensures passes { CallsPass D.disk P.plugin K.sink (result ≡ Some Status.DiskFault) (result ≡ Some Status.SinkFault)
             (record { outside = outside.old; sink = sink.old }) (record { outside = outside.new; sink = sink.new }) }
-        ensures untouched { (place : ℕ) → result ≡ Some (Status.Worn Wear.Vaults place) → (outside.new ≡ outside.old) × (sink.new ≡ sink.old) }
         ensures read { WasRead (S.source source.old) (S.source source.new) }
         ensures cause { result ≡ Some Status.SourceFault → Rose (S.source source.old).faults (S.source source.new).faults }
-        ensures drawn { outside.new.moments ≤ outside.old.moments + 2 ^ 72 }
+        ensures drawn { outside.new.moments ≤ outside.old.moments + 2 ^ 79 }
     {
         match self.requests.next(alloc, source) {
             Ok(Next::Request(heard)) => self.handle(alloc, outside, sink, heard),
@@ -77,7 +78,8 @@ impl Service {
         }
     }
 
-    // Handles the request that was heard. With no status the run goes on.
+    // Handles the request that was heard. With no status the run goes on. Where the numbers of vault files have run out nothing was
+    // called, or the request was begun.
     fn handle<D: Disk, K: Sink, A: Ambient, P: Plugin>(
         &mut self,
         alloc: Global,
@@ -91,17 +93,21 @@ impl Service {
         requires small { length heard.body ≤ object_size }
         requires slots { self.old.server.store.cat.stores ≡ vec_len outside.old.stores }
         requires few { self.old.number ≤ 2 ^ 48 }
-        requires ready { AreReady D.disk P.plugin K.sink (2 ^ 72) (record { outside = outside.old; sink = sink.old }) }
+        requires ready { AreReady D.disk P.plugin K.sink (2 ^ 79) (record { outside = outside.old; sink = sink.old }) }
         ensures commands { (r : Result ⊤ Ending) × (result ≡ after (is_last heard) r) × ((source : SourceState) →
             Commanded (around D.disk A.ambient P.plugin outside.old (K.sink sink.old) source)
             (around D.disk A.ambient P.plugin outside.new (K.sink sink.new) source)
-            (record { before = self.old.server; number = self.old.number + 1; heard = heard }) r self.new.server) }
+            (record { before = self.old.server; number = self.old.number + 1; heard = heard }) r self.new.server)
+            × ((place : ℕ) → r ≡ Err (Ending.Worn Wear.Vaults place) → ((outside.new ≡ outside.old) × (sink.new ≡ sink.old))
+            ⊎ ((source : SourceState) (request : Request) → AsksForRequest (state_of self.old.server) heard.asked heard.body request →
+            RequestStep (around D.disk A.ambient P.plugin outside.old (K.sink sink.old) source)
+            (around D.disk A.ambient P.plugin outside.new (K.sink sink.new) source)
+            (state_of self.old.server) self.old.server.store.cat (self.old.number + 1) request)) }
         ensures number { self.new.number ≡ self.old.number + 1 }
         ensures requests { self.new.requests ≡ self.old.requests }
         ensures passes { CallsPass D.disk P.plugin K.sink (result ≡ Some Status.DiskFault) (result ≡ Some Status.SinkFault)
             (record { outside = outside.old; sink = sink.old }) (record { outside = outside.new; sink = sink.new }) }
-        ensures untouched { (place : ℕ) → result ≡ Some (Status.Worn Wear.Vaults place) → (outside.new ≡ outside.old) × (sink.new ≡ sink.old) }
-        ensures drawn { outside.new.moments ≤ outside.old.moments + 2 ^ 72 }
+        ensures drawn { outside.new.moments ≤ outside.old.moments + 2 ^ 79 }
     {
         let last = is_last(&heard);
         let Heard {

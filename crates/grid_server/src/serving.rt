@@ -30,7 +30,7 @@ pub(crate) fn serve_all<D: Disk, S: Source, K: Sink, A: Ambient, P: Plugin>(
     requires fits { FitsMain (D.disk outside.old.main) server }
     requires slots { server.store.cat.stores ≡ vec_len outside.old.stores }
     requires spare_last { (D.disk outside.old.spare).last ≤ outside.old.moments }
-    requires ready { AreReady D.disk P.plugin K.sink (2 ^ 121) (record { outside = outside.old; sink = sink.old }) }
+    requires ready { AreReady D.disk P.plugin K.sink (2 ^ 127 + 2 ^ 80) (record { outside = outside.old; sink = sink.old }) }
     ensures serves { let v : Views D S K A P = record { disk = D.disk; source = S.source; sink = K.sink; ambient = A.ambient; plugin = P.plugin } in
         let start : Around D S K A P = record { outside = outside.old; source = source.old; sink = sink.old } in
         (e : Around D S K A P) (found : Cat) (end : RunEnd) → IsBegun v (before v e start) start found server →
@@ -46,7 +46,7 @@ pub(crate) fn serve_all<D: Disk, S: Source, K: Sink, A: Ambient, P: Plugin>(
         (record { outside = outside.old; sink = sink.old }) (record { outside = outside.new; sink = sink.new }) }
     ensures read { WasRead (S.source source.old) (S.source source.new) }
     ensures cause { result ≡ Status.SourceFault → Rose (S.source source.old).faults (S.source source.new).faults }
-    ensures drawn { outside.new.moments ≤ outside.old.moments + 2 ^ 121 }
+    ensures drawn { outside.new.moments ≤ outside.old.moments + (2 ^ 127 + 2 ^ 80) }
 {
     let Ok(mut service) = Service::new(alloc, server) else {
         return Status::Memory;

@@ -34,7 +34,7 @@ pub(crate) fn sweep_and_serve<D: Disk, S: Source, K: Sink, A: Ambient, P: Plugin
     requires nobody { (n : ℕ) → at server.sessions n ≡ None }
     requires slots { server.store.cat.stores ≡ vec_len outside.old.stores }
     requires spare_last { (D.disk outside.old.spare).last ≤ outside.old.moments }
-    requires ready { AreReady D.disk P.plugin K.sink (2 ^ 121 + 2 ^ 50) (record { outside = outside.old; sink = sink.old }) }
+    requires ready { AreReady D.disk P.plugin K.sink (2 ^ 127 + 2 ^ 81) (record { outside = outside.old; sink = sink.old }) }
     ensures serves { let v : Views D S K A P = record { disk = D.disk; source = S.source; sink = K.sink; ambient = A.ambient; plugin = P.plugin } in
         let start : Around D S K A P = record { outside = outside.old; source = source.old; sink = sink.old } in
         (e : Around D S K A P) (found : Cat) (end : RunEnd) → WasOpened v (before v e start) start found server.store.cat →
@@ -50,7 +50,7 @@ pub(crate) fn sweep_and_serve<D: Disk, S: Source, K: Sink, A: Ambient, P: Plugin
         (record { outside = outside.old; sink = sink.old }) (record { outside = outside.new; sink = sink.new }) }
     ensures read { WasRead (S.source source.old) (S.source source.new) }
     ensures cause { result ≡ Status.SourceFault → Rose (S.source source.old).faults (S.source source.new).faults }
-    ensures drawn { outside.new.moments ≤ outside.old.moments + 2 ^ 121 + 2 ^ 50 }
+    ensures drawn { outside.new.moments ≤ outside.old.moments + (2 ^ 127 + 2 ^ 81) }
 {
     let mut server = server;
     match server.sweep_orphans(alloc, outside) {

@@ -28,7 +28,7 @@ returns-in-Some-clause-serves g c =
     (record { outside = c.turn.new.outside; source = c.turn.new.source; sink = c.turn.new.sink }) c.requests.service c.turn.new.self c.turn.result c.requests.invariant c.turn.ensures.passes c.turn.ensures.read
     c.turn.ensures.turns c.in-Some.status c.in-Some.is
     (record { main_last = c.requires.ready.outside.main_last; spare_last = c.requires.spare_last; sink_last = c.requires.ready.sink_last; stores_last = c.requires.ready.outside.stores_last })
-    c.turn.ensures.untouched c.turn.ensures.cause
+    c.turn.ensures.cause
 
 pub returns-in-Some-clause-took : goal.returns-in-Some-clause-took
 returns-in-Some-clause-took g c =

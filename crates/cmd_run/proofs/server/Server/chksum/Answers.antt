@@ -12,14 +12,14 @@ use Rattle.grid_model.specs.declared.plans.PlanError.TheVariants.{Refused}
 use Rattle.grid_deed.proofs.Keeping.{held_stands}
 use Rattle.plan_object.specs.ChksumPlans.{FindsChksum}
 use Rattle.run_laws.specs.Around.{around}
+use Rattle.chain_laws.proofs.OfDeeds.{chksum_of}
+use Rattle.chain_laws.proofs.OfGrid.{OfGrid}
 use Rattle.cmd_run.specs.Fits.{state_of}
 use Rattle.cmd_run.specs.Obeys.{AsksForFile, SaysOnly}
 use Rattle.cmd_run.proofs.DeedEnds.{refused_said}
 use Rattle.cmd_run.proofs.KeepLemmas.{keep_still}
 use Rattle.cmd_run.proofs.LoginLemmas.{says_no_login}
 use Rattle.cmd_run.proofs.NotRefused.{deed_not_refused}
-use Rattle.cmd_run.proofs.OfDeeds.{chksum_of}
-use Rattle.cmd_run.proofs.OfGrid.{OfGrid}
 use Rattle.cmd_run.proofs.Remembering.{still_remembers, no_source}
 use Rattle.cmd_run.proofs.SayLemmas.{unsaid, unsaid_by}
 use Rattle.cmd_run.proofs.WorkingLemmas.{asks_so}

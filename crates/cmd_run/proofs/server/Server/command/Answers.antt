@@ -1,19 +1,22 @@
-use Rattle.std.proofs.Common.{◌≡◌, true, false, Ok, refl, sym, ap, subst, ◌∙◌, arith}
+use Rattle.std.proofs.Common.{◌≡◌, inl, inr, ℕ, true, false, Ok, refl, sym, ap, subst, ◌∙◌, arith}
 use Rattle.std.specs.Prelude.{nat_le}
 use Rattle.grid_outside.specs.declared.outside.Wear.TheVariants.{Vaults}
 use Rattle.grid_model.specs.Limits.{object_size}
-use Rattle.grid_model.specs.Orders.{Order, lists, logs_in, logs_out, works}
+use Rattle.grid_model.specs.Orders.{Order, executes, lists, logs_in, logs_out, works}
 use Rattle.grid_model.specs.Operations.Table.{put, get, repl, chksum}
 use Rattle.grid_model.specs.Names.{Text, Path}
+use Rattle.grid_model.specs.Refusing.{Or}
+use Rattle.grid_model.specs.RuleText.{CallText}
 use Rattle.grid_model.specs.Runs.{Request}
 use Rattle.grid_model.specs.Working.{well}
 use Rattle.grid_model.specs.declared.replies.End.TheVariants as end
 use Rattle.grid_model.specs.declared.grid.ItemKind.{ItemKind}
 use Rattle.grid_model.specs.declared.requests.Verb.{Verb}
 use Rattle.grid_model.specs.declared.requests.Verb.TheVariants as verb
-use Rattle.run_laws.specs.Steps.{RemovesNoFile}
+use Rattle.run_laws.specs.Steps.{CallsNoRules, RemovesNoFile}
 use Rattle.cmd_run.specs.declared.tagging.TagLine.{TagLine}
 use Rattle.cmd_run.specs.Asking.{AsksForRequest, FitsTag, HasGoodWords, IsForm, IsLineOf, NamesSome, QueryOf, ShowOf, TagOf}
+use Rattle.cmd_run.specs.Calls.{CallOf}
 use Rattle.cmd_run.specs.Fits.{state_of}
 use Rattle.cmd_run.specs.Obeys.{NamesItsCall, SaysOnly}
 use Rattle.run_laws.specs.Around.{around}
@@ -76,35 +79,35 @@ returns-in-Get-clause-obeys g c = λ source request asks.
     ∙ (λ i. Ok (c.in-Ok.request.session, works (get (sym p.path-is i) (resource_is i)) 0))
     )
 
-pub returns-in-Err-clause-untouched : goal.returns-in-Err-clause-untouched
-returns-in-Err-clause-untouched g c place is = absurd ((c.say.ensures.worn no_source (Ok (0, logs_out)) c.args.self.now Vaults place is).3)
+pub returns-in-Err-clause-dry : goal.returns-in-Err-clause-dry
+returns-in-Err-clause-dry g c place is = absurd ((c.say.ensures.worn no_source (Ok (0, logs_out)) Vaults place is).2)
 
-pub returns-in-Login-clause-untouched : goal.returns-in-Login-clause-untouched
-returns-in-Login-clause-untouched g c place is = absurd ((c.login.ensures.worn no_source _ refl Vaults place is).3)
+pub returns-in-Login-clause-dry : goal.returns-in-Login-clause-dry
+returns-in-Login-clause-dry g c place is = absurd ((c.login.ensures.worn no_source _ refl Vaults place is).2)
 
-pub returns-in-Logout-clause-untouched : goal.returns-in-Logout-clause-untouched
-returns-in-Logout-clause-untouched g c place is = absurd ((c.logout.ensures.worn no_source (Ok (c.in-Ok.request.session, logs_out)) refl Vaults place is).3)
+pub returns-in-Logout-clause-dry : goal.returns-in-Logout-clause-dry
+returns-in-Logout-clause-dry g c place is = absurd ((c.logout.ensures.worn no_source (Ok (c.in-Ok.request.session, logs_out)) refl Vaults place is).2)
 
-pub returns-in-Quit-clause-untouched : goal.returns-in-Quit-clause-untouched
-returns-in-Quit-clause-untouched g c place is = absurd ((c.say-in-Quit.ensures.worn no_source (Ok (0, logs_out)) c.args.self.now Vaults place is).3)
+pub returns-in-Quit-clause-dry : goal.returns-in-Quit-clause-dry
+returns-in-Quit-clause-dry g c place is = absurd ((c.say-in-Quit.ensures.worn no_source (Ok (0, logs_out)) Vaults place is).2)
 
-pub returns-in-Get-clause-untouched : goal.returns-in-Get-clause-untouched
-returns-in-Get-clause-untouched g c place is = absurd ((c.get_for.ensures.worn no_source (Ok (0, logs_out)) Vaults place is).3)
+pub returns-in-Get-clause-dry : goal.returns-in-Get-clause-dry
+returns-in-Get-clause-dry g c place is = absurd ((c.get_for.ensures.worn no_source (Ok (0, logs_out)) Vaults place is).2)
 
 pub returns-in-Err-clause-idle : goal.returns-in-Err-clause-idle
-returns-in-Err-clause-idle g c = λ request asks refused. (c.say.ensures.rows, c.say.ensures.stores)
+returns-in-Err-clause-idle g c = λ request asks calls refused. (c.say.ensures.rows, c.say.ensures.stores)
 
 pub returns-in-Login-clause-idle : goal.returns-in-Login-clause-idle
-returns-in-Login-clause-idle g c = λ request asks refused. (c.login.ensures.rows, c.login.ensures.stores)
+returns-in-Login-clause-idle g c = λ request asks calls refused. (c.login.ensures.rows, c.login.ensures.stores)
 
 pub returns-in-Logout-clause-idle : goal.returns-in-Logout-clause-idle
-returns-in-Logout-clause-idle g c = λ request asks refused. (c.logout.ensures.rows, c.logout.ensures.stores)
+returns-in-Logout-clause-idle g c = λ request asks calls refused. (c.logout.ensures.rows, c.logout.ensures.stores)
 
 pub returns-in-Quit-clause-idle : goal.returns-in-Quit-clause-idle
-returns-in-Quit-clause-idle g c = λ request asks refused. (c.say-in-Quit.ensures.rows, c.say-in-Quit.ensures.stores)
+returns-in-Quit-clause-idle g c = λ request asks calls refused. (c.say-in-Quit.ensures.rows, c.say-in-Quit.ensures.stores)
 
 pub returns-in-Put-clause-idle : goal.returns-in-Put-clause-idle
-returns-in-Put-clause-idle g c = λ request asks.
+returns-in-Put-clause-idle g c = λ request asks calls.
     let p = c.in-Put in
     let its = verb_asks (state_of c.args.self.now) c.args.asked c.args.body request c.in-Ok.request (verb.Put p.path p.resource p.mode p.count) c.in-Ok.is p.is asks in
     c.put_line.ensures.idle request (
@@ -115,7 +118,7 @@ returns-in-Put-clause-idle g c = λ request asks.
     )
 
 pub returns-in-Get-clause-idle : goal.returns-in-Get-clause-idle
-returns-in-Get-clause-idle g c = λ request asks.
+returns-in-Get-clause-idle g c = λ request asks calls.
     let p = c.in-Get in
     let its = verb_asks (state_of c.args.self.now) c.args.asked c.args.body request c.in-Ok.request (verb.Get p.path p.resource) c.in-Ok.is p.is asks in
     let resource_is = sym (c.as_ref.ensures.value ∙ p.resource-is) in
@@ -130,10 +133,10 @@ returns-in-Ls-clause-obeys g c = λ source request asks.
     c.list.ensures.obeys source request (its.1 ∙ ap (λ (o : Order). Ok (c.in-Ok.request.session, o)) its.2.1 ∙ ap (λ (p : Path). Ok (c.in-Ok.request.session, lists p)) (sym c.in-Ls.path-is))
 
 pub returns-in-Ls-clause-idle : goal.returns-in-Ls-clause-idle
-returns-in-Ls-clause-idle g c = λ request asks refused. (c.list.ensures.rows, c.list.ensures.stores)
+returns-in-Ls-clause-idle g c = λ request asks calls refused. (c.list.ensures.rows, c.list.ensures.stores)
 
-pub returns-in-Ls-clause-untouched : goal.returns-in-Ls-clause-untouched
-returns-in-Ls-clause-untouched g c place is = absurd ((c.list.ensures.worn no_source (Ok (0, logs_out)) Vaults place is).3)
+pub returns-in-Ls-clause-dry : goal.returns-in-Ls-clause-dry
+returns-in-Ls-clause-dry g c place is = absurd ((c.list.ensures.worn no_source (Ok (0, logs_out)) Vaults place is).2)
 
 pub returns-in-Err-clause-call : goal.returns-in-Err-clause-call
 returns-in-Err-clause-call g c = λ l its. call_none l c.args.self.now.store.cat c.args.outside.now.moments (g.D.Disk.disk c.args.outside.now.main) (g.D.Disk.disk c.say.new.outside.main) c.say.ensures.remembers
@@ -196,12 +199,12 @@ returns-in-Sweep-clause-remembers g c = λ request asks no_sweep.
     absurd (subst RemovesNoFile (its.1 ∙ ap (λ (o : Order). Ok (c.in-Ok.request.session, o)) its.2.1) no_sweep)
 
 pub returns-in-Sweep-clause-idle : goal.returns-in-Sweep-clause-idle
-returns-in-Sweep-clause-idle g c = λ request asks.
+returns-in-Sweep-clause-idle g c = λ request asks calls.
     let its = verb_asks (state_of c.args.self.now) c.args.asked c.args.body request c.in-Ok.request verb.Sweep c.in-Ok.is c.in-Sweep.is asks in
     c.sweep.ensures.idle request (its.1 ∙ ap (λ (o : Order). Ok (c.in-Ok.request.session, o)) its.2.1)
 
-pub returns-in-Sweep-clause-untouched : goal.returns-in-Sweep-clause-untouched
-returns-in-Sweep-clause-untouched g c place is = absurd ((c.sweep.ensures.worn no_source (Ok (0, logs_out)) Vaults place is).3)
+pub returns-in-Sweep-clause-dry : goal.returns-in-Sweep-clause-dry
+returns-in-Sweep-clause-dry g c place is = absurd ((c.sweep.ensures.worn no_source (Ok (0, logs_out)) Vaults place is).2)
 
 pub returns-in-Repl-clause-obeys : goal.returns-in-Repl-clause-obeys
 returns-in-Repl-clause-obeys g c = λ source request asks.
@@ -222,7 +225,7 @@ returns-in-Repl-clause-worn g c = λ source request asks.
     )
 
 pub returns-in-Repl-clause-idle : goal.returns-in-Repl-clause-idle
-returns-in-Repl-clause-idle g c = λ request asks.
+returns-in-Repl-clause-idle g c = λ request asks calls.
     let p = c.in-Repl in
     let its = verb_asks (state_of c.args.self.now) c.args.asked c.args.body request c.in-Ok.request (verb.Repl p.path p.resource) c.in-Ok.is p.is asks in
     c.repl.ensures.idle request (
@@ -247,7 +250,7 @@ returns-in-ChkSum-clause-obeys g c = λ source request asks.
     )
 
 pub returns-in-ChkSum-clause-idle : goal.returns-in-ChkSum-clause-idle
-returns-in-ChkSum-clause-idle g c = λ request asks.
+returns-in-ChkSum-clause-idle g c = λ request asks calls.
     let p = c.in-ChkSum in
     let its = verb_asks (state_of c.args.self.now) c.args.asked c.args.body request c.in-Ok.request (verb.ChkSum p.path) c.in-Ok.is p.is asks in
     c.chksum.ensures.idle request (
@@ -261,8 +264,8 @@ pub returns-in-ChkSum-clause-remembers : goal.returns-in-ChkSum-clause-remembers
 returns-in-ChkSum-clause-remembers g c = λ request asks no_sweep.
     remembers_none c.args.line c.args.self.now.store.cat c.args.outside.now.moments (g.D.Disk.disk c.args.outside.now.main) (g.D.Disk.disk c.chksum.new.outside.main) c.chksum.ensures.remembers
 
-pub returns-in-ChkSum-clause-untouched : goal.returns-in-ChkSum-clause-untouched
-returns-in-ChkSum-clause-untouched g c place is = absurd ((c.chksum.ensures.worn no_source (Ok (0, logs_out)) Vaults place is).3)
+pub returns-in-ChkSum-clause-dry : goal.returns-in-ChkSum-clause-dry
+returns-in-ChkSum-clause-dry g c place is = absurd ((c.chksum.ensures.worn no_source (Ok (0, logs_out)) Vaults place is).2)
 
 pub tag-requires-clause-line : goal.tag-requires-clause-line
 tag-requires-clause-line g c =
@@ -279,7 +282,7 @@ returns-in-AddMeta-clause-obeys g c = λ source request asks.
     (subst (λ k. W k c.in-Ok.request.verb) (sym p.item-is) (subst (W p.item) (sym p.is) (its.2.1.0, its.2.1.1, its.1 ∙ ap (λ (o : Order). Ok (c.in-Ok.request.session, o)) its.2.1.2)))
 
 pub returns-in-AddMeta-clause-idle : goal.returns-in-AddMeta-clause-idle
-returns-in-AddMeta-clause-idle g c = λ request asks.
+returns-in-AddMeta-clause-idle g c = λ request asks calls.
     let p = c.in-AddMeta in
     let its = verb_asks (state_of c.args.self.now) c.args.asked c.args.body request c.in-Ok.request (verb.AddMeta p.item p.name p.attribute p.value p.unit) c.in-Ok.is p.is asks in
     let W : ItemKind → Verb → Type 0 = λ k v. TagOf c.in-Ok.request.session true (line_of k (values_d TheVerb.enum 31 p.name-1-own.given.0 v)) request in
@@ -293,8 +296,8 @@ pub returns-in-AddMeta-clause-remembers : goal.returns-in-AddMeta-clause-remembe
 returns-in-AddMeta-clause-remembers g c = λ request asks no_sweep.
     remembers_none c.args.line c.args.self.now.store.cat c.args.outside.now.moments (g.D.Disk.disk c.args.outside.now.main) (g.D.Disk.disk c.tag.new.outside.main) c.tag.ensures.remembers
 
-pub returns-in-AddMeta-clause-untouched : goal.returns-in-AddMeta-clause-untouched
-returns-in-AddMeta-clause-untouched g c place is = absurd ((c.tag.ensures.worn no_source (Ok (0, logs_out)) Vaults place is).3)
+pub returns-in-AddMeta-clause-dry : goal.returns-in-AddMeta-clause-dry
+returns-in-AddMeta-clause-dry g c place is = absurd ((c.tag.ensures.worn no_source (Ok (0, logs_out)) Vaults place is).2)
 
 pub tag-requires-in-RmMeta-clause-line : goal.tag-requires-in-RmMeta-clause-line
 tag-requires-in-RmMeta-clause-line g c =
@@ -311,7 +314,7 @@ returns-in-RmMeta-clause-obeys g c = λ source request asks.
     (subst (λ k. W k c.in-Ok.request.verb) (sym p.item-is) (subst (W p.item) (sym p.is) (its.2.1.0, its.2.1.1, its.1 ∙ ap (λ (o : Order). Ok (c.in-Ok.request.session, o)) its.2.1.2)))
 
 pub returns-in-RmMeta-clause-idle : goal.returns-in-RmMeta-clause-idle
-returns-in-RmMeta-clause-idle g c = λ request asks.
+returns-in-RmMeta-clause-idle g c = λ request asks calls.
     let p = c.in-RmMeta in
     let its = verb_asks (state_of c.args.self.now) c.args.asked c.args.body request c.in-Ok.request (verb.RmMeta p.item p.name p.attribute p.value p.unit) c.in-Ok.is p.is asks in
     let W : ItemKind → Verb → Type 0 = λ k v. TagOf c.in-Ok.request.session false (line_of k (values_d TheVerb.enum 32 p.name-in-RmMeta-1-own.given.0 v)) request in
@@ -325,8 +328,8 @@ pub returns-in-RmMeta-clause-remembers : goal.returns-in-RmMeta-clause-remembers
 returns-in-RmMeta-clause-remembers g c = λ request asks no_sweep.
     remembers_none c.args.line c.args.self.now.store.cat c.args.outside.now.moments (g.D.Disk.disk c.args.outside.now.main) (g.D.Disk.disk c.tag-in-RmMeta.new.outside.main) c.tag-in-RmMeta.ensures.remembers
 
-pub returns-in-RmMeta-clause-untouched : goal.returns-in-RmMeta-clause-untouched
-returns-in-RmMeta-clause-untouched g c place is = absurd ((c.tag-in-RmMeta.ensures.worn no_source (Ok (0, logs_out)) Vaults place is).3)
+pub returns-in-RmMeta-clause-dry : goal.returns-in-RmMeta-clause-dry
+returns-in-RmMeta-clause-dry g c place is = absurd ((c.tag-in-RmMeta.ensures.worn no_source (Ok (0, logs_out)) Vaults place is).2)
 
 pub show_tags-requires-clause-thing : goal.show_tags-requires-clause-thing
 show_tags-requires-clause-thing g c =
@@ -343,7 +346,7 @@ returns-in-LsMeta-clause-obeys g c = λ source request asks.
     (subst (λ k. W k c.in-Ok.request.verb) (sym p.item-is) (subst (W p.item) (sym p.is) (its.2.1.0, its.2.1.1, its.1 ∙ ap (λ (o : Order). Ok (c.in-Ok.request.session, o)) its.2.1.2)))
 
 pub returns-in-LsMeta-clause-idle : goal.returns-in-LsMeta-clause-idle
-returns-in-LsMeta-clause-idle g c = λ request asks refused. (c.show_tags.ensures.rows, c.show_tags.ensures.stores)
+returns-in-LsMeta-clause-idle g c = λ request asks calls refused. (c.show_tags.ensures.rows, c.show_tags.ensures.stores)
 
 pub returns-in-LsMeta-clause-call : goal.returns-in-LsMeta-clause-call
 returns-in-LsMeta-clause-call g c = λ l its. call_none l c.args.self.now.store.cat c.args.outside.now.moments (g.D.Disk.disk c.args.outside.now.main) (g.D.Disk.disk c.show_tags.new.outside.main) c.show_tags.ensures.remembers
@@ -352,8 +355,8 @@ pub returns-in-LsMeta-clause-remembers : goal.returns-in-LsMeta-clause-remembers
 returns-in-LsMeta-clause-remembers g c = λ request asks no_sweep.
     remembers_none c.args.line c.args.self.now.store.cat c.args.outside.now.moments (g.D.Disk.disk c.args.outside.now.main) (g.D.Disk.disk c.show_tags.new.outside.main) c.show_tags.ensures.remembers
 
-pub returns-in-LsMeta-clause-untouched : goal.returns-in-LsMeta-clause-untouched
-returns-in-LsMeta-clause-untouched g c place is = absurd ((c.show_tags.ensures.worn no_source (Ok (0, logs_out)) Vaults place is).3)
+pub returns-in-LsMeta-clause-dry : goal.returns-in-LsMeta-clause-dry
+returns-in-LsMeta-clause-dry g c place is = absurd ((c.show_tags.ensures.worn no_source (Ok (0, logs_out)) Vaults place is).2)
 
 pub returns-in-Query-clause-obeys : goal.returns-in-Query-clause-obeys
 returns-in-Query-clause-obeys g c = λ source request asks.
@@ -363,7 +366,7 @@ returns-in-Query-clause-obeys g c = λ source request asks.
     (subst Q (sym c.in-Query.text-is) (its.2.1.0, its.2.1.1, its.1 ∙ ap (λ (o : Order). Ok (c.in-Ok.request.session, o)) its.2.1.2))
 
 pub returns-in-Query-clause-idle : goal.returns-in-Query-clause-idle
-returns-in-Query-clause-idle g c = λ request asks refused. (c.query.ensures.rows, c.query.ensures.stores)
+returns-in-Query-clause-idle g c = λ request asks calls refused. (c.query.ensures.rows, c.query.ensures.stores)
 
 pub returns-in-Query-clause-call : goal.returns-in-Query-clause-call
 returns-in-Query-clause-call g c = λ l its. call_none l c.args.self.now.store.cat c.args.outside.now.moments (g.D.Disk.disk c.args.outside.now.main) (g.D.Disk.disk c.query.new.outside.main) c.query.ensures.remembers
@@ -372,8 +375,61 @@ pub returns-in-Query-clause-remembers : goal.returns-in-Query-clause-remembers
 returns-in-Query-clause-remembers g c = λ request asks no_sweep.
     remembers_none c.args.line c.args.self.now.store.cat c.args.outside.now.moments (g.D.Disk.disk c.args.outside.now.main) (g.D.Disk.disk c.query.new.outside.main) c.query.ensures.remembers
 
-pub returns-in-Query-clause-untouched : goal.returns-in-Query-clause-untouched
-returns-in-Query-clause-untouched g c place is = absurd ((c.query.ensures.worn no_source (Ok (0, logs_out)) Vaults place is).3)
+pub returns-in-Query-clause-dry : goal.returns-in-Query-clause-dry
+returns-in-Query-clause-dry g c place is = absurd ((c.query.ensures.worn no_source (Ok (0, logs_out)) Vaults place is).2)
+
+pub returns-in-Put-clause-dry : goal.returns-in-Put-clause-dry
+returns-in-Put-clause-dry g c place is = inl (c.put_line.ensures.untouched place is)
+
+pub returns-in-Repl-clause-dry : goal.returns-in-Repl-clause-dry
+returns-in-Repl-clause-dry g c place is = inl (c.repl.ensures.untouched place is)
+
+-- what a request asks for by the words of a call
+call_asked : (session : ℕ) (text other : Text) (request : Request) → text ≡ other → CallOf session text request → CallOf session other request
+call_asked session text other request is asks = let Q : Text → Type 0 = λ t. CallOf session t request in subst Q is asks
+
+pub returns-in-Exec-clause-obeys : goal.returns-in-Exec-clause-obeys
+returns-in-Exec-clause-obeys g c = λ source request asks.
+    let its = verb_asks (state_of c.args.self.now) c.args.asked c.args.body request c.in-Ok.request (verb.Exec c.in-Exec.text) c.in-Ok.is c.in-Exec.is asks in
+    c.exec.ensures.obeys source request (call_asked c.in-Ok.request.session _ _ request (sym c.in-Exec.text-is)
+    (its.2.1.0, its.2.1.1, its.1 ∙ ap (λ (o : Order). Ok (c.in-Ok.request.session, o)) its.2.1.2))
+
+pub returns-in-Exec-clause-worn : goal.returns-in-Exec-clause-worn
+returns-in-Exec-clause-worn g c = λ source request asks.
+    let its = verb_asks (state_of c.args.self.now) c.args.asked c.args.body request c.in-Ok.request (verb.Exec c.in-Exec.text) c.in-Ok.is c.in-Exec.is asks in
+    c.exec.ensures.worn source request (call_asked c.in-Ok.request.session _ _ request (sym c.in-Exec.text-is)
+    (its.2.1.0, its.2.1.1, its.1 ∙ ap (λ (o : Order). Ok (c.in-Ok.request.session, o)) its.2.1.2))
+
+pub returns-in-Exec-clause-dry : goal.returns-in-Exec-clause-dry
+returns-in-Exec-clause-dry g c place is = inr (λ source request asks.
+    let its = verb_asks (state_of c.args.self.now) c.args.asked c.args.body request c.in-Ok.request (verb.Exec c.in-Exec.text) c.in-Ok.is c.in-Exec.is asks in
+    c.exec.ensures.dry place is source request (call_asked c.in-Ok.request.session _ _ request (sym c.in-Exec.text-is)
+    (its.2.1.0, its.2.1.1, its.1 ∙ ap (λ (o : Order). Ok (c.in-Ok.request.session, o)) its.2.1.2)))
+
+no_call : (request : Request) (n : ℕ) (order : Order) (call : Or CallText) → request ≡ Ok (n, order) → order ≡ executes call → CallsNoRules request → ⊥
+no_call request n order call is order_is calls = subst CallsNoRules (is ∙ ap (λ (o : Order). Ok (n, o)) order_is) calls
+
+pub returns-in-Exec-clause-idle : goal.returns-in-Exec-clause-idle
+returns-in-Exec-clause-idle g c = λ request asks calls refused.
+    let its = verb_asks (state_of c.args.self.now) c.args.asked c.args.body request c.in-Ok.request (verb.Exec c.in-Exec.text) c.in-Ok.is c.in-Exec.is asks in
+    absurd (no_call request c.in-Ok.request.session its.0 its.2.1.0 its.1 its.2.1.2 calls)
+
+pub returns-in-Exec-clause-call : goal.returns-in-Exec-clause-call
+returns-in-Exec-clause-call g c = λ l its.
+    let A : _ → Type 0 = λ a. IsLineOf a c.args.line l in
+    let same : c.args.line ≡ l = subst A c.in-Ok.is its in
+    let N : Text → Type 0 = λ t. NamesItsCall t c.args.outside.now.moments (g.D.Disk.disk c.args.outside.now.main) (g.D.Disk.disk c.exec.new.outside.main) in
+    subst N same (call_of c.args.line c.args.self.now.store.cat c.args.outside.now.moments (g.D.Disk.disk c.args.outside.now.main) (g.D.Disk.disk c.exec.new.outside.main) c.exec.ensures.remembers)
+
+pub returns-in-Exec-clause-remembers : goal.returns-in-Exec-clause-remembers
+returns-in-Exec-clause-remembers g c = λ request asks no_sweep. c.exec.ensures.remembers
+
+pub returns-in-Exec-clause-few : goal.returns-in-Exec-clause-few
+returns-in-Exec-clause-few g c = λ source request asks.
+    let p = c.in-Exec in
+    few_other (around g.D.Disk.disk g.A.Ambient.ambient g.P.Plugin.plugin c.args.outside.now (g.K.Sink.sink c.args.sink.now) source)
+    (around g.D.Disk.disk g.A.Ambient.ambient g.P.Plugin.plugin c.exec.new.outside (g.K.Sink.sink c.exec.new.sink) source)
+    c.args.self.now request c.exec.result c.exec.new.self c.args.asked c.args.body asks c.in-Ok.request (verb.Exec p.text) c.in-Ok.is p.is refl
 
 pub returns-in_default : goal.returns-in_default
 returns-in_default g c =
@@ -382,7 +438,7 @@ returns-in_default g c =
     let other = asks_other (state_of c.args.self.now) c.args.asked c.args.body in
     record {
       obeys = λ source request asks. w.obeys source request
-          (other request c.in-Ok.request c.in-Ok.is n.not-Login n.not-Logout n.not-Quit n.not-Sweep n.not-Ls n.not-Put n.not-Get n.not-AddMeta n.not-RmMeta n.not-LsMeta n.not-Repl n.not-ChkSum n.not-Query asks);
+          (other request c.in-Ok.request c.in-Ok.is n.not-Login n.not-Logout n.not-Quit n.not-Sweep n.not-Ls n.not-Put n.not-Get n.not-AddMeta n.not-RmMeta n.not-LsMeta n.not-Repl n.not-ChkSum n.not-Query n.not-Exec asks);
       few = λ source request asks. few_other (around g.D.Disk.disk g.A.Ambient.ambient g.P.Plugin.plugin c.args.outside.now (g.K.Sink.sink c.args.sink.now) source)
           (around g.D.Disk.disk g.A.Ambient.ambient g.P.Plugin.plugin c.works.new.outside (g.K.Sink.sink c.works.new.sink) source)
           c.args.self.now request c.works.result c.works.new.self c.args.asked c.args.body asks c.in-Ok.request c.in-Ok.request.verb c.in-Ok.is refl (not_sweep c.in-Ok.request.verb n.not-Sweep);
@@ -391,9 +447,9 @@ returns-in_default g c =
       remembers = λ request asks no_sweep. remembers_none c.args.line c.args.self.now.store.cat c.args.outside.now.moments (g.D.Disk.disk c.args.outside.now.main) (g.D.Disk.disk c.works.new.outside.main) w.remembers;
       whole = w.whole;
       passes = w.passes;
-      idle = λ request asks. w.idle request
-          (other request c.in-Ok.request c.in-Ok.is n.not-Login n.not-Logout n.not-Quit n.not-Sweep n.not-Ls n.not-Put n.not-Get n.not-AddMeta n.not-RmMeta n.not-LsMeta n.not-Repl n.not-ChkSum n.not-Query asks);
-      untouched = λ place is. absurd ((w.worn no_source (Ok (0, logs_out)) Vaults place is).3);
+      idle = λ request asks calls. w.idle request
+          (other request c.in-Ok.request c.in-Ok.is n.not-Login n.not-Logout n.not-Quit n.not-Sweep n.not-Ls n.not-Put n.not-Get n.not-AddMeta n.not-RmMeta n.not-LsMeta n.not-Repl n.not-ChkSum n.not-Query n.not-Exec asks);
+      dry = λ place is. absurd ((w.worn no_source (Ok (0, logs_out)) Vaults place is).2);
       drawn = omega (arith, w.drawn);
     }
 

@@ -55,7 +55,7 @@ returns-clause-remembers g c =
     (still_remembers g.D.Disk.disk main main c.args.self.now.store c.args.outside.now.moments refl c.requires.ready.outside.main_last c.requires.fits.held c.requires.fits.pending)
 
 pub returns-in-Err-Refused-clause-untouched : goal.returns-in-Err-Refused-clause-untouched
-returns-in-Err-Refused-clause-untouched g c place is = absurd ((c.say.ensures.worn no_source (Ok (0, logs_out)) c.args.self.now Vaults place is).3)
+returns-in-Err-Refused-clause-untouched g c place is = absurd ((c.say.ensures.worn no_source (Ok (0, logs_out)) Vaults place is).2)
 
 pub returns-in-Ok-clause-untouched : goal.returns-in-Ok-clause-untouched
 returns-in-Ok-clause-untouched g c place is = absurd (c.put_drawn.ensures.log_only place is)

@@ -40,11 +40,11 @@ returns-clause-worn g c = λ source request asks.
     c.put.ensures.worn source request (asks_to_put s c.args.session c.in-Some.user (sym c.in-Some.ensures) c.args.line request asks (le-leb c.args.line.count object_size (omega (arith, c.if-line-gt-OBJECT_SIZE.false))))
 
 pub returns-in_default-clause-untouched : goal.returns-in_default-clause-untouched
-returns-in_default-clause-untouched g c place is = absurd ((c.say.ensures.worn no_source (Ok (0, logs_out)) c.args.self.now Vaults place is).3)
+returns-in_default-clause-untouched g c place is = absurd ((c.say.ensures.worn no_source (Ok (0, logs_out)) Vaults place is).2)
 
 pub returns-then-line-gt-OBJECT_SIZE-clause-untouched : goal.returns-then-line-gt-OBJECT_SIZE-clause-untouched
 returns-then-line-gt-OBJECT_SIZE-clause-untouched g c place is =
-    absurd ((c.say-then-line-gt-OBJECT_SIZE.ensures.worn no_source (Ok (0, logs_out)) c.args.self.now Vaults place is).3)
+    absurd ((c.say-then-line-gt-OBJECT_SIZE.ensures.worn no_source (Ok (0, logs_out)) Vaults place is).2)
 
 pub returns-in_default-clause-idle : goal.returns-in_default-clause-idle
 returns-in_default-clause-idle g c = λ request asks refused. (c.say.ensures.rows, c.say.ensures.stores)

@@ -13,14 +13,14 @@ use Rattle.grid_deed.proofs.Keeping.{held_stands}
 use Rattle.plan_object.specs.ReplPlans.{FindsRepl}
 use Rattle.plan_object.proofs.ReplRows.{repl_is}
 use Rattle.run_laws.specs.Around.{around}
+use Rattle.chain_laws.proofs.OfDeeds.{repl_of}
+use Rattle.chain_laws.proofs.OfGrid.{OfGrid}
 use Rattle.cmd_run.specs.Fits.{state_of}
 use Rattle.cmd_run.specs.Obeys.{AsksForFile, SaysOnly}
 use Rattle.cmd_run.proofs.DeedEnds.{refused_said, worn_vaults}
 use Rattle.cmd_run.proofs.KeepLemmas.{keep_still}
 use Rattle.cmd_run.proofs.LoginLemmas.{says_no_login}
 use Rattle.cmd_run.proofs.NotRefused.{deed_not_refused}
-use Rattle.cmd_run.proofs.OfDeeds.{repl_of}
-use Rattle.cmd_run.proofs.OfGrid.{OfGrid}
 use Rattle.cmd_run.proofs.Remembering.{no_source, remembers_none, still_remembers}
 use Rattle.cmd_run.proofs.SayLemmas.{unsaid, unsaid_by}
 use Rattle.cmd_run.proofs.WorkingLemmas.{asks_so}
@@ -36,7 +36,7 @@ pub returns-in_default-clause-idle : goal.returns-in_default-clause-idle
 returns-in_default-clause-idle g c = λ request asks refused. (c.say.ensures.rows, c.say.ensures.stores)
 
 pub returns-in_default-clause-untouched : goal.returns-in_default-clause-untouched
-returns-in_default-clause-untouched g c place is = absurd ((c.say.ensures.worn no_source (Ok (0, logs_out)) c.args.self.now Vaults place is).3)
+returns-in_default-clause-untouched g c place is = absurd ((c.say.ensures.worn no_source (Ok (0, logs_out)) Vaults place is).2)
 
 pub returns-then-next-gt-LAST_VAULT-clause-obeys : goal.returns-then-next-gt-LAST_VAULT-clause-obeys
 returns-then-next-gt-LAST_VAULT-clause-obeys g c = λ source request asks.
@@ -97,7 +97,7 @@ pub returns-in-Err-Refused-clause-idle : goal.returns-in-Err-Refused-clause-idle
 returns-in-Err-Refused-clause-idle g c = λ request asks refused. (c.say-in-Err-Refused.ensures.rows, c.say-in-Err-Refused.ensures.stores)
 
 pub returns-in-Err-Refused-clause-untouched : goal.returns-in-Err-Refused-clause-untouched
-returns-in-Err-Refused-clause-untouched g c place is = absurd ((c.say-in-Err-Refused.ensures.worn no_source (Ok (0, logs_out)) c.args.self.now Vaults place is).3)
+returns-in-Err-Refused-clause-untouched g c place is = absurd ((c.say-in-Err-Refused.ensures.worn no_source (Ok (0, logs_out)) Vaults place is).2)
 
 pub returns-in-Err-Memory-clause-obeys : goal.returns-in-Err-Memory-clause-obeys
 returns-in-Err-Memory-clause-obeys g c = λ source request asks.

@@ -1,7 +1,5 @@
-use Rattle.std.proofs.Common.{ap, ◌∙◌, sym}
-use Rattle.grid_outside.specs.declared.outside.Wear.TheVariants.{Vaults}
+use Rattle.std.proofs.Common.{ap, ◌∙◌}
 use Rattle.grid_server.specs.Turning.{after}
-use Rattle.grid_server.proofs.TurnLemmas.{after_worn}
 use Rattle.grid_server.proofs.service.Service.handle.Goals as goal
 
 pub returns-clause-commands : goal.returns-clause-commands
@@ -16,7 +14,5 @@ returns-clause-commands g c = (
     remembers = c.command-answered.ensures.remembers;
     few = c.command-answered.ensures.few source;
   },
+  c.command-answered.ensures.dry,
 )
-
-pub returns-clause-untouched : goal.returns-clause-untouched
-returns-clause-untouched g c = λ place is. c.command-answered.ensures.untouched place (after_worn Vaults place c.is_last-last.result c.command-answered.result (sym c.after.ensures ∙ is))

@@ -3,6 +3,7 @@ use Rattle.req_lines.specs.Reading.{Reader, input}
 use Rattle.req_lines.specs.Hearing.{Finds, Hears}
 use Rattle.req_lines.specs.declared.requests.Next.{Next}
 use Rattle.grid_server.specs.Turning.{handled}
+use Rattle.grid_server.proofs.AnsweredLemmas.{uncalled_or_begun}
 use Rattle.grid_server.proofs.AskLemmas.{form_of, kept_word}
 use Rattle.grid_server.proofs.service.Service.turn.Goals as goal
 
@@ -31,3 +32,4 @@ returns-in-Ok-Request-clause-turns g c =
     let H : Reader → Type 0 = λ r. Hears (input c.args.self.now.requests from) (input r to) c.in-Ok-Request.heard in
     let commands = c.handle.ensures.commands in
     handled c.in-Ok-Request.heard commands.0 commands.1 (subst H (sym c.handle.ensures.requests) (subst F c.in-Ok-Request.field-0-is c.in-Ok-Request.ensures.finds)) c.handle.ensures.number (commands.2 to)
+    (λ place is. uncalled_or_begun to (commands.3 place is))
