@@ -1,6 +1,7 @@
 mod beginning;
 mod bodies;
 mod bytes_of_main;
+mod calls;
 mod catalogues;
 mod copies;
 mod copies_back;

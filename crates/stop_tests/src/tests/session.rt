@@ -2,7 +2,7 @@
 use std::alloc::{AllocError, Global};
 
 // Its requests, each with its body, and its reply. Each is done.
-const SESSION: [(&[u8], &[u8]); 17] = [
+const SESSION: [(&[u8], &[u8]); 20] = [
     (b"0 login rods\n", b"1 ok\n"),
     (b"0 mkresc d0 unixfilesystem 0\n", b"2 ok\n"),
     (b"0 mkresc d1 unixfilesystem 1\n", b"3 ok\n"),
@@ -29,18 +29,31 @@ const SESSION: [(&[u8], &[u8]); 17] = [
         b"0 repl /tempZone/home/rods/c/b d1\n",
         b"14 mark ran 0 1000\n14 ok\n",
     ),
-    (b"0 trim /tempZone/home/rods/c/b d0\n", b"15 ok\n"),
-    (b"0 rm /tempZone/home/rods/a\n", b"16 ok\n"),
-    (b"0 quit\n", b"17 ok\n"),
+    (
+        b"0 exec \"msiDataObjCopy('/tempZone/home/rods/c/b', '/tempZone/home/rods/e', 'd2')\"\n",
+        b"15 mark ran 0 1000\n15 ok\n",
+    ),
+    (
+        b"0 exec \"msiAddAVU('-d', '/tempZone/home/rods/e', 'k', $userNameClient, '')\"\n",
+        b"16 ok\n",
+    ),
+    (
+        b"0 exec \"msiDataObjUnlink('/tempZone/home/rods/a')\"\n",
+        b"17 ok\n",
+    ),
+    (b"0 trim /tempZone/home/rods/c/b d0\n", b"18 ok\n"),
+    (b"0 rm /tempZone/home/rods/c/b\n", b"19 ok\n"),
+    (b"0 quit\n", b"20 ok\n"),
 ];
 
 // The numbers of its requests that are noted as pending while files are made for them.
-pub(crate) const WITH_FILES: [u64; 4] = [9, 10, 12, 14];
+pub(crate) const WITH_FILES: [u64; 5] = [9, 10, 12, 14, 15];
 
 // Lists all that there may be.
 pub(crate) const LISTS: &[u8] = b"0 login rods\n0 ls /\n0 ls /tempZone\n0 ls /tempZone/home\n\
 0 ls /tempZone/home/rods\n0 ls /tempZone/home/rods/a\n0 lsmeta -d /tempZone/home/rods/a\n\
-0 ls /tempZone/home/rods/c\n0 ls /tempZone/home/rods/c/b\n";
+0 ls /tempZone/home/rods/c\n0 ls /tempZone/home/rods/c/b\n0 ls /tempZone/home/rods/e\n\
+0 lsmeta -d /tempZone/home/rods/e\n";
 
 // How many requests it has.
 pub(crate) fn count() -> usize {
