@@ -68,7 +68,7 @@ const PASSED_OVER: [(&[u8], &[u8]); 31] = [
         b"0 open /f d0 new\n0 login rods\n",
         b"1 err UnknownCommand\n2 ok\n",
     ),
-    (b"0 exec 3\n0 login rods\n", b"1 err UnknownCommand\n2 ok\n"),
+    (b"0 exec 3\n0 login rods\n", b"1 err NoLogin\n2 ok\n"),
     (b"put 3\n0 login rods\n", b"1 err BadWord 0\n2 ok\n"),
     (b"0 put \"3\n0 login rods\n", b"1 err Syntax 8\n2 ok\n"),
     // The input ends within a body, and before it. What is wrong with the words is told before.
