@@ -47,8 +47,8 @@ pub record IsSetting {F : Type 0} (s : Setting F) : Type 0 where
   pub user : IsTrue (is_user s.found s.start.user)
   pub untold : s.start.untold ≡ []
   pub on_way : (c : Cat) (told : List Mark) → s.OnMain c told → s.OnWay c
-  pub one_image : (f : F) (told : List Mark) → AreFirst told (s.marks_of f) → (c : Cat) → s.OnMain c told → (shown main sink : Text) → StandsFor main c
-      → AddsPart (lines_of s.start.number told) shown sink → s.OneOf f shown main sink
+  pub one_image : (f : F) (told : List Mark) → AreFirst told (s.marks_of f) → (c : Cat) → s.OnMain c told → (shown main sink : Text)
+      → StandsFor main c → AddsPart (lines_of s.start.number told) shown sink → s.OneOf f shown main sink
 
 -- The call may be made of the command with these rows, behind these marks: where it is noted main may have that.
 pub record MayCall {F : Type 0} (s : Setting F) (rows : Cat) (y : Command) (taken : List Mark) (call : Call) (undo : List Call) : Type 0 where

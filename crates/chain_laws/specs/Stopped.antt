@@ -11,5 +11,5 @@ use Rattle.chain_run.specs.Runs.{by_itself}
 
 -- where a stop was taken, and none before, it halts with that
 abbrev pub StopsHalt : Type 0
-StopsHalt = (rules : List Rule) (env : Env) (c : Call) (vs : List Value) (s : Course) (n : Named) → s.stopped ≡ false → by_itself rules env c vs s ≡ gives n
-    → n.state.stopped ≡ true → n.outcome ≡ halted Stopped
+StopsHalt = (rules : List Rule) (env : Env) (c : Call) (vs : List Value) (s : Course) (n : Named) → s.stopped ≡ false
+    → by_itself rules env c vs s ≡ gives n → n.state.stopped ≡ true → n.outcome ≡ halted Stopped
