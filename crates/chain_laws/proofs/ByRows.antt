@@ -32,17 +32,17 @@ use Rattle.chain_laws.proofs.OfOperations.{of_row}
 -- ---- what is given
 
 -- P of what it gives, where it gives something
-abbrev AllGive : {A : Type 0} → (A → Type 0) → Meaning A → Type 0
+abbrev pub AllGive : {A : Type 0} → (A → Type 0) → Meaning A → Type 0
 AllGive P (gives x) = P x
 AllGive P other = Unit {0}
 
 module _ {A B : Type 0} (P : A → Type 0) (Q : B → Type 0) where
-  next_gives : (f : A → Meaning B) (m : Meaning A) → AllGive P m → ((x : A) → P x → AllGive Q (f x)) → AllGive Q (m >>= f)
+  pub next_gives : (f : A → Meaning B) (m : Meaning A) → AllGive P m → ((x : A) → P x → AllGive Q (f x)) → AllGive Q (m >>= f)
   next_gives f (gives x) h each = each x h
   next_gives f (waits w) h each = tt
   next_gives f unfit h each = tt
 
-  mapped_give : (f : A → B) (m : Meaning A) → AllGive P m → ((x : A) → P x → Q (f x)) → AllGive Q (mapped f m)
+  pub mapped_give : (f : A → B) (m : Meaning A) → AllGive P m → ((x : A) → P x → Q (f x)) → AllGive Q (mapped f m)
   mapped_give f (gives x) h each = each x h
   mapped_give f (waits w) h each = tt
   mapped_give f unfit h each = tt
@@ -55,12 +55,12 @@ behind_give P cs unfit h = tt
 -- ---- calls
 
 -- where it failed, it is by the grid or by a step
-abbrev FailureByRows : Option Failure → Type 0
+abbrev pub FailureByRows : Option Failure → Type 0
 FailureByRows None = Unit {0}
 FailureByRows (Some f) = IsOfStep f
 
 -- what a call left: it goes on cleanly, and failed so
-abbrev DidSo : Did → Type 0
+abbrev pub DidSo : Did → Type 0
 DidSo d = Clean d.state × FailureByRows d.failure
 
 fits_so : (b : Bool) (s : Course) (d : Deed) (m : Mark) (rest : List Mark) → is_clean_mark m ≡ true → s.stopped ≡ false → AreClean rest
@@ -76,7 +76,7 @@ take_so : (c : Call) (s : Course) (d : Deed) (ms : List Mark) → s.stopped ≡ 
 take_so c s d [] on clean = tt
 take_so c s d (m ∷ rest) on clean = fits_so (fits d m) s d m rest clean.0 on clean.1
 
-act_so : (c : Call) (s : Course) (a : Or Act) → OfGrid a → Clean s → AllGive DidSo (do_act c s a)
+pub act_so : (c : Call) (s : Course) (a : Or Act) → OfGrid a → Clean s → AllGive DidSo (do_act c s a)
 act_so c s (Err r) of h = (h, of)
 act_so c s (Ok (changes g)) of h = (record { on = h.on; marks = h.marks }, tt)
 act_so c s (Ok (deed d)) of h = take_so c s d s.marks h.on h.marks
@@ -122,10 +122,10 @@ StepSo (succeeds s) = Clean s
 StepSo (fails s f halts) = Clean s × IsOfStep f
 
 -- what rules left
-abbrev NamedSo : Named → Type 0
+abbrev pub NamedSo : Named → Type 0
 NamedSo n = Clean n.state × OutcomeByRows n.outcome
 
-abbrev CallsSo : Caller → Type 0
+abbrev pub CallsSo : Caller → Type 0
 CallsSo caller = (name : Text) (args : List Text) (s : Course) → Clean s → AllGive NamedSo (caller name args s)
 
 from_did_so : (s : Course) (f : Option Failure) → Clean s → FailureByRows f → StepSo (from_did (record { state = s; failure = f }))
@@ -246,7 +246,7 @@ try_so caller calls env args (r ∷ rules) last s of h = by_cond (try_so caller 
     by_cond goes false = goes last s of h
 
 -- a call of rules, which may go so much deeper
-within_so : (d : ℕ) (rules : List Rule) (env : Env) → CallsSo (call_within d rules env)
+pub within_so : (d : ℕ) (rules : List Rule) (env : Env) → CallsSo (call_within d rules env)
 within_so zero rules env name args s h = (h, tt)
 within_so (suc d) rules env name args s h =
     try_so (call_within d rules env) (within_so d rules env) env args (rules_named rules name) none_applied s tt h

@@ -29,12 +29,11 @@ use Rattle.chain_laws.proofs.Chains.{begins_within}
 use Rattle.chain_laws.proofs.Frames.{begins_by_itself, begins_rest}
 
 completes_of : (does : List Mark → Meaning Named) → Ends named_with does → Completes does
-completes_of does h =
-    record { rest = h.marks; ran = h.ran; end = named_with [] h.to; gives_so = ap does (sym (append-nil h.marks)) ∙ h.ends []; all = refl }
+completes_of does h = record { rest = h.marks; ran = h.ran; end = h.to; gives_so = h.ends }
 
 -- the same of what does the same
 pub completes_as : (v w : List Mark → Meaning Named) → ((marks : List Mark) → v marks ≡ w marks) → Completes v → Completes w
-completes_as v w same h = record { rest = h.rest; ran = h.ran; end = h.end; gives_so = sym (same h.rest) ∙ h.gives_so; all = h.all }
+completes_as v w same h = record { rest = h.rest; ran = h.ran; end = h.end; gives_so = λ later. sym (same (h.rest ++ later)) ∙ h.gives_so later }
 
 -- ---- from where the machine stands, and from the start
 

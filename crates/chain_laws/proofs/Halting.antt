@@ -79,10 +79,10 @@ StepHalts (cuts s) = s.stopped ≡ false
 StepHalts (succeeds s) = s.stopped ≡ false
 StepHalts (fails s f halts) = s.stopped ≡ true → (f ≡ Stopped) × (halts ≡ true)
 
-abbrev NamedHalts : Named → Type 0
+abbrev pub NamedHalts : Named → Type 0
 NamedHalts n = n.state.stopped ≡ true → n.outcome ≡ halted Stopped
 
-abbrev CallsHalt : Caller → Type 0
+abbrev pub CallsHalt : Caller → Type 0
 CallsHalt caller = (name : Text) (args : List Text) (s : Course) → s.stopped ≡ false → GivesSuch NamedHalts (caller name args s)
 
 did_halts : (s : Course) (f : Option Failure) → (s.stopped ≡ true → f ≡ Some Stopped) → StepHalts (from_did (record { state = s; failure = f }))
@@ -191,7 +191,7 @@ try_halts caller ch env args (r ∷ rules) last s off = by (try_halts caller ch 
         (chain_halts caller ch env.user (scope_of env args r) r.steps [] false s off) (λ e k. by_end goes e.state e.outcome e.cut k)
     by goes false = goes last s off
 
-call_halts : (d : ℕ) (rs : List Rule) (env : Env) → CallsHalt (call_within d rs env)
+pub call_halts : (d : ℕ) (rs : List Rule) (env : Env) → CallsHalt (call_within d rs env)
 call_halts zero rs env name args s off = λ on. never s.stopped off on
 call_halts (suc d) rs env name args s off = try_halts (call_within d rs env) (call_halts d rs env) env args (rules_named rs name) none_applied s off
 

@@ -28,12 +28,12 @@ use Rattle.chain_laws.proofs.Such.{GivesSuch, such_behind, such_given, such_mapp
 
 module _ (all : List Mark) where
   -- these are the marks that were taken, with those that are left behind them
-  abbrev Takes : Course → Type 0
+  abbrev pub Takes : Course → Type 0
   Takes s = s.taken ++ s.marks ≡ all
 
   -- ---- micro-services
 
-  abbrev DidTakes : Did → Type 0
+  abbrev pub DidTakes : Did → Type 0
   DidTakes d = Takes d.state
 
   fits_takes : (b : Bool) (s : Course) (r : Result Grid Failure) → Takes s → GivesSuch DidTakes (where_mark_fits b (with_result s r))
@@ -45,7 +45,7 @@ module _ (all : List Mark) where
   take_takes c s d [] h = tt
   take_takes c s d (m ∷ rest) h = fits_takes (fits d m) (taking s m rest) (by_mark d m) (append_assoc s.taken (m ∷ []) rest ∙ h)
 
-  act_takes : (c : Call) (s : Course) (a : Or Act) → Takes s → GivesSuch DidTakes (do_act c s a)
+  pub act_takes : (c : Call) (s : Course) (a : Or Act) → Takes s → GivesSuch DidTakes (do_act c s a)
   act_takes c s (Err r) h = h
   act_takes c s (Ok (changes g)) h = h
   act_takes c s (Ok (deed d)) h = take_takes c s d s.marks h
@@ -92,10 +92,10 @@ module _ (all : List Mark) where
   abbrev StepTakes : Stepped → Type 0
   StepTakes x = Takes (course_of x)
 
-  abbrev NamedTakes : Named → Type 0
+  abbrev pub NamedTakes : Named → Type 0
   NamedTakes n = Takes n.state
 
-  abbrev CallsTake : Caller → Type 0
+  abbrev pub CallsTake : Caller → Type 0
   CallsTake caller = (name : Text) (args : List Text) (s : Course) → Takes s → GivesSuch NamedTakes (caller name args s)
 
   did_takes : (s : Course) (f : Option Failure) → Takes s → StepTakes (from_did (record { state = s; failure = f }))
@@ -205,7 +205,7 @@ module _ (all : List Mark) where
           (chain_takes caller ct env.user (scope_of env args r) r.steps [] false s h) (λ e k. by_end goes e.state e.outcome e.cut k)
       by goes false = goes last s h
 
-  call_takes : (d : ℕ) (rs : List Rule) (env : Env) → CallsTake (call_within d rs env)
+  pub call_takes : (d : ℕ) (rs : List Rule) (env : Env) → CallsTake (call_within d rs env)
   call_takes zero rs env name args s h = h
   call_takes (suc d) rs env name args s h = try_takes (call_within d rs env) (call_takes d rs env) env args (rules_named rs name) none_applied s h
 

@@ -20,13 +20,16 @@ use Rattle.chain_run.specs.Runs.{by_itself, rest_from, whole_from}
 abbrev pub AreRan : List Mark → Type 0
 AreRan marks = AllByRecursion (λ m. m ≡ Ran 0 0 []) marks
 
--- with some such marks, and no others, it ends, and leaves none
+-- the same, with these marks left
+abbrev pub leaving : List Mark → Named → Named
+leaving later n = record n { state = record n.state { marks = later } }
+
+-- with some such marks it ends, and leaves those that are behind them
 pub record Completes (does : List Mark → Meaning Named) : Type 0 where
   pub rest : List Mark
   pub ran : AreRan rest
   pub end : Named
-  pub gives_so : does rest ≡ gives end
-  pub all : end.state.marks ≡ []
+  pub gives_so : (later : List Mark) → does (rest ++ later) ≡ gives (leaving later end)
 
 -- ---- from where the machine stands, and from the start
 
