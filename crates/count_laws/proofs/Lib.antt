@@ -1,0 +1,3 @@
+pub mod Fewer
+pub mod Leaves
+pub mod RowNumbers
