@@ -10,8 +10,8 @@ use Rattle.grid_outside.specs.Files.{StoreState}
 use Rattle.grid_outside.specs.Sink.{AddsPart, SinkState}
 use Rattle.grid_outside.specs.Source.{SourceState}
 use Rattle.grid_model.specs.Names.{Text}
-use Rattle.grid_model.specs.RowGrids.{user_name}
-use Rattle.grid_model.specs.Doing.{do_call}
+use Rattle.grid_model.specs.Meanings.{Meaning}
+use Rattle.grid_model.specs.Doing.{Course, Did}
 use Rattle.grid_model.specs.Printing.{print_failure}
 use Rattle.grid_model.specs.declared.calls.Call.{Call}
 use Rattle.grid_model.specs.declared.marks.Mark.{Mark}
@@ -58,8 +58,8 @@ module _ {D A P K : Type 0} (disk : D → DiskState) (ambient : A → AmbientSta
   short_amid at y rows taken amid =
       record { marks = amid.marks; shown = shown_amid at y.untold rows taken amid.holds; safe = amid.safe }
 
-  module _ (is : IsSetting s) (mid new : Seen D A P K) (c : Call) (undo : List Call) (y : Command) (rows : Journal) (taken : List Mark)
-      (amid : IsAmid disk ambient plugin sink source s from mid y rows taken) (may : MayCall s rows.cat y taken c undo)
+  module _ (is : IsSetting s) (mid new : Seen D A P K) (c : Call) (undo : List Call) (does : Course → Meaning Did) (y : Command) (rows : Journal)
+      (taken : List Mark) (amid : IsAmid disk ambient plugin sink source s from mid y rows taken) (may : MayCall s rows.cat y taken does c undo)
       (main_last : (disk mid.outside.main).last ≤ mid.outside.moments) where
     abbrev at_old : World P
     at_old = world disk ambient plugin sink source from
@@ -74,10 +74,10 @@ module _ {D A P K : Type 0} (disk : D → DiskState) (ambient : A → AmbientSta
     holds = amid.holds
 
     abbrev told_main : IsTrue (disk from.outside.main).tells → IsTrue (disk mid.outside.main).tells
-    told_main = main_told disk ambient plugin sink source s from is mid new c undo y rows taken amid may main_last
+    told_main = main_told disk ambient plugin sink source s from is mid new c undo does y rows taken amid may main_last
 
     abbrev told_sink : IsTrue (sink from.sink).tells → IsTrue (sink mid.sink).tells
-    told_sink = sink_told disk ambient plugin sink source s from is mid new c undo y rows taken amid may main_last
+    told_sink = sink_told disk ambient plugin sink source s from is mid new c undo does y rows taken amid may main_last
 
     number_is : y.number ≡ s.start.number
     number_is = ap (λ (x : Command). x.number) amid.command
@@ -93,15 +93,15 @@ module _ {D A P K : Type 0} (disk : D → DiskState) (ambient : A → AmbientSta
     -- ---- it was done, or refused
 
     module _ (z : Command) (after : Journal) (ran : Result ⊤ Failure) (passes : CallsPass disk plugin sink ⊥ ⊥ mid new)
-        (step : IsStep at_mid at_new holds.cat rows y c undo z after (do_call (user_name rows.cat y.user) c) (Ok ran)) where
-      abbrev done : IsStepDone at_mid at_new holds.cat rows y c undo z after (do_call (user_name rows.cat y.user) c) ran
+        (step : IsStep at_mid at_new holds.cat rows y c undo z after does (Ok ran)) where
+      abbrev done : IsStepDone at_mid at_new holds.cat rows y c undo z after does ran
       done = step.ends
 
       abbrev marks : List Mark
       marks = done.marks
 
       holds_by : StaysAway at_mid at_new holds.cat rows y c undo z after marks
-          ⊎ WasNoted at_mid at_new holds.cat rows y c undo z after (do_call (user_name rows.cat y.user) c) marks
+          ⊎ WasNoted at_mid at_new holds.cat rows y c undo z after does marks
           → HoldsSo disk ambient plugin sink source s from new z.untold after (taken ++ marks)
       holds_by (inl a) = record {
         told = holds.told;
@@ -181,7 +181,7 @@ module _ {D A P K : Type 0} (disk : D → DiskState) (ambient : A → AmbientSta
 
       safe_now : IsSafe disk ambient plugin sink source s from new (taken ++ marks)
       safe_now =
-          let safe = safe_next disk ambient plugin sink source s from is mid new c undo y rows taken amid may main_last z after (Ok ran) ⊥ ⊥ passes step in
+          let safe = safe_next disk ambient plugin sink source s from is mid new c undo does y rows taken amid may main_last z after (Ok ran) ⊥ ⊥ passes step in
           record { main = safe.main; whole = safe.whole; images = λ f first. safe.images f (first_front taken marks (s.marks_of f) first) }
 
       amid_as : (x : Command) → IsCommand x → HoldsSo disk ambient plugin sink source s from new x.untold after (taken ++ marks)
@@ -192,7 +192,7 @@ module _ {D A P K : Type 0} (disk : D → DiskState) (ambient : A → AmbientSta
         holds = holds_new;
         marks = marks_next;
         whole_now = λ were told settled t late.
-            done.whole (whole_kept disk ambient plugin sink source s from is mid new c undo y rows taken amid may main_last were told settled)
+            done.whole (whole_kept disk ambient plugin sink source s from is mid new c undo does y rows taken amid may main_last were told settled)
             (amid.whole_now were told settled) (told_main told) (holds.settled told settled) t late;
         safe = safe_now;
         passes = passes_then disk plugin sink ⊥ ⊥ from mid new amid.passes passes;
@@ -206,7 +206,7 @@ module _ {D A P K : Type 0} (disk : D → DiskState) (ambient : A → AmbientSta
     -- ---- it was cut short
 
     pub cut_next : (z : Command) (after : Journal) (e : Ending) (failed sink_failed : Type 0) → CallsPass disk plugin sink failed sink_failed mid new
-        → IsStep at_mid at_new holds.cat rows y c undo z after (do_call (user_name rows.cat y.user) c) (Err e)
+        → IsStep at_mid at_new holds.cat rows y c undo z after does (Err e)
         → IsCutShort disk ambient plugin sink source s from new taken
     cut_next z after e failed sink_failed passes step = record {
       marks = record {
@@ -216,7 +216,8 @@ module _ {D A P K : Type 0} (disk : D → DiskState) (ambient : A → AmbientSta
             (gave-then taken [] (ambient from.outside.ambient) (ambient mid.outside.ambient) (ambient new.outside.ambient) amid.marks.gave step.asked told);
       };
       shown = λ told.
-          part_told disk ambient plugin sink source s from is mid new c undo y rows taken amid may main_last told (sink new.sink).holds
+          part_told disk ambient plugin sink source s from is mid new c undo does y rows taken amid may main_last told (sink new.sink).holds
           (step.shown (told_sink told));
-      safe = safe_next disk ambient plugin sink source s from is mid new c undo y rows taken amid may main_last z after (Err e) failed sink_failed passes step;
+      safe = safe_next disk ambient plugin sink source s from is mid new c undo does y rows taken amid may main_last z after (Err e) failed sink_failed passes
+          step;
     }

@@ -10,8 +10,8 @@ use Rattle.grid_outside.specs.Sink.{AddsPart, SinkState}
 use Rattle.grid_outside.specs.Source.{SourceState}
 use Rattle.grid_model.specs.Names.{Text}
 use Rattle.grid_model.specs.Rows.{Cat}
-use Rattle.grid_model.specs.RowGrids.{user_name}
-use Rattle.grid_model.specs.Doing.{do_call}
+use Rattle.grid_model.specs.Meanings.{Meaning}
+use Rattle.grid_model.specs.Doing.{Course, Did}
 use Rattle.grid_model.specs.declared.calls.Call.{Call}
 use Rattle.grid_model.specs.declared.marks.Mark.{Mark}
 use Rattle.grid_model.specs.declared.refusal.Failure.{Failure}
@@ -47,8 +47,8 @@ module _ {D A P K : Type 0} (disk : D → DiskState) (ambient : A → AmbientSta
       ∙ append_assoc (sink from.sink).holds (lines_of s.start.number h.told) (lines_of s.start.number h.fresh)
       ∙ ap (λ (t : Text). (sink from.sink).holds ++ t) (sym (lines_taken at untold rows taken h))
 
-  module _ (is : IsSetting s) (mid new : Seen D A P K) (c : Call) (undo : List Call) (y : Command) (rows : Journal) (taken : List Mark)
-      (amid : IsAmid disk ambient plugin sink source s from mid y rows taken) (may : MayCall s rows.cat y taken c undo)
+  module _ (is : IsSetting s) (mid new : Seen D A P K) (c : Call) (undo : List Call) (does : Course → Meaning Did) (y : Command) (rows : Journal)
+      (taken : List Mark) (amid : IsAmid disk ambient plugin sink source s from mid y rows taken) (may : MayCall s rows.cat y taken does c undo)
       (main_last : (disk mid.outside.main).last ≤ mid.outside.moments) where
     abbrev at_old : World P
     at_old = world disk ambient plugin sink source from
@@ -87,13 +87,13 @@ module _ {D A P K : Type 0} (disk : D → DiskState) (ambient : A → AmbientSta
 
     module _ (z : Command) (after : Journal) (result : Result (Result ⊤ Failure) Ending) (failed sink_failed : Type 0)
         (passes : CallsPass disk plugin sink failed sink_failed mid new)
-        (step : IsStep at_mid at_new holds.cat rows y c undo z after (do_call (user_name rows.cat y.user) c) result) where
+        (step : IsStep at_mid at_new holds.cat rows y c undo z after does result) where
       way_now : (main : Text) (d : Cat) → LeavesMain holds.cat rows.cat y c undo main → StandsFor main d → s.OnWay d
       way_now main d (left_so stands) its = subst s.OnWay (sym (one_cat main holds.cat d stands its)) (is.on_way holds.cat holds.told holds.on_main)
       way_now main d (noted_so cat noted stands) its = subst s.OnWay (sym (one_cat main cat d stands its)) (may.way_noted cat noted)
 
       image_now : (f : F) → AreFirst taken (s.marks_of f) → IsTrue (sink from.sink).tells → (main shown : Text)
-          → OneOfStep (do_call (user_name rows.cat y.user) c) holds.cat rows.cat y c undo (sink mid.sink).holds main shown
+          → OneOfStep does holds.cat rows.cat y c undo (sink mid.sink).holds main shown
           → s.OneOf f (sink from.sink).holds main shown
       image_now f first told main shown (unseen stands still) =
           let first_told = first_front holds.told holds.fresh (s.marks_of f) (subst (λ (ms : List Mark). AreFirst ms (s.marks_of f)) holds.taken_are first) in

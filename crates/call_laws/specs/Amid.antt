@@ -10,8 +10,8 @@ use Rattle.grid_outside.specs.Source.{SourceState}
 use Rattle.grid_model.specs.Applying.{is_user}
 use Rattle.grid_model.specs.Names.{Text}
 use Rattle.grid_model.specs.Rows.{Cat}
-use Rattle.grid_model.specs.RowGrids.{user_name}
-use Rattle.grid_model.specs.Doing.{do_call}
+use Rattle.grid_model.specs.Meanings.{Meaning}
+use Rattle.grid_model.specs.Doing.{Course, Did}
 use Rattle.grid_model.specs.declared.calls.Call.{Call}
 use Rattle.grid_model.specs.declared.marks.Mark.{Mark}
 use Rattle.grid_model.specs.declared.marks.Mark.TheVariants.{Ran}
@@ -50,9 +50,10 @@ pub record IsSetting {F : Type 0} (s : Setting F) : Type 0 where
   pub one_image : (f : F) (told : List Mark) → AreFirst told (s.marks_of f) → (c : Cat) → s.OnMain c told → (shown main sink : Text)
       → StandsFor main c → AddsPart (lines_of s.start.number told) shown sink → s.OneOf f shown main sink
 
--- The call may be made of the command with these rows, behind these marks: where it is noted main may have that.
-pub record MayCall {F : Type 0} (s : Setting F) (rows : Cat) (y : Command) (taken : List Mark) (call : Call) (undo : List Call) : Type 0 where
-  pub on_noted : (c : Cat) → IsNoted rows y call undo c → WaitsAt (do_call (user_name rows y.user) call) (place_by rows y) call → s.OnMain c taken
+-- The call, which does this, may be made of the command with these rows, behind these marks: where it is noted main may have that.
+pub record MayCall {F : Type 0} (s : Setting F) (rows : Cat) (y : Command) (taken : List Mark) (does : Course → Meaning Did) (call : Call)
+    (undo : List Call) : Type 0 where
+  pub on_noted : (c : Cat) → IsNoted rows y call undo c → WaitsAt does (place_by rows y) call → s.OnMain c taken
   pub way_noted : (c : Cat) → IsNoted rows y call undo c → s.OnWay c
 
 -- each of the marks says that a deed ran, and no more

@@ -198,7 +198,8 @@ module _ {D A P K : Type 0} (disk : D → DiskState) (ambient : A → AmbientSta
         → AreAmid disk ambient plugin sink source from found p new cs (passed_over left c (failure_in ran)) after (taken ++ step.ends.marks)
     next_of left ran passes are step = record {
       setting = are.setting;
-      amid = amid_next disk ambient plugin sink source (undoings found p) from are.setting mid new c (cs ++ c ∷ []) y rows taken are.amid
+      amid = amid_next disk ambient plugin sink source (undoings found p) from are.setting mid new c (cs ++ c ∷ [])
+          (do_call (user_name rows.cat y.user) c) y rows taken are.amid
           (may_call found p are.setting.user rows.cat y taken cs c are.amid.command are.amid.beside are.goes) (last_of are) left after ran passes step
           (failure_in ran);
       goes = goes_next found cs c rows.cat after.cat y left ran step.ends.did taken step.ends.marks step.ends.marks_are

@@ -80,5 +80,5 @@ module _ (found : Cat) (p : Pending) (user : IsTrue (is_user found p.user)) (row
     }
 
   -- each of them may be noted
-  pub may_call : MayCall (undoings found p) rows y taken c (cs ++ c ∷ [])
+  pub may_call : MayCall (undoings found p) rows y taken (do_call (user_name rows y.user) c) c (cs ++ c ∷ [])
   may_call = record { on_noted = on_noted; way_noted = way_noted }

@@ -158,13 +158,13 @@ module _ {D A P K : Type 0} (disk : D → DiskState) (ambient : A → AmbientSta
     out_now ending.Sink worn = tt
     out_now ending.Memory worn = tt
 
-    may : MayCall (undoings found p) rows.cat y taken c (cs ++ c ∷ [])
+    may : MayCall (undoings found p) rows.cat y taken (do_call (user_name rows.cat y.user) c) c (cs ++ c ∷ [])
     may = may_call found p are.setting.user rows.cat y taken cs c are.amid.command are.amid.beside are.goes
 
     pub undoes_failed : IsStep at_mid at_new are.amid.holds.cat rows y c (cs ++ c ∷ []) z after (do_call (user_name rows.cat y.user) c) (Err e)
         → Undoes at_old at_new found p (Err e) z after
     undoes_failed step =
         undoes_cut new taken (passes.frame.stores.count ∙ are.amid.passes.frame.stores.count)
-        (cut_next disk ambient plugin sink source (undoings found p) from are.setting mid new c (cs ++ c ∷ []) y rows taken are.amid may main_last z after e
-        failed sink_failed passes step)
+        (cut_next disk ambient plugin sink source (undoings found p) from are.setting mid new c (cs ++ c ∷ [])
+        (do_call (user_name rows.cat y.user) c) y rows taken are.amid may main_last z after e failed sink_failed passes step)
         (cs ++ c ∷ []) (place_by rows.cat y) are.goes e (out_now e step.ends) z after
