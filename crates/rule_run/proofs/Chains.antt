@@ -18,7 +18,7 @@ use Rattle.service_run.specs.declared.ending.Ending.TheVariants as ending
 use Rattle.call_laws.specs.Amid.{IsCutShort, IsSetting, MayCall, Setting}
 use Rattle.call_laws.proofs.Joined.{passes_then}
 use Rattle.rule_run.specs.Calls.{Called, Chain, Spot, more, none}
-use Rattle.rule_run.proofs.OneCall.{AmidAt, one_cut, one_done, passes_on}
+use Rattle.rule_run.proofs.OneCall.{AmidAt, does_there, one_cut, one_done, passes_on}
 use Rattle.rule_run.proofs.Passing.{passes_none, passes_stopped}
 
 -- none but the last one was stopped
@@ -74,7 +74,7 @@ module _ {D A P K : Type 0} (disk : D → DiskState) (ambient : A → AmbientSta
   module _ (source : SourceState) {F : Type 0} (s : Setting F) (setting : IsSetting s) (from : Seen D A P K) (taken : List Mark)
       (Due : Made Ending → Type 0)
       (may : (at : Spot D A P K) (x : Made Ending) (marks : List Mark) → AmidAt disk ambient plugin sink source s setting from at (taken ++ marks)
-      → x.place ≡ place_by at.rows.cat at.command → Due x → MayCall s at.rows.cat at.command (taken ++ marks) x.call x.undo)
+      → x.place ≡ place_by at.rows.cat at.command → Due x → MayCall s at.rows.cat at.command (taken ++ marks) (does_there at x) x.call x.undo)
       (begun : AmidAt disk ambient plugin sink source s setting from start taken)
       (main_last : (disk start.seen.outside.main).last ≤ start.seen.outside.moments) where
     -- what calls did that were not stopped

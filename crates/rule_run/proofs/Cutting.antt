@@ -7,8 +7,8 @@ use Rattle.grid_outside.specs.Disk.{DiskState}
 use Rattle.grid_outside.specs.Files.{StoreState}
 use Rattle.grid_outside.specs.Sink.{SinkState}
 use Rattle.grid_outside.specs.Source.{SourceState}
-use Rattle.grid_model.specs.RowGrids.{user_name}
-use Rattle.grid_model.specs.Doing.{do_call}
+use Rattle.grid_model.specs.Meanings.{Meaning}
+use Rattle.grid_model.specs.Doing.{Course, Did}
 use Rattle.grid_model.specs.declared.calls.Call.{Call}
 use Rattle.grid_model.specs.declared.marks.Mark.{Mark}
 use Rattle.grid_model.specs.declared.refusal.Failure.{Failure}
@@ -25,13 +25,14 @@ use Rattle.call_laws.proofs.Joined.{went_of}
 use Rattle.call_laws.proofs.Safely.{part_told, safe_next, sink_told}
 
 module _ {D A P K : Type 0} (disk : D → DiskState) (ambient : A → AmbientState) (plugin : P → StoreState) (sink : K → SinkState) (source : SourceState)
-    {F : Type 0} (s : Setting F) (from : Seen D A P K) (is : IsSetting s) (mid new : Seen D A P K) (c : Call) (undo : List Call) (y : Command) (rows : Journal)
-    (taken : List Mark) (amid : IsAmid disk ambient plugin sink source s from mid y rows taken) (may : MayCall s rows.cat y taken c undo)
+    {F : Type 0} (s : Setting F) (from : Seen D A P K) (is : IsSetting s) (mid new : Seen D A P K) (c : Call) (undo : List Call)
+    (does : Course → Meaning Did) (y : Command) (rows : Journal) (taken : List Mark)
+    (amid : IsAmid disk ambient plugin sink source s from mid y rows taken) (may : MayCall s rows.cat y taken does c undo)
     (main_last : (disk mid.outside.main).last ≤ mid.outside.moments) where
   pub cut_any : (z : Command) (after : Journal) (result : Result (Result ⊤ Failure) Ending) (failed sink_failed : Type 0)
       → CallsPass disk plugin sink failed sink_failed mid new
       → IsStep (world disk ambient plugin sink source mid) (world disk ambient plugin sink source new) amid.holds.cat rows y c undo z after
-      (do_call (user_name rows.cat y.user) c) result
+      does result
       → IsCutShort disk ambient plugin sink source s from new taken
   cut_any z after result failed sink_failed passes step = record {
     marks = record {
@@ -42,7 +43,8 @@ module _ {D A P K : Type 0} (disk : D → DiskState) (ambient : A → AmbientSta
           (gave-then taken [] (ambient from.outside.ambient) (ambient mid.outside.ambient) (ambient new.outside.ambient) amid.marks.gave step.asked told);
     };
     shown = λ told.
-        part_told disk ambient plugin sink source s from is mid new c undo y rows taken amid may main_last told (sink new.sink).holds
-        (step.shown (sink_told disk ambient plugin sink source s from is mid new c undo y rows taken amid may main_last told));
-    safe = safe_next disk ambient plugin sink source s from is mid new c undo y rows taken amid may main_last z after result failed sink_failed passes step;
+        part_told disk ambient plugin sink source s from is mid new c undo does y rows taken amid may main_last told (sink new.sink).holds
+        (step.shown (sink_told disk ambient plugin sink source s from is mid new c undo does y rows taken amid may main_last told));
+    safe = safe_next disk ambient plugin sink source s from is mid new c undo does y rows taken amid may main_last z after result failed sink_failed passes
+        step;
   }

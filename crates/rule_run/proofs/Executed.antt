@@ -1,7 +1,5 @@
--- A request whose call was run, from what the run came to and how it was ended.
-use Rattle.std.proofs.Common.{◌≡◌, ℕ, ◌+◌, ◌≤◌, List, [], ◌++◌, length, Result, Err, IsTrue, refl, sym, ap, ◌∙◌, subst, arith}
-use Rattle.std.specs.List.{list_all}
-use Rattle.std.specs.Prelude.{⊤, IsErrOf}
+-- A request whose call was run, from what the run came to.
+use Rattle.std.proofs.Common.{◌≡◌, List, [], ◌++◌, length, Err, refl, sym, ap, ◌∙◌}
 use Rattle.std.proofs.lemmas.List.{append-nil}
 use Rattle.grid_outside.specs.Ambient.{AmbientState}
 use Rattle.grid_outside.specs.Disk.{DiskState}
@@ -9,129 +7,39 @@ use Rattle.grid_outside.specs.Files.{StoreState}
 use Rattle.grid_outside.specs.Sink.{SinkState}
 use Rattle.grid_outside.specs.Source.{SourceState}
 use Rattle.grid_outside.specs.declared.outside.Wear.TheVariants as wear
-use Rattle.grid_model.specs.Deltas.{all_fit, mark as mark_parts, passed as passed_parts}
 use Rattle.grid_model.specs.Rows.{Cat}
-use Rattle.grid_model.specs.RowGrids.{grid_of}
 use Rattle.grid_model.specs.RuleText.{Rule}
 use Rattle.grid_model.specs.Meanings.{Meaning, gives}
 use Rattle.grid_model.specs.Values.{Env, Value}
 use Rattle.grid_model.specs.Chains.{Named}
 use Rattle.grid_model.specs.Sessions.{State}
-use Rattle.grid_model.specs.Working.{begun}
 use Rattle.grid_model.specs.Runs.{Request}
 use Rattle.grid_model.specs.declared.calls.Call.{Call}
 use Rattle.grid_model.specs.declared.marks.Mark.{Mark}
 use Rattle.grid_model.specs.declared.replies.End.{End}
-use Rattle.grid_model.specs.declared.replies.Passed.{Passed}
 use Rattle.grid_journal.specs.Journal.{Journal}
-use Rattle.grid_deed.specs.Held.{IsHeld}
-use Rattle.grid_deed.specs.Safe.{KeepBothWhole}
-use Rattle.grid_deed.proofs.Frames.{frame_as}
-use Rattle.run_laws.specs.Passes.{AreReady, CallsPass, Seen}
-use Rattle.run_laws.specs.Steps.{CallsNoRules}
-use Rattle.chain_core.specs.Rest.{outcome_of}
+use Rattle.run_laws.specs.Passes.{Seen}
+use Rattle.chain_core.specs.Rest.{course, outcome_of}
 use Rattle.chain_core.specs.declared.actions.Outcome as told
-use Rattle.chain_run.specs.Places.{course_at}
+use Rattle.chain_core.specs.declared.frames.Frames.{Frames}
+use Rattle.chain_run.specs.Places.{course_from}
 use Rattle.chain_laws.specs.ByRows.{CallsEndByRows}
+use Rattle.chain_laws.specs.Ending.{leaving}
 use Rattle.chain_laws.specs.Stopped.{StopsHalt}
 use Rattle.chain_laws.specs.Taken.{TakesInOrder}
 use Rattle.service_run.specs.Commands.{place_by}
 use Rattle.service_run.specs.declared.command.Command.{Command}
 use Rattle.service_run.specs.declared.ending.Ending.{Ending}
 use Rattle.service_run.specs.declared.ending.Ending.TheVariants as ending
-use Rattle.call_laws.specs.Amid.{IsAmid}
-use Rattle.call_laws.specs.OneCall.{AreKeepable}
-use Rattle.call_laws.proofs.Beginning.{amid_begun}
-use Rattle.rule_run.specs.Asked.{IsAsked, asked_setting, not_noted}
+use Rattle.rule_run.specs.Asked.{IsAsked}
 use Rattle.rule_run.specs.Executing.{DoesCall, Executes, HasRunOut, end_by}
-use Rattle.rule_run.specs.Finishing.{Finishes, reply_of, rest_text}
+use Rattle.rule_run.specs.Finishing.{reply_of}
 use Rattle.rule_run.specs.Running.{HasRunDry, RunEnds, RunsOn}
-use Rattle.rule_run.proofs.Handling.{IsWholeEnd, cut_executes, executes}
+use Rattle.rule_run.proofs.Handling.{IsWholeEnd, cut_executes}
 use Rattle.rule_run.proofs.Outcomes.{end_is, ends_as, ends_told, reply_is, taken_are, whole, whole_end}
-use Rattle.rule_run.proofs.Settings.{is_setting}
-
--- ---- before the call
-
--- a command that is begun may be kept
-pub keepable_first : (x : Command) → x.marks ≡ [] → x.passed ≡ [] → AreKeepable x []
-keepable_first x marks passed = record {
-  marks = subst (λ (ms : List Mark). IsTrue (list_all (λ m. all_fit (mark_parts m)) ms)) (sym marks) refl;
-  passed = subst (λ (ps : List Passed). IsTrue (list_all (λ p. all_fit (passed_parts p)) ps)) (sym passed) refl;
-  calls = refl;
-}
-
-module _ {D A P K : Type 0} (disk : D → DiskState) (plugin : P → StoreState) (sink : K → SinkState) where
-  -- fewer moments are left
-  pub ready_less : (at : Seen D A P K) (more less : ℕ) → less ≤ more → AreReady disk plugin sink more at → AreReady disk plugin sink less at
-  ready_less at more less le ready = record {
-    outside = record { main_last = ready.outside.main_last; stores_last = ready.outside.stores_last; room = omega (arith, ready.outside.room, le) };
-    sink_last = ready.sink_last;
-  }
-
-  -- so many are left behind calls
-  pub ready_after : (failed sink_failed : Type 0) (a b : Seen D A P K) (more less : ℕ) → CallsPass disk plugin sink failed sink_failed a b
-      → AreReady disk plugin sink more a → b.outside.moments + less ≤ a.outside.moments + more → AreReady disk plugin sink less b
-  ready_after failed sink_failed a b more less passes ready within = record {
-    outside = record {
-      main_last = passes.frame.main_last ready.outside.main_last;
-      stores_last = passes.frame.stores_last ready.outside.stores_last;
-      room = omega (arith, ready.outside.room, within);
-    };
-    sink_last = passes.sink_last ready.sink_last;
-  }
-
--- an error of one result, as that of another
-err_as : {T U : Type 0} (e y : Ending) → IsErrOf {T = T} {E = Ending} (Err e) y → IsErrOf {T = U} {E = Ending} (Err e) y
-err_as e y is = let same : e ≡ y = cc is in ap Err same
-
--- calls that failed so
-pub passes_err : {T U D A P K : Type 0} (disk : D → DiskState) (plugin : P → StoreState) (sink : K → SinkState) (e : Ending) (a b : Seen D A P K)
-    → CallsPass disk plugin sink (IsErrOf {T = T} {E = Ending} (Err e) ending.Disk) (IsErrOf {T = T} {E = Ending} (Err e) ending.Sink) a b
-    → CallsPass disk plugin sink (IsErrOf {T = U} {E = Ending} (Err e) ending.Disk) (IsErrOf {T = U} {E = Ending} (Err e) ending.Sink) a b
-passes_err {T} {U} disk plugin sink e a b passes = record {
-  frame = frame_as disk plugin (IsErrOf {T = T} {E = Ending} (Err e) ending.Disk) (IsErrOf {T = U} {E = Ending} (Err e) ending.Disk)
-      (record a.outside { ambient = b.outside.ambient }) b.outside (err_as e ending.Disk) (err_as e ending.Disk) passes.frame;
-  sink_last = passes.sink_last;
-  goes = passes.goes;
-  sink_cause = λ f. passes.sink_cause (err_as e ending.Sink f);
-}
-
--- ---- the call and its end
 
 module _ {D A P K : Type 0} (disk : D → DiskState) (ambient : A → AmbientState) (plugin : P → StoreState) (sink : K → SinkState) (source : SourceState)
     (at : State) (request : Request) (before : Cat) (x : Command) (asked : IsAsked at request before x) (from : Seen D A P K) where
-  -- before any call
-  pub amid_first : (rows : Journal) → IsHeld before (disk from.outside.main) rows → rows.cat ≡ before → (more : ℕ) → AreReady disk plugin sink more from
-      → IsAmid disk ambient plugin sink source (asked_setting at request before x) from from x rows []
-  amid_first rows held same more ready =
-      amid_begun disk ambient plugin sink source (asked_setting at request before x) from (is_setting at request before x asked) (not_noted refl refl) rows held
-      same more ready
-
-  -- ---- ended
-
-  module _ (mid : Seen D A P K) (y : Command) (rows : Journal) (taken : List Mark)
-      (amid : IsAmid disk ambient plugin sink source (asked_setting at request before x) from mid y rows taken)
-      (main_last : (disk mid.outside.main).last ≤ mid.outside.moments)
-      (new : Seen D A P K) (r : Result ⊤ Ending) (after : Journal) (failed sink_failed : Type 0)
-      (passes : CallsPass disk plugin sink failed sink_failed mid new)
-      (same : new.outside.ambient ≡ mid.outside.ambient) (calls : CallsNoRules request → ⊥) (e : End)
-      (finishes : (kept : Cat) → IsHeld kept (disk mid.outside.main) rows
-      → Finishes (disk mid.outside.main) (disk new.outside.main) (sink mid.sink) (sink new.sink) kept mid.outside.moments y.number rows y
-      (y.untold ++ rest_text y.number y.passed e) r after)
-      (wholes : (kept : Cat) → IsHeld kept (disk mid.outside.main) rows
-      → KeepBothWhole plugin mid.outside.moments kept rows.cat (disk mid.outside.main) (disk new.outside.main) mid.outside.stores.items
-      new.outside.stores.items) where
-    pub ended_so : (w : IsWholeEnd at request taken) → w.d.reply ≡ reply_of taken y.passed e → w.d.state ≡ record at { grid = grid_of rows.cat }
-        → Executes disk ambient plugin sink source at request before x from new r after
-    ended_so w reply state =
-        let F : ℕ → Type 0 = λ n. Finishes (disk mid.outside.main) (disk new.outside.main) (sink mid.sink) (sink new.sink) amid.holds.cat mid.outside.moments
-        n rows y (y.untold ++ rest_text n y.passed e) r after in
-        executes disk ambient plugin sink source at request before x asked from mid y rows taken amid main_last e w reply state new r after
-        (subst F (ap (λ (z : Command). z.number) amid.command) (finishes amid.holds.cat amid.holds.held)) failed sink_failed passes same
-        (wholes amid.holds.cat amid.holds.held) calls
-
-  -- ---- rules were run
-
   module _ (rules : List Rule) (env : Env) (call : Call) (vs : List Value) (does_call : DoesCall at request rules env call vs) (halts : StopsHalt)
       (takes : TakesInOrder) (ends : CallsEndByRows) where
     abbrev all : List Mark → Meaning Named
@@ -147,21 +55,22 @@ module _ {D A P K : Type 0} (disk : D → DiskState) (ambient : A → AmbientSta
     out_of new (ending.Worn wear.Runs place) out = out
 
     -- they were cut short
-    pub cut_so : (new : Seen D A P K) (e : Ending) (y : Command) (after : Journal)
-        → RunEnds disk ambient plugin sink source at request before x from new all [] (Err e) y after
+    pub cut_so : (new : Seen D A P K) (e : Ending) (m : Frames) (y : Command) (after : Journal)
+        → RunEnds disk ambient plugin sink source at request before x from new all [] m (Err e) y after
         → length new.outside.stores.items ≡ length from.outside.stores.items
         → Executes disk ambient plugin sink source at request before x from new (Err e) after
-    cut_so new e y after short count =
-        let w = whole_end at request before x asked rules env call vs does_call halts takes ends (short.0.more ++ short.0.rest) short.0.end short.0.gives_so
-        short.0.all in
+    cut_so new e m y after short count =
+        let gives_end = ap (λ (ms : List Mark). all (short.0.more ++ ms)) (sym (append-nil short.0.rest)) ∙ short.0.gives_so [] in
+        let w = whole_end at request before x asked rules env call vs does_call halts takes ends (short.0.more ++ short.0.rest) (leaving [] short.0.end)
+        gives_end refl in
         cut_executes disk ambient plugin sink source at request before x asked from new short.0.more short.0.cut count short.0.rest short.0.ran w e
         (out_of new e short.1) after
 
     -- they were run to their end
-    module _ (mid : Seen D A P K) (outcome : told.Outcome) (y : Command) (rows : Journal)
-        (runs : RunsOn disk ambient plugin sink source at request before x from mid all [] outcome y rows) where
+    module _ (mid : Seen D A P K) (m : Frames) (outcome : told.Outcome) (y : Command) (rows : Journal)
+        (runs : RunsOn disk ambient plugin sink source at request before x from mid all [] m outcome y rows) where
       abbrev named : Named
-      named = record { state = course_at (place_by rows.cat y) [] runs.begun runs.stopped; outcome = outcome_of outcome }
+      named = record { state = course m (course_from (place_by rows.cat y) []); outcome = outcome_of outcome }
 
       pub gives_named : all runs.more ≡ gives named
       gives_named = ap all (sym (append-nil runs.more)) ∙ runs.gives_so []
@@ -169,9 +78,9 @@ module _ {D A P K : Type 0} (disk : D → DiskState) (ambient : A → AmbientSta
       abbrev pub its_end : IsWholeEnd at request runs.more
       its_end = whole_end at request before x asked rules env call vs does_call halts takes ends runs.more named gives_named refl
 
-      pub its_reply : (e : End) → e ≡ end_by outcome → its_end.d.reply ≡ reply_of runs.more y.passed e
+      pub its_reply : (e : End) → e ≡ end_by outcome → its_end.d.reply ≡ reply_of runs.more y.passed [] e
       its_reply e is =
           reply_is at named.state (ends_as named.outcome) e
           (end_is at request before x asked rules env call vs does_call halts takes ends runs.more named gives_named refl ∙ ends_told outcome ∙ sym is)
-          ∙ ap (λ (ms : List Mark). reply_of ms y.passed e)
+          ∙ ap (λ (ms : List Mark). reply_of ms y.passed [] e)
           (taken_are at request before x asked rules env call vs does_call halts takes ends runs.more named gives_named refl)

@@ -71,6 +71,10 @@ pub record IsWholeEnd (at : State) (request : Request) (marks : List Mark) : Typ
   pub sent : d.sent ≡ None
   pub by_rows : AreClean marks → EndsByRows d.reply.end
 
+-- where the request calls no rules, took no mark and left the grid as it was, main is as it was
+abbrev pub StaysSo : Request → Cat → List Mark → Done → DiskState → DiskState → Type 0
+StaysSo request before taken d old new = CallsNoRules request → taken ≡ [] → d.state.grid ≡ grid_of before → IsTrue old.tells → new.holds ≡ old.holds
+
 abbrev pub end_of_all : {at : State} {request : Request} {marks : List Mark} → IsWholeEnd at request marks → EndOf at request
 end_of_all {marks = marks} w = record { marks = marks; d = w.d; does_so = w.does_so; all = w.all; marks_are = w.marks_are }
 
@@ -149,6 +153,8 @@ module _ {D A P K : Type 0} (disk : D → DiskState) (ambient : A → AmbientSta
       images = short.safe.images (end_of_all w) front;
     }
 
+    -- What a command leaves that was cut short behind these marks: with the others, each of which says that a deed ran, it would have come to an
+    -- end.
     pub cut_executes : (e : Ending) → HasRunOut disk ambient plugin sink source at request before x from new e → (after : Journal)
         → Executes disk ambient plugin sink source at request before x from new (Err e) after
     cut_executes e out after = record {
@@ -163,7 +169,7 @@ module _ {D A P K : Type 0} (disk : D → DiskState) (ambient : A → AmbientSta
   module _ (mid : Seen D A P K) (y : Command) (rows : Journal) (taken : List Mark)
       (amid : IsAmid disk ambient plugin sink source (asked_setting at request before x) from mid y rows taken)
       (main_last : (disk mid.outside.main).last ≤ mid.outside.moments)
-      (e : End) (w : IsWholeEnd at request taken) (reply_is : w.d.reply ≡ reply_of taken y.passed e)
+      (shown_rows : List (List Text)) (e : End) (w : IsWholeEnd at request taken) (reply_is : w.d.reply ≡ reply_of taken y.passed shown_rows e)
       (state_is : w.d.state ≡ record at { grid = grid_of rows.cat }) (new : Seen D A P K) (result : Result ⊤ Ending) (after : Journal) where
     abbrev at_mid : World P
     at_mid = world disk ambient plugin sink source mid
@@ -175,7 +181,7 @@ module _ {D A P K : Type 0} (disk : D → DiskState) (ambient : A → AmbientSta
     holds = amid.holds
 
     abbrev rest : Text
-    rest = rest_text n y.passed e
+    rest = rest_text n y.passed shown_rows e
 
     abbrev text : Text
     text = y.untold ++ rest
@@ -288,7 +294,7 @@ module _ {D A P K : Type 0} (disk : D → DiskState) (ambient : A → AmbientSta
           ap (λ (u : Text). lines_of n holds.told ++ (u ++ rest)) holds.untold_is
           ∙ sym (append_assoc (lines_of n holds.told) (lines_of n holds.fresh) rest)
           ∙ ap (λ (t : Text). t ++ rest) (sym (ap (lines_of n) holds.taken_are ∙ lines-append n holds.told holds.fresh))
-          ∙ sym (text_is n (reply_of taken y.passed e) taken)
+          ∙ sym (text_is n (reply_of taken y.passed shown_rows e) taken)
           ∙ ap (λ (r : Reply). reply_text n r pieces) (sym reply_is)
 
       part_all : IsTrue at_old.sink.tells → (shown : Text) → AddsPart text at_mid.sink.holds shown
@@ -374,7 +380,8 @@ module _ {D A P K : Type 0} (disk : D → DiskState) (ambient : A → AmbientSta
 
         -- ---- how it ended
 
-        module _ (calls : CallsNoRules request → ⊥) (done : IsDone at_mid.main at_new.main at_mid.sink at_new.sink left text after) where
+        module _ (still : StaysSo request before taken w.d at_old.main at_new.main)
+            (done : IsDone at_mid.main at_new.main at_mid.sink at_new.sink left text after) where
           abbrev IsWhole : Cat → Type 0
           IsWhole c = IsHandledWhole at_old at_new at before n request done_step c (record at { grid = grid_of c })
 
@@ -390,7 +397,7 @@ module _ {D A P K : Type 0} (disk : D → DiskState) (ambient : A → AmbientSta
                 ∙ ap (λ (h : Text). h ++ text) (holds.shown told)
                 ∙ append_assoc at_old.sink.holds (lines_of n holds.told) text
                 ∙ ap (λ (t : Text). at_old.sink.holds ++ t) text_all;
-            still = λ no_sweep no_rules none same_grid told. absurd (calls no_rules);
+            still = λ no_sweep. still;
             main_settled = λ told settled. done.settled (main_told told) (holds.settled told settled);
             sink_settled = λ told settled. done.sink_settled (sink_told told) (holds.sink_settled told settled);
           }
@@ -417,10 +424,13 @@ module _ {D A P K : Type 0} (disk : D → DiskState) (ambient : A → AmbientSta
         out_of (ending.Worn wear.Vaults place) out = let no = out.0 in absurd (cc no)
         out_of (ending.Worn wear.Log place) out = (out.1, λ told. out.2 (main_told told))
 
-        ends_so : (CallsNoRules request → ⊥) → (r : Result ⊤ Ending) → FinishEnds at_mid.main at_new.main at_mid.sink at_new.sink left text r after
+        ends_so : StaysSo request before taken w.d at_old.main at_new.main → (r : Result ⊤ Ending)
+            → FinishEnds at_mid.main at_new.main at_mid.sink at_new.sink left text r after
             → ExecuteEnds disk ambient plugin sink source at request before x from new done_step r after
-        ends_so calls (Ok done) ends = (handled_whole calls ends, rested calls ends)
-        ends_so calls (Err e) ends = out_of e ends
+        ends_so still (Ok done) ends = (handled_whole still ends, rested still ends)
+        ends_so still (Err e) ends = out_of e ends
 
-        pub executes : (CallsNoRules request → ⊥) → Executes disk ambient plugin sink source at request before x from new result after
-        executes calls = record { step = done_step; ends = ends_so calls result finishes.ends; way = way_all; whole = whole_all }
+        -- What a command leaves whose calls took all of its marks, once the last commit and the rest of its reply, with these rows, were tried.
+        pub executes : StaysSo request before taken w.d at_old.main at_new.main
+            → Executes disk ambient plugin sink source at request before x from new result after
+        executes still = record { step = done_step; ends = ends_so still result finishes.ends; way = way_all; whole = whole_all }

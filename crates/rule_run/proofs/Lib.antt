@@ -2,6 +2,7 @@ pub mod Called
 pub mod Chains
 pub mod Cutting
 pub mod Doing
+pub mod Ended
 pub mod Executed
 pub mod Finished
 pub mod Handling
@@ -12,9 +13,11 @@ pub mod Outcomes
 pub mod Passing
 pub mod Ready
 pub mod Replies
-pub mod RunAlone
 pub mod RunEnds
+pub mod RunMade
 pub mod Settings
 pub mod Sizes
 pub mod Spelled
+pub mod Spots
+pub mod Still
 pub mod VaultNumbers

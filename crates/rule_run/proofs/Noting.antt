@@ -2,8 +2,8 @@
 use Rattle.std.proofs.Common.{◌≡◌, List, ◌++◌, Ok, refl, sym, ap, ◌∙◌, subst}
 use Rattle.grid_model.specs.Rows.{Cat}
 use Rattle.grid_model.specs.RowGrids.{user_name}
-use Rattle.grid_model.specs.Meanings.{waits}
-use Rattle.grid_model.specs.Doing.{do_call}
+use Rattle.grid_model.specs.Meanings.{Meaning, waits}
+use Rattle.grid_model.specs.Doing.{Course, Did}
 use Rattle.grid_model.specs.Sessions.{State}
 use Rattle.grid_model.specs.Runs.{Request, does}
 use Rattle.grid_model.specs.declared.calls.Call.{Call}
@@ -77,8 +77,8 @@ module _ (at : State) (request : Request) (before : Cat) (x : Command) (asked : 
       on_noted = noted (noted_in y call undo) amid_command is_noted.pending (ap (λ (z : Command). z.line) command) marks_are names_call all_beside.named
           in_deed
 
-  -- The call may be made: where it waits, the request does, with all that a stop there has done.
-  pub may_call : (WaitsAt (do_call (user_name rows y.user) call) (place_by rows y) call
-      → does at request taken ≡ waits (record (waiting_at (place_by rows y) call) { undo = undo }))
-      → MayCall (asked_setting at request before x) rows y taken call undo
-  may_call waits_so = record { on_noted = λ c is_noted its. on_noted c is_noted (waits_so its); way_noted = way_noted }
+  -- The call, which does this, may be made: where it waits, the request does, with all that a stop there has done.
+  pub may_call : (doing : Course → Meaning Did)
+      → (WaitsAt doing (place_by rows y) call → does at request taken ≡ waits (record (waiting_at (place_by rows y) call) { undo = undo }))
+      → MayCall (asked_setting at request before x) rows y taken doing call undo
+  may_call doing waits_so = record { on_noted = λ c is_noted its. on_noted c is_noted (waits_so its); way_noted = way_noted }

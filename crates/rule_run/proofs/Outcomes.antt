@@ -70,7 +70,7 @@ rows_none s (end.Failed f) = refl
 rows_none s end.Stopped = refl
 
 -- what is answered so is answered with this reply
-pub reply_is : (at : State) (s : Course) (e d : End) → ending s e ≡ d → (answered at s e).reply ≡ reply_of s.taken s.passed d
+pub reply_is : (at : State) (s : Course) (e d : End) → ending s e ≡ d → (answered at s e).reply ≡ reply_of s.taken s.passed [] d
 reply_is at s e d same = λ i. record { marks = s.taken; shown = []; passed = s.passed; rows = rows_none s e i; end = same i }
 
 -- a failure of a step ends it by the rows

@@ -42,13 +42,13 @@ IsLeft n rows x left = (left ≡ ended n rows.cat) ⊎ (HasNothing rows x × (le
 
 -- ---- what is told
 
--- the reply with these marks, these recoveries passed over and this end, which shows nothing and has no rows
-abbrev pub reply_of : List Mark → List Passed → End → Reply
-reply_of marks passed e = record { marks = marks; shown = []; passed = passed; rows = []; end = e }
+-- the reply with these marks, these recoveries passed over, these rows and this end, which shows nothing
+abbrev pub reply_of : List Mark → List Passed → List (List Text) → End → Reply
+reply_of marks passed rows e = record { marks = marks; shown = []; passed = passed; rows = rows; end = e }
 
 -- what follows its marks
-abbrev pub rest_text : ℕ → List Passed → End → Text
-rest_text n passed e = rest_lines n (reply_of [] passed e)
+abbrev pub rest_text : ℕ → List Passed → List (List Text) → End → Text
+rest_text n passed rows e = rest_lines n (reply_of [] passed rows e)
 
 -- ---- how it ended
 

@@ -15,8 +15,7 @@ use service_run::{Command, Ending, run_call};
 use std::alloc::{AllocError, Global};
 use undo_run::undo_one;
 
-/// The catalogue, the devices and the command whose calls are made, and how many calls more may be made. A command begins 4,096 steps at
-/// most, and each has one recovery at most, so twice as many calls are never all made.
+/// The catalogue, the devices and the command whose calls are made, and how many calls more may be made.
 #[derive(Drop)]
 pub struct Calling<'a, D, K, A, P> {
     pub alloc: Global,
@@ -27,19 +26,20 @@ pub struct Calling<'a, D, K, A, P> {
     pub left: u64,
 }
 
-/// No call was made yet.
+/// No call was made yet, and so many may be made.
 pub(crate) fn begin_calls<'a, D: Disk, K: Sink, A: Ambient, P: Plugin>(
     alloc: Global,
     store: &'a mut Store,
     outside: &'a mut Outside<D, A, P>,
     sink: &'a mut K,
     command: &'a mut Command,
+    left: u64,
 ) -> Calling<'a, D, K, A, P>
     ensures store { (result.store.ghost_name ≡ store.entry.ghost_name) × (result.store.now ≡ store.old) }
     ensures outside { (result.outside.ghost_name ≡ outside.entry.ghost_name) × (result.outside.now ≡ outside.old) }
     ensures sink { (result.sink.ghost_name ≡ sink.entry.ghost_name) × (result.sink.now ≡ sink.old) }
     ensures command { (result.command.ghost_name ≡ command.entry.ghost_name) × (result.command.now ≡ command.old) }
-    ensures left { result.left ≡ 8192 }
+    ensures left { result.left ≡ left }
 {
     Calling {
         alloc,
@@ -47,7 +47,7 @@ pub(crate) fn begin_calls<'a, D: Disk, K: Sink, A: Ambient, P: Plugin>(
         outside,
         sink,
         command,
-        left: 8192,
+        left,
     }
 }
 

@@ -25,7 +25,7 @@ use crate::running::run_alone;
 use chain_core::{Outcome, RuleBase};
 use chain_laws::{calls_end_by_rows, stops_halt, takes_in_order};
 use grid_journal::Store;
-use grid_model::{Call, End, Failure, Texts};
+use grid_model::{Call, End, Failure, Rows, Texts};
 use grid_outside::{Ambient, Disk, Outside, Plugin, Sink};
 use rule_cond::Env;
 use service_run::{Command, Ending};
@@ -73,7 +73,22 @@ pub fn execute<D: Disk, K: Sink, A: Ambient, P: Plugin>(
         Ok(outcome) => outcome,
         Err(ending) => return Err(ending),
     };
-    finish(alloc, store, outside, sink, command, end_of(alloc, outcome))
+    finish(
+        alloc,
+        store,
+        outside,
+        sink,
+        command,
+        no_rows(alloc),
+        end_of(alloc, outcome),
+    )
+}
+
+// A call by itself shows no rows.
+fn no_rows(alloc: Global) -> Rows
+    ensures { result ≡ [] }
+{
+    Rows::from_vec(Vec::new(alloc))
 }
 
 // How a request ends whose rules came to that.

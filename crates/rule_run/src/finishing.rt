@@ -29,20 +29,22 @@ use std::alloc::{AllocError, Global};
 /// `Disk` and `Sink` come only where that device failed, and `Worn` where the room behind the log has run out; `Memory` may come at any
 /// time, and comes where a text of a recovery that was passed over has bytes that are not shown, which none that is read has. Draws at most
 /// 5 moments.
-pub(crate) fn finish<D: Disk, K: Sink, A: Ambient, P: Plugin>(
+pub fn finish<D: Disk, K: Sink, A: Ambient, P: Plugin>(
     alloc: Global,
     store: &mut Store,
     outside: &mut Outside<D, A, P>,
     sink: &mut K,
     command: Command,
+    rows: Rows,
     end: End,
 ) -> Result<(), Ending>
     requires held { (kept : Cat) × IsHeld kept (D.disk outside.old.main) store.old }
     requires writable { IsTrue (is_writable_end end) }
+    requires rows { IsTrue (list_all (list_all is_word) rows) }
     requires ready { AreReady D.disk P.plugin K.sink 5 (record { outside = outside.old; sink = sink.old }) }
     ensures finishes { (kept : Cat) → IsHeld kept (D.disk outside.old.main) store.old →
         Finishes (D.disk outside.old.main) (D.disk outside.new.main) (K.sink sink.old) (K.sink sink.new) kept outside.old.moments
-        command.number store.old command (command.untold ++ rest_text command.number command.passed end) result store.new }
+        command.number store.old command (command.untold ++ rest_text command.number command.passed rows end) result store.new }
     ensures whole { (kept : Cat) → IsHeld kept (D.disk outside.old.main) store.old →
         KeepBothWhole P.plugin outside.old.moments kept store.old.cat (D.disk outside.old.main) (D.disk outside.new.main)
         outside.old.stores.items outside.new.stores.items }
@@ -55,7 +57,7 @@ pub(crate) fn finish<D: Disk, K: Sink, A: Ambient, P: Plugin>(
 {
     let number = command.number;
     let nothing = has_nothing(store, &command);
-    let mut command = match with_rest(alloc, command, end) {
+    let mut command = match with_rest(alloc, command, rows, end) {
         Ok(command) => command,
         Err(AllocError) => return Err(Ending::Memory),
     };
@@ -117,17 +119,18 @@ fn end_deltas(alloc: Global, is_pending: bool, numbers: Numbers) -> Result<Delta
 
 // The command with the rest of its reply behind what is still to be told. Fails for want of memory, and where a text of a recovery that was
 // passed over is no word.
-fn with_rest(alloc: Global, command: Command, end: End) -> Result<Command, AllocError>
-    requires { IsTrue (is_writable_end end) }
+fn with_rest(alloc: Global, command: Command, rows: Rows, end: End) -> Result<Command, AllocError>
+    requires end { IsTrue (is_writable_end end) }
+    requires rows { IsTrue (list_all (list_all is_word) rows) }
     ensures { IfOk result (λ told. told ≡ record command {
       passed = [];
-      untold = command.untold ++ rest_text command.number command.passed end;
+      untold = command.untold ++ rest_text command.number command.passed rows end;
     }) }
 {
     if !are_words(command.passed.as_slice()) {
         return Err(AllocError);
     }
-    let reply = reply_of(alloc, command.passed, end);
+    let reply = reply_of(alloc, command.passed, rows, end);
     let back = rest(alloc, command.number, &reply)?;
     let mut untold = command.untold.into_vec();
     untold.extend_from_slice(back.as_slice())?;
@@ -142,15 +145,15 @@ fn with_rest(alloc: Global, command: Command, end: End) -> Result<Command, Alloc
     })
 }
 
-// A reply that has nothing but recoveries that were passed over and its end.
-fn reply_of(alloc: Global, passed: Passeds, end: End) -> Reply
-    ensures { result ≡ record { marks = []; shown = []; passed = passed; rows = []; end = end } }
+// A reply that has nothing but recoveries that were passed over, rows and its end.
+fn reply_of(alloc: Global, passed: Passeds, rows: Rows, end: End) -> Reply
+    ensures { result ≡ record { marks = []; shown = []; passed = passed; rows = rows; end = end } }
 {
     Reply {
         marks: Marks::from_vec(Vec::new(alloc)),
         shown: Text::from_vec(Vec::new(alloc)),
         passed,
-        rows: Rows::from_vec(Vec::new(alloc)),
+        rows,
         end,
     }
 }

@@ -9,3 +9,5 @@ mod sizing;
 mod spelling;
 
 pub use executing::execute;
+pub use finishing::finish;
+pub use running::run_point;

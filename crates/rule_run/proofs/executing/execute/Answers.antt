@@ -1,6 +1,13 @@
-use Rattle.std.proofs.Common.{◌+◌, ◌^◌, [], refl, arith}
+use Rattle.std.proofs.Common.{◌+◌, ◌^◌, List, [], ◌++◌, refl, ap, subst, arith}
+use Rattle.std.specs.List.{list_all}
+use Rattle.grid_model.specs.Names.{Text}
+use Rattle.grid_model.specs.Rows.{Cat}
+use Rattle.grid_model.specs.Writable.{is_word}
+use Rattle.grid_deed.specs.Held.{IsHeld}
 use Rattle.call_laws.proofs.Joined.{passes_then, passes_well}
-use Rattle.rule_run.proofs.Executed.{amid_first, cut_so, ended_so, its_end, its_reply, keepable_first, passes_err, ready_after, ready_less}
+use Rattle.rule_run.specs.Finishing.{Finishes, rest_text}
+use Rattle.rule_run.proofs.Ended.{amid_first, ended_so, keepable_first, passes_err, ready_after, ready_less}
+use Rattle.rule_run.proofs.Executed.{cut_so, its_end, its_reply}
 use Rattle.rule_run.proofs.Outcomes.{waits_with}
 use Rattle.rule_run.proofs.Settings.{is_setting}
 use Rattle.chain_core.specs.Seen.{rules_of}
@@ -51,14 +58,14 @@ returns-in-Err-clause-executes g c source at request vs asked values calls does 
     let x = c.args.command in
     let rules = rules_of c.args.rules.now in
     let env = env_of c.args.env.now in
-    cut_so disk ambient plugin sink source at request rows.cat x asked (record { outside = c.args.outside.now; sink = c.args.sink.now }) rules env
-    c.args.call vs does c.stops_halt.ensures c.takes_in_order.ensures c.calls_end_by_rows.ensures
-    (record { outside = c.run_alone.new.outside; sink = c.run_alone.new.sink }) c.in-Err.ending c.run_alone.new.command c.run_alone.new.store
-    (c.in-Err.ensures.runs source at request rows.cat x (record { outside = c.args.outside.now; sink = c.args.sink.now }) [] vs
+    let ran = c.in-Err.ensures.runs source at request rows.cat x (record { outside = c.args.outside.now; sink = c.args.sink.now }) [] vs
     (is_setting at request rows.cat x asked)
     (amid_first disk ambient plugin sink source at request rows.cat x asked (record { outside = c.args.outside.now; sink = c.args.sink.now }) rows
     c.requires.held refl (2 ^ 78 + 2 ^ 10) c.requires.ready)
-    values (waits_with at request rows.cat x asked rules env c.args.call vs does) asked)
+    values (waits_with at request rows.cat x asked rules env c.args.call vs does) asked in
+    cut_so disk ambient plugin sink source at request rows.cat x asked (record { outside = c.args.outside.now; sink = c.args.sink.now }) rules env
+    c.args.call vs does c.stops_halt.ensures c.takes_in_order.ensures c.calls_end_by_rows.ensures
+    (record { outside = c.run_alone.new.outside; sink = c.run_alone.new.sink }) c.in-Err.ending ran.0 c.run_alone.new.command c.run_alone.new.store ran.1
     c.run_alone.ensures.passes.frame.stores.count
 
 pub returns-in-Err-clause-passes : goal.returns-in-Err-clause-passes
@@ -73,6 +80,9 @@ returns-in-Err-clause-drawn g c = omega (arith, c.run_alone.ensures.drawn)
 
 pub finish-requires-clause-held : goal.finish-requires-clause-held
 finish-requires-clause-held g c = c.in-Ok.ensures.held
+
+pub finish-requires-clause-rows : goal.finish-requires-clause-rows
+finish-requires-clause-rows g c = ap (λ (rs : List (List Text)). list_all (list_all is_word) rs) c.no_rows.ensures
 
 pub finish-requires-clause-writable : goal.finish-requires-clause-writable
 finish-requires-clause-writable g c = c.end_of.ensures.writable
@@ -95,23 +105,26 @@ returns-clause-executes g c source at request vs asked values calls does =
     let left = c.run_alone.new.store in
     let rules = rules_of c.args.rules.now in
     let env = env_of c.args.env.now in
-    let runs = c.in-Ok.ensures.runs source at request rows.cat x (record { outside = c.args.outside.now; sink = c.args.sink.now }) [] vs
+    let ran = c.in-Ok.ensures.runs source at request rows.cat x (record { outside = c.args.outside.now; sink = c.args.sink.now }) [] vs
     (is_setting at request rows.cat x asked)
     (amid_first disk ambient plugin sink source at request rows.cat x asked (record { outside = c.args.outside.now; sink = c.args.sink.now }) rows
     c.requires.held refl (2 ^ 78 + 2 ^ 10) c.requires.ready)
     values (waits_with at request rows.cat x asked rules env c.args.call vs does) asked in
+    let F : List (List Text) → Type 0 = λ shown_rows. (kept : Cat) → IsHeld kept (disk c.run_alone.new.outside.main) left
+    → Finishes (disk c.run_alone.new.outside.main) (disk c.finish.new.outside.main) (sink c.run_alone.new.sink) (sink c.finish.new.sink) kept
+    c.run_alone.new.outside.moments y.number left y (y.untold ++ rest_text y.number y.passed shown_rows c.end_of.result) c.finish.result c.finish.new.store in
     ended_so disk ambient plugin sink source at request rows.cat x asked (record { outside = c.args.outside.now; sink = c.args.sink.now })
-    (record { outside = c.run_alone.new.outside; sink = c.run_alone.new.sink }) y left runs.more runs.amid
-    (c.run_alone.ensures.passes.frame.main_last c.requires.ready.outside.main_last)
+    (record { outside = c.run_alone.new.outside; sink = c.run_alone.new.sink }) y left ran.1.more ran.1.amid
+    (c.run_alone.ensures.passes.frame.main_last c.requires.ready.outside.main_last) [] c.end_of.result
     (record { outside = c.finish.new.outside; sink = c.finish.new.sink }) c.finish.result c.finish.new.store _ _ c.finish.ensures.passes
-    c.finish.ensures.ambient calls c.end_of.result c.finish.ensures.finishes c.finish.ensures.whole
+    c.finish.ensures.ambient (subst F c.no_rows.ensures c.finish.ensures.finishes) c.finish.ensures.whole
     (its_end disk ambient plugin sink source at request rows.cat x asked (record { outside = c.args.outside.now; sink = c.args.sink.now }) rules env
     c.args.call vs does c.stops_halt.ensures c.takes_in_order.ensures c.calls_end_by_rows.ensures
-    (record { outside = c.run_alone.new.outside; sink = c.run_alone.new.sink }) c.in-Ok.outcome y left runs)
+    (record { outside = c.run_alone.new.outside; sink = c.run_alone.new.sink }) ran.0 c.in-Ok.outcome y left ran.1)
     (its_reply disk ambient plugin sink source at request rows.cat x asked (record { outside = c.args.outside.now; sink = c.args.sink.now }) rules env
     c.args.call vs does c.stops_halt.ensures c.takes_in_order.ensures c.calls_end_by_rows.ensures
-    (record { outside = c.run_alone.new.outside; sink = c.run_alone.new.sink }) c.in-Ok.outcome y left runs c.end_of.result c.end_of.ensures.is)
-    refl
+    (record { outside = c.run_alone.new.outside; sink = c.run_alone.new.sink }) ran.0 c.in-Ok.outcome y left ran.1 c.end_of.result c.end_of.ensures.is)
+    refl (λ none. absurd (calls none))
 
 pub returns-clause-passes : goal.returns-clause-passes
 returns-clause-passes g c =

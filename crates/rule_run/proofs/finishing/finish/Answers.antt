@@ -20,7 +20,7 @@ pub returns-in-Err-clause-finishes : goal.returns-in-Err-clause-finishes
 returns-in-Err-clause-finishes g c kept held =
     let o = c.args.outside.now in
     let x = c.args.command in
-    unfinished kept o.moments x.number c.args.store.now x (x.untold ++ rest_text x.number x.passed c.args.end) (g.D.Disk.disk o.main)
+    unfinished kept o.moments x.number c.args.store.now x (x.untold ++ rest_text x.number x.passed c.args.rows c.args.end) (g.D.Disk.disk o.main)
     (g.K.Sink.sink c.args.sink.now) held c.requires.ready.outside.main_last c.requires.ready.sink_last c.args.store.now
 
 pub returns-in-Err-clause-whole : goal.returns-in-Err-clause-whole
@@ -95,7 +95,7 @@ pub returns-in-Err-last_deltas-clause-finishes : goal.returns-in-Err-last_deltas
 returns-in-Err-last_deltas-clause-finishes g c kept held =
     let o = c.args.outside.now in
     let x = c.args.command in
-    unfinished kept o.moments x.number c.args.store.now x (x.untold ++ rest_text x.number x.passed c.args.end) (g.D.Disk.disk o.main)
+    unfinished kept o.moments x.number c.args.store.now x (x.untold ++ rest_text x.number x.passed c.args.rows c.args.end) (g.D.Disk.disk o.main)
     (g.K.Sink.sink c.args.sink.now) held c.requires.ready.outside.main_last c.requires.ready.sink_last c.args.store.now
 
 pub returns-in-Err-last_deltas-clause-whole : goal.returns-in-Err-last_deltas-clause-whole
@@ -145,7 +145,8 @@ returns-clause-finishes g c kept held =
     let are = c.in-Ok-last_deltas.ensures.is ∙ ap (λ (t : Cat). end_deltas (is_some t.pending) (record t.numbers { last = x.number })) c.tables.ensures in
     let applied = applied_end x.number cat some (is_some cat.pending) refl (record cat.numbers { last = x.number }) refl c.in-Ok-last_deltas.deltas are in
     let F : Text → Type 0 = λ t. IsNotedSo main after k l kept (ended x.number cat) o.moments t c.note.result c.note.new.store in
-    kept_all main after k l kept o.moments x.number c.args.store.now x (x.untold ++ rest_text x.number x.passed c.args.end) c.note.new.store c.note.result
+    kept_all main after k l kept o.moments x.number c.args.store.now x (x.untold ++ rest_text x.number x.passed c.args.rows c.args.end) c.note.new.store
+    c.note.result
     (subst F (ap (λ (z : Command). z.untold) c.in-Ok.ensures) (c.note.ensures.noted kept (ended x.number cat) held applied))
 
 pub returns-clause-whole : goal.returns-clause-whole

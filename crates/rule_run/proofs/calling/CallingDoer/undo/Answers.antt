@@ -1,27 +1,18 @@
 use Rattle.std.proofs.Common.{◌-◌, refl, arith}
-use Rattle.rule_run.specs.Calls.{Spot, more}
+use Rattle.rule_run.specs.Calls.{more}
 use Rattle.rule_run.proofs.Called.{called_none, called_recovered, recovers_there, ready_recovered}
 use Rattle.rule_run.proofs.Ready.{noted_there, one_less, positive, ready_one, words_there}
+use Rattle.rule_run.proofs.Spots.{spot, spot_of}
 use Rattle.rule_run.proofs.calling.CallingDoer.undo.Goals as goal
 
 pub returns-then-self-eq0-clause-goes : goal.returns-then-self-eq0-clause-goes
 returns-then-self-eq0-clause-goes g c from calls w =
-    let a : Spot g.row.D.Denot g.row.A.Denot g.row.P.Denot g.row.K.Denot = record {
-      seen = record { outside = c.args.self.now.outside.now; sink = c.args.self.now.sink.now };
-      rows = c.args.self.now.store.now;
-      command = c.args.self.now.command.now;
-      left = c.args.self.now.left;
-    } in
+    let a = spot_of c.args.self.now in
     (more calls a _ refl w.0 (called_none g.D.Disk.disk g.A.Ambient.ambient g.P.Plugin.plugin g.K.Sink.sink a _ refl refl), w.1, w.2, w.3, w.4)
 
 pub returns-then-not-are_spelled-clause-goes : goal.returns-then-not-are_spelled-clause-goes
 returns-then-not-are_spelled-clause-goes g c from calls w =
-    let a : Spot g.row.D.Denot g.row.A.Denot g.row.P.Denot g.row.K.Denot = record {
-      seen = record { outside = c.args.self.now.outside.now; sink = c.args.self.now.sink.now };
-      rows = c.args.self.now.store.now;
-      command = c.args.self.now.command.now;
-      left = c.args.self.now.left;
-    } in
+    let a = spot_of c.args.self.now in
     (more calls a _ refl w.0 (called_none g.D.Disk.disk g.A.Ambient.ambient g.P.Plugin.plugin g.K.Sink.sink a _ refl refl), w.1, w.2, w.3, w.4)
 
 pub overflow_sub-self : goal.overflow_sub-self
@@ -51,53 +42,23 @@ undo_one-requires-clause-ready g c =
 
 pub returns-clause-ready : goal.returns-clause-ready
 returns-clause-ready g c =
-    let a : Spot g.row.D.Denot g.row.A.Denot g.row.P.Denot g.row.K.Denot = record {
-      seen = record { outside = c.args.self.now.outside.now; sink = c.args.self.now.sink.now };
-      rows = c.args.self.now.store.now;
-      command = c.args.self.now.command.now;
-      left = c.args.self.now.left;
-    } in
-    let b : Spot g.row.D.Denot g.row.A.Denot g.row.P.Denot g.row.K.Denot = record {
-      seen = record { outside = c.undo_one.new.outside; sink = c.undo_one.new.sink };
-      rows = c.undo_one.new.store;
-      command = c.undo_one.new.command;
-      left = c.args.self.now.left - 1;
-    } in
+    let a = spot_of c.args.self.now in
+    let b = spot c.undo_one.new.outside c.undo_one.new.sink c.undo_one.new.store c.undo_one.new.command (c.args.self.now.left - 1) in
     ready_recovered g.D.Disk.disk g.A.Ambient.ambient g.P.Plugin.plugin g.K.Sink.sink a b c.args.call.now c.args.undo.now c.undo_one.ensures.drawn
     (one_less c.args.self.now.left c.if-self-eq0.false) c.undo_one.result c.requires.ready (c.are_spelled.ensures.call c.if-not-are_spelled.false)
     c.undo_one.ensures.passes c.undo_one.ensures.ends
 
 pub returns-clause-recovers : goal.returns-clause-recovers
 returns-clause-recovers g c =
-    let a : Spot g.row.D.Denot g.row.A.Denot g.row.P.Denot g.row.K.Denot = record {
-      seen = record { outside = c.args.self.now.outside.now; sink = c.args.self.now.sink.now };
-      rows = c.args.self.now.store.now;
-      command = c.args.self.now.command.now;
-      left = c.args.self.now.left;
-    } in
-    let b : Spot g.row.D.Denot g.row.A.Denot g.row.P.Denot g.row.K.Denot = record {
-      seen = record { outside = c.undo_one.new.outside; sink = c.undo_one.new.sink };
-      rows = c.undo_one.new.store;
-      command = c.undo_one.new.command;
-      left = c.args.self.now.left - 1;
-    } in
+    let a = spot_of c.args.self.now in
+    let b = spot c.undo_one.new.outside c.undo_one.new.sink c.undo_one.new.store c.undo_one.new.command (c.args.self.now.left - 1) in
     recovers_there g.D.Disk.disk g.A.Ambient.ambient g.P.Plugin.plugin g.K.Sink.sink a b c.args.call.now c.args.undo.now c.undo_one.ensures.drawn
     (one_less c.args.self.now.left c.if-self-eq0.false) c.undo_one.result c.requires.ready c.undo_one.ensures.ends
 
 pub returns-clause-goes : goal.returns-clause-goes
 returns-clause-goes g c from calls w =
-    let a : Spot g.row.D.Denot g.row.A.Denot g.row.P.Denot g.row.K.Denot = record {
-      seen = record { outside = c.args.self.now.outside.now; sink = c.args.self.now.sink.now };
-      rows = c.args.self.now.store.now;
-      command = c.args.self.now.command.now;
-      left = c.args.self.now.left;
-    } in
-    let b : Spot g.row.D.Denot g.row.A.Denot g.row.P.Denot g.row.K.Denot = record {
-      seen = record { outside = c.undo_one.new.outside; sink = c.undo_one.new.sink };
-      rows = c.undo_one.new.store;
-      command = c.undo_one.new.command;
-      left = c.args.self.now.left - 1;
-    } in (
+    let a = spot_of c.args.self.now in
+    let b = spot c.undo_one.new.outside c.undo_one.new.sink c.undo_one.new.store c.undo_one.new.command (c.args.self.now.left - 1) in (
       more calls a _ refl w.0
           (called_recovered g.D.Disk.disk g.A.Ambient.ambient g.P.Plugin.plugin g.K.Sink.sink a b c.args.call.now c.args.undo.now c.undo_one.ensures.drawn
           (one_less c.args.self.now.left c.if-self-eq0.false) c.undo_one.result c.undo_one.ensures.passes c.undo_one.ensures.ends),
