@@ -1,0 +1,4 @@
+pub mod PutSteps
+pub mod WriteSteps
+pub mod NotedSteps
+pub mod SumWords

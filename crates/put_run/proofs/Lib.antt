@@ -1,2 +1,0 @@
-pub mod PutSteps
-pub mod WriteSteps
