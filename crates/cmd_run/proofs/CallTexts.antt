@@ -6,7 +6,7 @@ use Rattle.grid_model.specs.Chains.{doing, failing}
 use Rattle.grid_model.specs.Checks.{Fault, KnownNames, argument_faults, call_faults, checked_call, exec_faults, fault_if, first_fault, is_service, service_takes}
 use Rattle.grid_model.specs.Completing.{IsOfGrid}
 use Rattle.grid_model.specs.Grid.{Grid}
-use Rattle.grid_model.specs.Names.{Text, same_text}
+use Rattle.grid_model.specs.Names.{Text}
 use Rattle.grid_model.specs.Obeying.{exec_scope, no_env}
 use Rattle.grid_model.specs.Parsed.{CallAt, Term, call_of, plain_call}
 use Rattle.grid_model.specs.Refusing.{Or}

@@ -4,18 +4,14 @@ use Rattle.std.specs.Prelude.{None, map}
 use Rattle.grid_model.specs.Applying.{is_user}
 use Rattle.grid_model.specs.Chains.{begin_step, call_rule, counted}
 use Rattle.grid_model.specs.Completing.{IsOfGrid}
-use Rattle.grid_model.specs.Doing.{Course}
-use Rattle.grid_model.specs.Maps.{get}
 use Rattle.grid_model.specs.Meanings.{Meaning, gives, mapped}
 use Rattle.grid_model.specs.Names.{Text}
 use Rattle.grid_model.specs.Obeying.{after_exec, exec_scope, no_env}
 use Rattle.grid_model.specs.Orders.{Order, executes}
 use Rattle.grid_model.specs.RowGrids.{grid_of, user_name}
-use Rattle.grid_model.specs.Rows.{Cat}
 use Rattle.grid_model.specs.RuleText.{CallText, Rule}
-use Rattle.grid_model.specs.Runs.{Request}
 use Rattle.grid_model.specs.Sessions.{State}
-use Rattle.grid_model.specs.Values.{Env, Value, computed, is_short, value}
+use Rattle.grid_model.specs.Values.{Env, computed, is_short, value}
 use Rattle.grid_model.specs.Working.{Done, answered, begun, end_of, refused_at_once}
 use Rattle.grid_model.specs.declared.calls.Call.{Call}
 use Rattle.grid_model.specs.declared.marks.Mark.{Mark}
@@ -38,6 +34,23 @@ module _ (s : Server) (session user : ℕ) (has : user_of (at s.sessions session
 
   abbrev name : Text
   name = user_name s.store.cat user
+
+  -- an order is asked for
+  pub asked_for : (order : Order) (run number : ℕ) (line : Text) → run ≡ s.store.cat.numbers.run → IsTrue (is_user s.store.cat user) → s.store.cat.pending ≡ None
+      → IsAsked now (Ok (session, order)) s.store.cat (begun_command run number user line)
+  asked_for order run number line is there none = record {
+    session = session;
+    order = order;
+    asks = refl;
+    of = who s session user has;
+    logged_in = login s session user has;
+    user = there;
+    name = refl;
+    grid = refl;
+    run = is;
+    begun = refl;
+    none = none;
+  }
 
   -- what is asked for is no call
   pub says_no_call : (r : Refusal) → IsOfGrid r → SaysOnly now (Ok (session, executes (Err r))) (end.Refused r) now
@@ -88,20 +101,3 @@ module _ (s : Server) (session user : ℕ) (has : user_of (at s.sessions session
         let E : Env → Type 0 = λ e. DoesCall now (Ok (session, executes (Ok call))) rules e done (map (value (exec_scope name) now.grid) call.args) in
         let R : List Rule → Type 0 = λ rs. DoesCall now (Ok (session, executes (Ok call))) rs (no_env name) done (map (value (exec_scope name) now.grid) call.args) in
         subst E (sym is) (subst R (sym none) (does_by done c))
-
-    -- it is asked for
-    pub asked_of : (run number : ℕ) (line : Text) → run ≡ s.store.cat.numbers.run → IsTrue (is_user s.store.cat user) → s.store.cat.pending ≡ None
-        → IsAsked now (Ok (session, executes (Ok call))) s.store.cat (begun_command run number user line)
-    asked_of run number line is there none = record {
-      session = session;
-      order = executes (Ok call);
-      asks = refl;
-      of = who s session user has;
-      logged_in = login s session user has;
-      user = there;
-      name = refl;
-      grid = refl;
-      run = is;
-      begun = refl;
-      none = none;
-    }

@@ -1,4 +1,4 @@
--- What the server has behind a call by itself.
+-- What the server has behind a request whose calls were made, and behind a call by itself.
 use Rattle.std.proofs.Common.{◌≡◌, ℕ, List, [], Ok, Err, map, IsTrue, refl, sym, ap, ◌∙◌, subst}
 use Rattle.std.specs.Prelude.{IsErrOf, Result, ⊤}
 use Rattle.grid_outside.specs.Ambient.{AmbientState}
@@ -25,7 +25,7 @@ use Rattle.run_laws.specs.Around.{around}
 use Rattle.run_laws.specs.Passes.{CallsPass, Seen}
 use Rattle.run_laws.specs.Steps.{CallsNoRules, HasLine, IsHandledWhole, RequestStep}
 use Rattle.run_laws.proofs.Users as kept
-use Rattle.sess.specs.Places.{Places, sessions_of}
+use Rattle.sess.specs.Places.{sessions_of}
 use Rattle.service_run.specs.declared.command.Command.{Command}
 use Rattle.service_run.specs.declared.ending.Ending as calls
 use Rattle.service_run.specs.declared.ending.Ending.TheVariants as called
@@ -38,7 +38,7 @@ use Rattle.cmd_run.specs.Obeys.{AsksForFile, IsWorn, IsWornAt, Obeys, RemembersD
 use Rattle.cmd_run.specs.declared.server.Server.{Server}
 use Rattle.cmd_run.specs.declared.server.Ending.{Ending}
 use Rattle.cmd_run.specs.declared.server.Ending.TheVariants as ending
-use Rattle.cmd_run.proofs.Called.{asked_of, does_call}
+use Rattle.cmd_run.proofs.Called.{asked_for, does_call}
 use Rattle.cmd_run.proofs.Remembering.{no_source}
 use Rattle.cmd_run.proofs.Users.{KeepsUsers, sessions_stay, users_stay}
 
@@ -136,43 +136,95 @@ module _ {D A P K : Type 0} (disk : D → DiskState) (ambient : A → AmbientSta
   pub begun_cut : (result : Result ⊤ calls.Ending) (after : Server) → is_executed result after → RequestStep old now (state_of before) before.store.cat x.number request
   begun_cut result after its = its.step
 
-  run_out : now.main.tells ≡ old.main.tells → AsksForFile request → (e : calls.Ending) → HasRunOut disk ambient plugin sink source (state_of before) request before.store.cat x from new e
+  -- it asks for a file where numbers of vault files have run out
+  abbrev asks_if_dry : Result ⊤ calls.Ending → Type 0
+  asks_if_dry r = (place : ℕ) → r ≡ Err (called.Worn wear.Vaults place) → AsksForFile request
+
+  run_out : now.main.tells ≡ old.main.tells → (e : calls.Ending) → asks_if_dry (Err e) → HasRunOut disk ambient plugin sink source (state_of before) request before.store.cat x from new e
       → IsWorn now before request (Err (ending_by e))
-  run_out tells asks called.Disk its what place is = cc
-  run_out tells asks called.Sink its what place is = cc
-  run_out tells asks called.Memory its what place is = cc
-  run_out tells asks (called.Worn wear.Runs p) its what place is = absurd its
-  run_out tells asks (called.Worn wear.Vaults p) its what place is =
+  run_out tells called.Disk asks its what place is = cc
+  run_out tells called.Sink asks its what place is = cc
+  run_out tells called.Memory asks its what place is = cc
+  run_out tells (called.Worn wear.Runs p) asks its what place is = absurd its
+  run_out tells (called.Worn wear.Vaults p) asks its what place is =
       let what_is : wear.Vaults ≡ what = cc in
       let place_is : p ≡ place = cc in
       let W : Wear → Type 0 = λ w. IsWornAt now before request place w in
       let N : ℕ → Type 0 = λ n. IsWornAt now before request n wear.Vaults in
-      subst W what_is (subst N place_is (its.0, (λ told. its.1 (subst IsTrue tells told)), asks))
-  run_out tells asks (called.Worn wear.Log p) its what place is =
+      subst W what_is (subst N place_is (its.0, (λ told. its.1 (subst IsTrue tells told)), asks p refl))
+  run_out tells (called.Worn wear.Log p) asks its what place is =
       let what_is : wear.Log ≡ what = cc in
       let place_is : p ≡ place = cc in
       let W : Wear → Type 0 = λ w. IsWornAt now before request place w in
       let N : ℕ → Type 0 = λ n. IsWornAt now before request n wear.Log in
       subst W what_is (subst N place_is (its.0, (λ told. its.1 (subst IsTrue tells told))))
 
-  pub worn_cut : now.main.tells ≡ old.main.tells → AsksForFile request → (after : Server) (e : calls.Ending) → is_executed (Err e) after
+  pub worn_cut : now.main.tells ≡ old.main.tells → (after : Server) (e : calls.Ending) → asks_if_dry (Err e) → is_executed (Err e) after
       → IsWorn now before request (Err (ending_by e))
-  worn_cut tells asks after e its = run_out tells asks e its.ends
+  worn_cut tells after e asks its = run_out tells e asks its.ends
 
   pub worn_whole : (done : ⊤) → IsWorn now before request (Ok done)
   worn_whole done what place is = cc
 
-  pub remembers_call : (result : Result ⊤ calls.Ending) (after : Server) → is_executed result after → RemembersDeed x.line before.store.cat old.moments old.main now.main
-  remembers_call result after its told settled t main c late left stands =
-      let w = its.way told settled t main c late left stands in
-      ((w.call, w.line_is), w.named)
-
--- ---- a call by itself
+-- ---- the request with its server
 
 -- the same under the names of commands
 abbrev pub ends_by : Result ⊤ calls.Ending → Result ⊤ Ending
 ends_by (Ok done) = Ok done
 ends_by (Err e) = Err (ending_by e)
+
+-- what is around
+abbrev pub world : {D A P K : Type 0} → (D → DiskState) → (A → AmbientState) → (P → StoreState) → (K → SinkState) → Seen D A P K → SourceState → World P
+world disk ambient plugin sink s source = around disk ambient plugin s.outside (sink s.sink) source
+
+module _ {D A P K : Type 0} (disk : D → DiskState) (ambient : A → AmbientState) (plugin : P → StoreState) (sink : K → SinkState)
+    (before : Server) (request : Request) (x : Command) (run number user : ℕ) (line : Text) (from new : Seen D A P K)
+    (result : Result ⊤ calls.Ending) (after : Journal) (x_is : x ≡ begun_command run number user line)
+    (executed : (source : SourceState) → Executes disk ambient plugin sink source (state_of before) request before.store.cat x from new result after) where
+  number_is : x.number ≡ number
+  number_is = ap (λ (y : Command). y.number) x_is
+
+  module _ (source : SourceState) (s : Server) (store_is : s.store ≡ after) where
+    abbrev whole_for : Result ⊤ calls.Ending → Type 0
+    whole_for r = Executes disk ambient plugin sink source (state_of before) request before.store.cat x from new r s.store
+
+    its : (r : Result ⊤ calls.Ending) → result ≡ r → whole_for r
+    its r is =
+        let R : Result ⊤ calls.Ending → Type 0 = λ y. Executes disk ambient plugin sink source (state_of before) request before.store.cat x from new y after in
+        let S : Journal → Type 0 = λ j. Executes disk ambient plugin sink source (state_of before) request before.store.cat x from new r j in
+        subst S (sym store_is) (subst R is (executed source))
+
+    pub request_obeys : FitsMain (disk from.outside.main) before → s.sessions ≡ before.sessions → (r : Result ⊤ calls.Ending) → result ≡ r
+        → Obeys (world disk ambient plugin sink from source) (world disk ambient plugin sink new source) before number request (ends_by r) s
+    request_obeys fits same r is = let N : ℕ → Type 0 = λ n. Obeys (world disk ambient plugin sink from source) (world disk ambient plugin sink new source) before n request (ends_by r) s in subst N number_is (by r (its r is))
+      where
+        by : (y : Result ⊤ calls.Ending) → whole_for y → Obeys (world disk ambient plugin sink from source) (world disk ambient plugin sink new source) before x.number request (ends_by y) s
+        by (Ok d) e = obeys_whole disk ambient plugin sink source before request x from new s fits same d e
+        by (Err f) e = obeys_cut disk ambient plugin sink source before request x from new s f e
+
+    pub request_worn : (disk new.outside.main).tells ≡ (disk from.outside.main).tells → ((place : ℕ) → result ≡ Err (called.Worn wear.Vaults place) → AsksForFile request)
+        → (r : Result ⊤ calls.Ending) → result ≡ r → IsWorn (world disk ambient plugin sink new source) before request (ends_by r)
+    request_worn tells asks r is = by r (λ place dry. asks place (is ∙ dry)) (its r is)
+      where
+        by : (y : Result ⊤ calls.Ending) → ((place : ℕ) → y ≡ Err (called.Worn wear.Vaults place) → AsksForFile request) → whole_for y
+            → IsWorn (world disk ambient plugin sink new source) before request (ends_by y)
+        by (Ok d) dry e = worn_whole disk ambient plugin sink source before request x from new d
+        by (Err f) dry e = worn_cut disk ambient plugin sink source before request x from new tells s f dry e
+
+    pub request_begun : RequestStep (world disk ambient plugin sink from source) (world disk ambient plugin sink new source) (state_of before) before.store.cat number request
+    request_begun = let N : ℕ → Type 0 = λ n. RequestStep (world disk ambient plugin sink from source) (world disk ambient plugin sink new source) (state_of before) before.store.cat n request in
+        subst N number_is (begun_cut disk ambient plugin sink source before request x from new result s (its result refl))
+
+  pub request_remembers : RemembersDeed line before.store.cat from.outside.moments (disk from.outside.main) (disk new.outside.main)
+  request_remembers told settled t main c late left stands =
+      let w = (executed no_source).way told settled t main c late left stands in
+      let L : Text → Type 0 = λ l. HasLine l c.pending in
+      ((w.call, subst L (ap (λ (y : Command). y.line) x_is) w.line_is), w.named)
+
+  pub request_whole : KeepWhole plugin from.outside.moments before.store.cat (disk from.outside.main) (disk new.outside.main) from.outside.stores.items new.outside.stores.items
+  request_whole = (executed no_source).whole
+
+-- ---- a call by itself
 
 module _ {D A P K : Type 0} (disk : D → DiskState) (ambient : A → AmbientState) (plugin : P → StoreState) (sink : K → SinkState)
     (before : Server) (session user : ℕ) (done : Call) (rules : List Rule) (env : Env) (x : Command) (run number : ℕ) (line : Text) (from new : Seen D A P K)
@@ -181,59 +233,42 @@ module _ {D A P K : Type 0} (disk : D → DiskState) (ambient : A → AmbientSta
     (none : rules ≡ []) (env_is : env ≡ no_env (user_name before.store.cat user)) (tells : (disk new.outside.main).tells ≡ (disk from.outside.main).tells)
     (runs : (source : SourceState) (at : State) (request : Request) (vs : List Value) → IsAsked at request before.store.cat x → HasValues done vs
     → (CallsNoRules request → ⊥) → DoesCall at request rules env done vs → Executes disk ambient plugin sink source at request before.store.cat x from new result after) where
-  abbrev world : Seen D A P K → SourceState → World P
-  world s source = around disk ambient plugin s.outside (sink s.sink) source
+  abbrev request_of : CallText → Request
+  request_of read = Ok (session, executes (Ok read))
 
-  executed : (source : SourceState) (read : CallText) → IsCalled before session user read done
-      → Executes disk ambient plugin sink source (state_of before) (Ok (session, executes (Ok read))) before.store.cat x from new result after
-  executed source read called =
-      let A : Command → Type 0 = λ y. IsAsked (state_of before) (Ok (session, executes (Ok read))) before.store.cat y in
-      runs source (state_of before) (Ok (session, executes (Ok read))) (map (value (exec_scope (user_name before.store.cat user)) (grid_of before.store.cat)) read.args)
-      (subst A (sym x_is) (asked_of before session user called.logged_in read run number line run_is (fits.users session user called.logged_in) fits.pending))
+  executed : (read : CallText) → IsCalled before session user read done → (source : SourceState)
+      → Executes disk ambient plugin sink source (state_of before) (request_of read) before.store.cat x from new result after
+  executed read called source =
+      let A : Command → Type 0 = λ y. IsAsked (state_of before) (request_of read) before.store.cat y in
+      runs source (state_of before) (request_of read) (map (value (exec_scope (user_name before.store.cat user)) (grid_of before.store.cat)) read.args)
+      (subst A (sym x_is) (asked_for before session user called.logged_in (executes (Ok read)) run number line run_is (fits.users session user called.logged_in) fits.pending))
       called.computed.values (λ no. no)
       (does_call before session user called.logged_in read done rules env none env_is called.computed)
 
-  -- with the server behind it
-  abbrev whole_for : SourceState → Request → Result ⊤ calls.Ending → Server → Type 0
-  whole_for source request r s = Executes disk ambient plugin sink source (state_of before) request before.store.cat x from new r s.store
-
-  module _ (source : SourceState) (request : Request) (read : CallText) (called : IsCalled before session user read done) (asks : request ≡ Ok (session, executes (Ok read))) (s : Server)
+  module _ (source : SourceState) (request : Request) (read : CallText) (called : IsCalled before session user read done) (asks : request ≡ request_of read) (s : Server)
       (store_is : s.store ≡ after) where
-    its : (r : Result ⊤ calls.Ending) → result ≡ r → whole_for source request r s
-    its r is =
-        let Q : Request → Type 0 = λ q. Executes disk ambient plugin sink source (state_of before) q before.store.cat x from new result after in
-        let R : Result ⊤ calls.Ending → Type 0 = λ y. Executes disk ambient plugin sink source (state_of before) request before.store.cat x from new y after in
-        let S : Journal → Type 0 = λ j. Executes disk ambient plugin sink source (state_of before) request before.store.cat x from new r j in
-        subst S (sym store_is) (subst R is (subst Q (sym asks) (executed source read called)))
+    -- what is said of that request is so of this one
+    pub call_obeys : s.sessions ≡ before.sessions → (r : Result ⊤ calls.Ending) → result ≡ r
+        → Obeys (world disk ambient plugin sink from source) (world disk ambient plugin sink new source) before number request (ends_by r) s
+    call_obeys same r is =
+        let Q : Request → Type 0 = λ q. Obeys (world disk ambient plugin sink from source) (world disk ambient plugin sink new source) before number q (ends_by r) s in
+        subst Q (sym asks) (request_obeys disk ambient plugin sink before (request_of read) x run number user line from new result after x_is (executed read called) source s store_is fits same r is)
 
-    number_is : x.number ≡ number
-    number_is = ap (λ (y : Command). y.number) x_is
+    pub call_worn : (r : Result ⊤ calls.Ending) → result ≡ r → IsWorn (world disk ambient plugin sink new source) before request (ends_by r)
+    call_worn r is =
+        let Q : Request → Type 0 = λ q. IsWorn (world disk ambient plugin sink new source) before q (ends_by r) in
+        subst Q (sym asks) (request_worn disk ambient plugin sink before (request_of read) x run number user line from new result after x_is (executed read called) source s store_is
+        tells (λ place dry. tt) r is)
 
-    pub call_obeys : s.sessions ≡ before.sessions → (r : Result ⊤ calls.Ending) → result ≡ r → Obeys (world from source) (world new source) before number request (ends_by r) s
-    call_obeys same r is = let N : ℕ → Type 0 = λ n. Obeys (world from source) (world new source) before n request (ends_by r) s in subst N number_is (by r (its r is))
-      where
-        by : (y : Result ⊤ calls.Ending) → whole_for source request y s → Obeys (world from source) (world new source) before x.number request (ends_by y) s
-        by (Ok d) e = obeys_whole disk ambient plugin sink source before request x from new s fits same d e
-        by (Err f) e = obeys_cut disk ambient plugin sink source before request x from new s f e
-
-    pub call_worn : (r : Result ⊤ calls.Ending) → result ≡ r → IsWorn (world new source) before request (ends_by r)
-    call_worn r is = by r (its r is)
-      where
-        by : (y : Result ⊤ calls.Ending) → whole_for source request y s → IsWorn (world new source) before request (ends_by y)
-        by (Ok d) e = worn_whole disk ambient plugin sink source before request x from new d
-        by (Err f) e = worn_cut disk ambient plugin sink source before request x from new tells (subst AsksForFile (sym asks) tt) s f e
-
-    pub call_begun : RequestStep (world from source) (world new source) (state_of before) before.store.cat number request
-    call_begun = let N : ℕ → Type 0 = λ n. RequestStep (world from source) (world new source) (state_of before) before.store.cat n request in
-        subst N number_is (begun_cut disk ambient plugin sink source before request x from new result s (its result refl))
+    pub call_begun : RequestStep (world disk ambient plugin sink from source) (world disk ambient plugin sink new source) (state_of before) before.store.cat number request
+    call_begun =
+        let Q : Request → Type 0 = λ q. RequestStep (world disk ambient plugin sink from source) (world disk ambient plugin sink new source) (state_of before) before.store.cat number q in
+        subst Q (sym asks) (request_begun disk ambient plugin sink before (request_of read) x run number user line from new result after x_is (executed read called) source s store_is)
 
   pub call_remembers : (read : CallText) → IsCalled before session user read done
       → RemembersDeed line before.store.cat from.outside.moments (disk from.outside.main) (disk new.outside.main)
-  call_remembers read called told settled t main c late left stands =
-      let w = (executed no_source read called).way told settled t main c late left stands in
-      let L : Text → Type 0 = λ l. HasLine l c.pending in
-      ((w.call, subst L (ap (λ (y : Command). y.line) x_is) w.line_is), w.named)
+  call_remembers read called = request_remembers disk ambient plugin sink before (request_of read) x run number user line from new result after x_is (executed read called)
 
   pub call_whole : (read : CallText) → IsCalled before session user read done
       → KeepWhole plugin from.outside.moments before.store.cat (disk from.outside.main) (disk new.outside.main) from.outside.stores.items new.outside.stores.items
-  call_whole read called = (executed no_source read called).whole
+  call_whole read called = request_whole disk ambient plugin sink before (request_of read) x run number user line from new result after x_is (executed read called)

@@ -39,8 +39,7 @@ use Rattle.cmd_run.specs.Gets.{AsksToGet, Drew, Fetches, FetchEnds, IsSent, IsCu
 use Rattle.cmd_run.specs.Keeps.{named, IsKeptSo}
 use Rattle.cmd_run.specs.Obeys.{Obeys, handled, quiet}
 use Rattle.run_laws.specs.Passes.{Seen, AreReady}
-use Rattle.cmd_run.proofs.ChangeEnds.{fits_on}
-use Rattle.cmd_run.proofs.ChangeLemmas.{state_last, users_last}
+use Rattle.cmd_run.proofs.Named.{fits_on, state_last, users_last}
 use Rattle.cmd_run.proofs.GetSteps.{has_lines, leaves_since, cut_short, said, whole}
 use Rattle.cmd_run.proofs.GotLemmas.{Told, ToldSome, told_so, told_part, gave_untold}
 use Rattle.cmd_run.proofs.Resting.{like_self, stands_still}

@@ -28,7 +28,7 @@ use Rattle.cmd_run.specs.declared.server.Server.{Server}
 use Rattle.cmd_run.specs.Answers.{IsTextPut}
 use Rattle.cmd_run.specs.Fits.{state_of}
 use Rattle.cmd_run.specs.Keeps.{named}
-use Rattle.cmd_run.proofs.ChangeLemmas.{grid_named, keeps_named}
+use Rattle.cmd_run.proofs.Named.{grid_named, keeps_named}
 use Rattle.cmd_run.proofs.Resting.{like_self}
 use Rattle.cmd_run.proofs.GotLemmas.{Told, got_done}
 

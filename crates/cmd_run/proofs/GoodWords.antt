@@ -16,7 +16,7 @@ use Rattle.cmd_read.specs.Orders.{an_object, a_collection, a_resource, a_user}
 use Rattle.cmd_read.specs.Table.{Form, FormValue, Means, VerbFrom, Way, Row, among, kinds_with_path, kinds_with_name, table, of_sessions, of_users, of_resources, of_rules, of_collections, of_objects, of_uploads, of_metadata}
 use Rattle.cmd_read.specs.Reading.{Makes, fits_forms, chosen, WordsAsk, ReadsVerb, ReadsIn, ReadsBehind, Reads, session_of}
 use Rattle.plan_meta.proofs.LineWords.{line_words}
-use Rattle.cmd_run.specs.Asking.{HasGoodWords, NamesSome}
+use Rattle.row_run.specs.Verbs.{HasGoodWords, NamesSome}
 
 -- whatever values stand for words of these forms, the verb has a new name
 abbrev AllMade : (fs : List Form) → VerbFrom fs → Type 0

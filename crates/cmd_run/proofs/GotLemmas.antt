@@ -40,8 +40,7 @@ use Rattle.grid_model.specs.declared.plans.OldFile.{OldFile}
 use Rattle.grid_model.specs.declared.replies.End.{End}
 use Rattle.grid_model.specs.declared.replies.End.TheVariants as end
 use Rattle.grid_model.specs.declared.refusal.Refusal.TheVariants as refusal
-use Rattle.grid_vault.specs.Reading.{IsAsRecorded, Differs}
-use Rattle.grid_vault.specs.declared.reading.Found.{Found}
+use Rattle.grid_vault.specs.Reading.{IsAsRecorded}
 use Rattle.grid_vault.specs.Sending.{Breaks, OnFault, Answers, IsFaulty}
 use Rattle.grid_vault.specs.declared.sent.Sent.{Sent as Answer}
 use Rattle.grid_vault.specs.declared.sent.Sent.TheVariants.{Whole, Fault, Bad}
@@ -222,12 +221,6 @@ differs_by : (file : OldFile) (read : Text) → ¬ IsAsRecorded file read → le
 differs_by file read not_recorded one_more = and_from (not (length read == file.size && same_text (sha256 read) file.digest)) (nat_le (length read) (file.size + 1))
     (both_false (length read == file.size) (same_text (sha256 read) file.digest) (λ size digest. not_recorded (record { size = eqb-true (length read) file.size size; digest = (same_text-Decides (sha256 read) file.digest).0 digest })))
     (le-leb (length read) (file.size + 1) one_more)
-
-pub differs_so : (file : OldFile) (read : Text) (found : Found) → Differs file read found → length read ≤ file.size + 1 → differs found.len found.digest file.size file.digest ≡ true
-differs_so file read found d one_more =
-    let L : ℕ → Type 0 = λ k. differs k found.digest file.size file.digest ≡ true in
-    let F : List ℕ → Type 0 = λ f. differs (length read) f file.size file.digest ≡ true in
-    subst L (sym d.len) (subst F (sym d.digest) (differs_by file read d.not_recorded one_more))
 
 few_parts : (a b : ℕ) → a ≤ b → parts a ≤ parts b
 few_parts a b le = omega (arith, le)

@@ -1,6 +1,6 @@
 -- The keeping of changes.
 use Rattle.std.proofs.Common.{◌≡◌, inl, ℕ, ◌<◌, ◌≤◌, List, [], ◌∷◌, ◌++◌, Ok, Err, refl, sym, ap, ◌∙◌, subst, arith}
-use Rattle.std.specs.Prelude.{Result, IsErrOf, nat_lt, nat_le}
+use Rattle.std.specs.Prelude.{Result, nat_lt, nat_le}
 use Rattle.std.proofs.lemmas.Bool.{and_from, lt-ltb, le-leb}
 use Rattle.grid_outside.specs.Disk.{DiskState}
 use Rattle.grid_model.specs.Names.{Text}
@@ -19,10 +19,10 @@ use Rattle.grid_deed.proofs.Keeping.{held_stands, either_of}
 use Rattle.grid_outside.specs.Files.{StoreState}
 use Rattle.grid_deed.specs.Safe.{KeepWhole}
 use Rattle.grid_deed.proofs.Wholes.{whole_of, one_cat}
-use Rattle.file_laws.proofs.Turning.{turns_then, turns_apply}
+use Rattle.file_laws.proofs.Turning.{turns_then, turns_apply, turns_self}
 use Rattle.cmd_run.specs.declared.server.Server.{Server}
 use Rattle.cmd_run.specs.declared.server.Ending.{Ending}
-use Rattle.cmd_run.specs.declared.server.Ending.TheVariants.{Disk, Memory}
+use Rattle.cmd_run.specs.declared.server.Ending.TheVariants.{Memory}
 use Rattle.cmd_run.specs.Errors.{IsOfCommit, ending_of}
 use Rattle.cmd_run.specs.Keeps.{named, KeepEnds, IsKeptSo, IsChange}
 
@@ -96,17 +96,6 @@ module _ (c after : Cat) (from : ℕ) (old : Journal) (main_old main_new : DiskS
   of_commit (journal.NotEmpty side len) new ends = ends
   of_commit (journal.NotACatalogue side place) new ends = ends
 
--- a disk's failure is that of the run
-pub as_disk : {T U : Type 0} (e : JournalError) (ending : Ending) → ending ≡ ending_of e → IsErrOf {T = T} {E = JournalError} (Err e) journal.DiskFault → IsErrOf {T = U} {E = Ending} (Err ending) Disk
-as_disk e ending is fault = let same : e ≡ journal.DiskFault = cc in cc (is, ap ending_of same)
-
-pub as_fault : {T U : Type 0} (e : JournalError) (ending : Ending) → ending ≡ ending_of e → IsErrOf {T = U} {E = Ending} (Err ending) Disk → IsErrOf {T = T} {E = JournalError} (Err e) journal.DiskFault
-as_fault journal.Memory ending is fault = absurd cc
-as_fault journal.DiskFault ending is fault = refl
-as_fault (journal.Worn what place) ending is fault = absurd cc
-as_fault (journal.NotEmpty side len) ending is fault = absurd cc
-as_fault (journal.NotACatalogue side place) ending is fault = absurd cc
-
 -- nothing was done
 pub not_kept : (c after : Cat) (from : ℕ) (main : DiskState) (s : Journal) (server : Server) → IsHeld c main s → main.last ≤ from → IsKeptSo c after from main main (Err Memory) server
 not_kept c after from main s server held last = record {
@@ -121,3 +110,7 @@ pub keep_still : {B : Type 0} (plugin : B → StoreState) (c : Cat) (from : ℕ)
 keep_still plugin c from main s stores held last told settled whole t image d late left stands =
     let P : Text → Type 0 = λ m. StandsFor m d in
     whole_of plugin t c d stores (one_cat main.holds c d (held_stands c main s held told) (subst P (settled t image (omega (arith, late, last)) left) stands)) (whole t late)
+
+-- no change at all
+pub no_change : (c : Cat) → IsChange c [] c
+no_change c = record { applied = refl; spelled = refl; turns = turns_self [] [] c; numbers = refl; pending = refl }

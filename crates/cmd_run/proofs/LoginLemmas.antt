@@ -1,12 +1,12 @@
 -- Who logs in and out.
-use Rattle.std.proofs.Common.{◌≡◌, ◌≢◌, ◌==◌, ◌⊎◌, inl, inr, ℕ, ◌<◌, [], Bool, true, false, Option, Some, None, Ok, Err, IsTrue, refl, sym, ap, ◌∙◌, subst, eq-eqb, arith}
+use Rattle.std.proofs.Common.{◌≡◌, ◌≢◌, ◌==◌, ℕ, [], Bool, true, false, Option, Some, None, Ok, Err, refl, sym, ap, ◌∙◌, eq-eqb, arith}
 use Rattle.std.specs.Prelude.{option_map, unwrap_or, find, not, ◌&&◌}
-use Rattle.std.proofs.lemmas.Bool.{and_from, cases_order}
+use Rattle.std.proofs.lemmas.Bool.{and_from}
 use Rattle.grid_model.specs.Maps.{get, put, remove}
 use Rattle.grid_model.specs.Names.{Text, same_text}
 use Rattle.grid_model.specs.Rows.{Cat, IsCat, user_cmp, user}
 use Rattle.grid_model.specs.RowGrids.{grid_of, user_name}
-use Rattle.grid_model.specs.Applying.{is_user, is_group_kind}
+use Rattle.grid_model.specs.Applying.{is_group_kind}
 use Rattle.grid_model.specs.Meanings.{gives}
 use Rattle.grid_model.specs.Operations.Common.{is_person}
 use Rattle.grid_model.specs.Levels.{is_admin}
@@ -33,7 +33,7 @@ use Rattle.sess.specs.Places.{Places, at, user_of, sessions_of, found}
 use Rattle.sess.specs.declared.sessions.Session.{Session as Place}
 use Rattle.sess.proofs.PlacesLemmas.{sessions_of-get, sessions_of-user, sessions_of-nobody, sessions_of-login, sessions_of-logout}
 use Rattle.cmd_run.specs.declared.server.Server.{Server}
-use Rattle.cmd_run.specs.Fits.{state_by, state_of, AreUsers}
+use Rattle.cmd_run.specs.Fits.{state_by, state_of}
 use Rattle.cmd_run.specs.Logins.{FindsPerson}
 use Rattle.cmd_run.specs.Obeys.{SaysOnly}
 use Rattle.cmd_run.proofs.Operating.{with_login, without_login}
@@ -101,14 +101,6 @@ no_upload : (names : ℕ → Text) (p : Option Place) → has_upload (found name
 no_upload names None = refl
 no_upload names (Some x) = refl
 
-decided : (q k : ℕ) → (q ≡ k) ⊎ (q ≢ k)
-decided q k = by (cases_order q k)
-  where
-    by : (q ≡ k) ⊎ ((q < k) ⊎ (k < q)) → (q ≡ k) ⊎ (q ≢ k)
-    by (inl e) = inl e
-    by (inr (inl lt)) = inr (λ e. omega (arith, e, lt))
-    by (inr (inr lt)) = inr (λ e. omega (arith, e, lt))
-
 module _ (s : Server) (session : ℕ) where
   abbrev now : State
   now = state_of s
@@ -175,16 +167,6 @@ module _ (s : Server) (session : ℕ) where
         by_rows = tt;
       }
 
-      pub users_login : AreUsers c s.sessions → AreUsers c new
-      users_login are n u has = by (decided n session)
-        where
-          by : (n ≡ session) ⊎ (n ≢ session) → IsTrue (is_user c u)
-          by (inl same) =
-              let mine : Some id ≡ Some u = sym (ap user_of (ap (at new) same ∙ own)) ∙ has in
-              let it : id ≡ u = cc in
-              subst (λ k. IsTrue (is_user c k)) it is.1
-          by (inr apart) = are n u (ap user_of (sym (others n apart)) ∙ has)
-
   -- ---- to log out, or to quit
 
   -- nobody is logged in, and asks for something else
@@ -210,13 +192,6 @@ module _ (s : Server) (session : ℕ) where
       grid = refl;
       by_rows = tt;
     }
-
-    pub users_logout : AreUsers c s.sessions → AreUsers c new
-    users_logout are n k has_k = by (decided n session)
-      where
-        by : (n ≡ session) ⊎ (n ≢ session) → IsTrue (is_user c k)
-        by (inl same) = let none : None ≡ Some k = sym (ap user_of (ap (at new) same ∙ own)) ∙ has_k in absurd cc
-        by (inr apart) = are n k (ap user_of (sym (others n apart)) ∙ has_k)
 
   pub says_quit : SaysOnly now (Ok (session, quits)) well now
   says_quit = record {

@@ -13,10 +13,11 @@ use Rattle.cmd_read.specs.Orders.{MeansOrder, promised}
 use Rattle.query_parse.proofs.EachText.{each_text}
 use Rattle.rule_texts.proofs.EachText.{each_call}
 use Rattle.grid_headline.specs.Reads.{texts, is_built}
-use Rattle.cmd_run.specs.Asking.{HasGoodWords, MeansHeld, is_end}
+use Rattle.row_run.specs.Verbs.{HasGoodWords}
+use Rattle.cmd_run.specs.Asking.{MeansHeld, is_end}
 
 -- the order that a verb means
-order_of : (at : State) (v : Verb) (body : Text) → is_built v ≡ true → HasGoodWords v → (order : Order) × MeansOrder texts at v body order
+pub order_of : (at : State) (v : Verb) (body : Text) → is_built v ≡ true → HasGoodWords v → (order : Order) × MeansOrder texts at v body order
 order_of at (verb.Login user) body built good = (logs_in user, refl)
 order_of at verb.Logout body built good = (logs_out, refl)
 order_of at verb.Quit body built good = (quits, refl)

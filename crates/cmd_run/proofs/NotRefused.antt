@@ -1,12 +1,10 @@
--- Requests that are not refused at once: those that change rows, and deeds.
-use Rattle.std.proofs.Common.{◌≡◌, ℕ, true, List, [], Some, Ok, refl, sym, ap, ◌∙◌, subst}
+-- Requests that are not refused at once: those that are answered ok, and deeds.
+use Rattle.std.proofs.Common.{◌≡◌, ℕ, true, [], Some, Ok, sym, ap, ◌∙◌, subst}
 use Rattle.std.specs.Prelude.{nat_le}
 use Rattle.grid_model.specs.Limits.{object_size}
 use Rattle.grid_model.specs.Maps.{get}
-use Rattle.grid_model.specs.Rows.{Cat}
-use Rattle.grid_model.specs.RowGrids.{grid_of, user_name}
 use Rattle.grid_model.specs.Deeds.{Deed, deed}
-use Rattle.grid_model.specs.Meanings.{Meaning, gives}
+use Rattle.grid_model.specs.Meanings.{gives}
 use Rattle.grid_model.specs.Operations.Table.{Operation, row}
 use Rattle.grid_model.specs.Orders.{works}
 use Rattle.grid_model.specs.Runs.{Request, does}
@@ -14,25 +12,8 @@ use Rattle.grid_model.specs.Sessions.{Session, State}
 use Rattle.grid_model.specs.Working.{Done, well}
 use Rattle.grid_model.specs.declared.replies.End.TheVariants as end
 use Rattle.grid_model.specs.declared.replies.Reply.{Reply}
-use Rattle.plan_object.specs.Writing.{GoesTo}
-use Rattle.cmd_run.specs.declared.server.Server.{Server}
-use Rattle.cmd_run.specs.Fits.{state_of}
-use Rattle.cmd_run.specs.Obeys.{IsRefusedAtOnce, ChangesGrid, SaysOnly}
-use Rattle.cmd_run.specs.Puts.{AsksToPut, operation_of, wanted}
-use Rattle.cmd_run.specs.declared.putting.Putting.{Putting}
-use Rattle.cmd_run.proofs.Operating.{with_login, not_too_much, waited_so}
-
-same_done : (a b : Done) → (let m : Meaning Done = gives a in m ≡ gives b) → a ≡ b
-same_done a b e = cc
-
--- one that changes rows is answered ok
-pub changed_not_refused : (at : State) (before : Cat) (request : Request) (after : Cat) → ChangesGrid at before request after → ¬ IsRefusedAtOnce at request
-changed_not_refused at before request after c r =
-    let same : c.d ≡ r.d = same_done c.d r.d (sym c.does_so ∙ r.does_so) in
-    let ended : c.d.reply.end ≡ end.Done [] = ap (λ (x : Reply). x.end) c.reply_is in
-    let refused : r.d.reply.end ≡ end.Refused r.why = ap (λ (x : Reply). x.end) r.reply_is in
-    let both : end.Done [] ≡ end.Refused r.why = sym ended ∙ ap (λ (d : Done). d.reply.end) same ∙ refused in
-    absurd cc
+use Rattle.cmd_run.specs.Obeys.{IsRefusedAtOnce, SaysOnly}
+use Rattle.cmd_run.proofs.Operating.{same_done, with_login, not_too_much, waited_so}
 
 -- one that is answered ok
 pub well_not_refused : (at : State) (request : Request) → SaysOnly at request well at → ¬ IsRefusedAtOnce at request
@@ -51,10 +32,3 @@ deed_not_refused at none n x login op count small d row_is request is r =
     let given : does at (Ok (n, works op count)) [] ≡ gives r.d = subst P is r.does_so in
     let waited = with_login at n (works op count) [] x login ∙ not_too_much at x op count _ small ∙ waited_so at none x.user op d row_is in
     absurd (cc (given, waited))
-
--- a put that goes somewhere
-pub put_not_refused : (s : Server) (p : Putting) (request : Request) (leaves : List ℕ) → AsksToPut s p request
-    → GoesTo s.store.cat (user_name s.store.cat p.user) (wanted p) 0 leaves → ¬ IsRefusedAtOnce (state_of s) request
-put_not_refused s p request leaves asks goes =
-    let its = ap (λ u. row (grid_of s.store.cat) u (operation_of p)) asks.user ∙ goes.row_is p.body refl in
-    deed_not_refused (state_of s) refl asks.session asks.of asks.logged_in (operation_of p) asks.count asks.small _ its request asks.is

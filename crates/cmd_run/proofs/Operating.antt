@@ -1,5 +1,5 @@
 -- What requests come to where there are no rules.
-use Rattle.std.proofs.Common.{◌≡◌, ℕ, Bool, true, false, List, [], ◌∷◌, Option, Some, None, ◌∙◌, ap}
+use Rattle.std.proofs.Common.{◌≡◌, ℕ, Bool, true, false, List, [], ◌∷◌, Option, Some, None, refl, sym, ◌∙◌, ap}
 use Rattle.std.specs.Prelude.{Ok, Err, nat_le}
 use Rattle.grid_model.specs.Maps.{get}
 use Rattle.grid_model.specs.Names.{Text}
@@ -23,6 +23,9 @@ use Rattle.grid_model.specs.declared.refusal.Refusal.TheVariants as refusal
 use Rattle.grid_model.specs.declared.replies.End.{End}
 use Rattle.grid_model.specs.declared.replies.End.TheVariants as end
 use Rattle.grid_model.proofs.WithoutRules.{answers, operate_alone}
+
+pub same_done : (a b : Done) → (let m : Meaning Done = gives a in m ≡ gives b) → a ≡ b
+same_done a b e = cc
 
 -- ---- who asks
 
@@ -113,3 +116,17 @@ module _ (at : State) (none : at.rules ≡ []) (user : Text) (op : Operation) wh
   pub damaged_so : (d : Deed) (slot len : ℕ) (found : Digest) (sent : ℕ) → row at.grid user op ≡ Ok (deed d) → fits d (Bad slot len found sent) ≡ true
       → operate at user op (begun at.grid (Bad slot len found sent ∷ [])) ≡ gives (marked_work at.grid (Bad slot len found sent) (end.Refused (refusal.Damaged slot d.size d.digest len found)))
   damaged_so d slot len found sent is it_fits = marked d (Bad slot len found sent) is it_fits
+
+  -- what is refused without a mark its row refuses
+  pub refused_row : (d : Done) (why : Refusal) → operate at user op (begun at.grid []) ≡ gives d → d.reply.end ≡ end.Refused why → (r : Refusal) × (row at.grid user op ≡ Err r)
+  refused_row d why does_so ended = by (row at.grid user op) refl
+    where
+      by : (a : Or Act) → row at.grid user op ≡ a → (r : Refusal) × (row at.grid user op ≡ Err r)
+      by (Err r) is = (r, is)
+      by (Ok (changes g)) is =
+          let same : d ≡ changed_work g = same_done d (changed_work g) (sym does_so ∙ changed_so g is) in
+          let both : end.Refused why ≡ end.Done its_words = sym ended ∙ ap (λ (x : Done). x.reply.end) same in
+          absurd cc
+      by (Ok (deed x)) is =
+          let both : waits (record { call = running op; grid = at.grid; taken = []; passed = []; undo = [] }) ≡ gives d = sym (waited_so x is) ∙ does_so in
+          absurd cc

@@ -1,7 +1,6 @@
 -- A request that is answered with an end alone.
 use Rattle.std.proofs.Common.{◌≡◌, ℕ, ◌+◌, ◌<◌, ◌≤◌, List, [], ◌++◌, Ok, Err, IsTrue, refl, sym, ap, ◌∙◌, subst, arith}
-use Rattle.std.specs.Prelude.{Result, ⊤, length}
-use Rattle.std.proofs.lemmas.List.{take_all}
+use Rattle.std.specs.Prelude.{Result, ⊤}
 use Rattle.grid_outside.specs.Ambient.{AmbientState}
 use Rattle.grid_outside.specs.Device.{IsSettled}
 use Rattle.grid_outside.specs.Disk.{DiskState}
@@ -33,10 +32,6 @@ use Rattle.cmd_run.specs.Obeys.{Obeys, SaysRows, handled, quiet}
 use Rattle.cmd_run.proofs.Resting.{like_self, gave_none, gave_same, caused_same, stands_still}
 
 -- ---- what was put of a text
-
--- all of it
-pub part_of_all : (text old new : Text) → new ≡ old ++ text → AddsPart text old new
-part_of_all text old new is = record { count = length text; within = omega arith; is = is ∙ ap (λ (t : Text). old ++ t) (sym (take_all (length text) text (omega arith))) }
 
 -- what a stop leaves of the sink
 pub put_left : (text : Text) (from t : ℕ) (old new : SinkState) (image : Text) → IsTextPut text from old new → IsTrue old.tells → IsSettled old → old.last ≤ from → from < t → new.left t image → AddsPart text old.holds image

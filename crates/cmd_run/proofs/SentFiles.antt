@@ -28,7 +28,7 @@ use Rattle.file_laws.proofs.Members.{in_of}
 use Rattle.tables_laws.proofs.Rows.{in_from_all}
 use Rattle.grid_headline.specs.Worlds.{World}
 use Rattle.grid_headline.specs.Files.{IsKnown}
-use Rattle.plan_object.specs.Sending.{Sends, ReadsFirst}
+use Rattle.plan_object.specs.Sending.{Sends}
 
 -- The file is finished, and has the bytes that are recorded.
 pub record SentFile (file : OldFile) (files : Files) : Type 0 where
@@ -64,19 +64,6 @@ sent_named c user p asked file s = record {
   like = λ rows.
       let of_it = like_object c s.row s.object_row s.there s.good s.of_object rows in
       (of_it.0 ∙ sym s.size_row, of_it.1 ∙ sym s.digest_row);
-}
-
--- the first one that can be read of an object
-pub first_named : (c : Cat) (o : ObjectRow) (asked : _) (file : OldFile) → object c o.id ≡ Some o → ReadsFirst c o asked file → IsNamedFile c file
-first_named c o asked file found s = record {
-  row = s.row;
-  there = s.there;
-  good = s.good;
-  vault_is = s.vault_is;
-  slot_is = s.slot_is;
-  like = λ rows.
-      let of_it = like_object c s.row o s.there s.good (ap (object c) s.of_object ∙ found) rows in
-      (of_it.0 ∙ sym s.size, of_it.1 ∙ sym s.digest);
 }
 
 -- where the rows are good and the store is whole

@@ -41,7 +41,7 @@ use Rattle.cmd_run.specs.Fits.{state_by, state_of, FitsMain, AreUsers}
 use Rattle.cmd_run.specs.Obeys.{HasNoneWaiting, IsWorn, IsWornAt, Obeys, SaysOnly, handled}
 use Rattle.cmd_run.specs.Sweeping.{ForgetEnds, ForgetsOrphans, LeavesLike, StandsAsBefore, StaysLike}
 use Rattle.cmd_run.proofs.GotLemmas.{caused_none}
-use Rattle.cmd_run.proofs.DeedEnds.{state_behind}
+use Rattle.cmd_run.proofs.Users.{state_behind}
 use Rattle.cmd_run.proofs.Resting.{gave_same, none_of}
 use Rattle.cmd_run.proofs.SayLemmas.{put_left}
 use Rattle.cmd_run.proofs.SweepLemmas.{gone_like}

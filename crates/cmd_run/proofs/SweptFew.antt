@@ -28,7 +28,7 @@ use Rattle.grid_headline.specs.Ends.{HasFewOrphans}
 use Rattle.grid_headline.specs.Reads.{is_built, texts}
 use Rattle.grid_headline.specs.Worlds.{World}
 use Rattle.run_laws.specs.Silent.{LeavesFew}
-use Rattle.run_laws.specs.Steps.{RemovesNoFile, RequestStep}
+use Rattle.run_laws.specs.Steps.{RemovesNoFile}
 use Rattle.cmd_run.specs.declared.server.Server.{Server}
 use Rattle.cmd_run.specs.declared.server.Ending.{Ending}
 use Rattle.cmd_run.specs.Asking.{AsksForRequest, MeansHeld}
@@ -95,13 +95,6 @@ module _ {B : Type 0} (old new : World B) (before : Server) (n : ℕ) where
       let F : Request → Type 0 = λ q. SweepLeavesFew old new before q (Ok done) server in
       subst F (sym is) (λ marks d does_so ok. few)
   swept_few request is (Err e) server few = tt
-
--- where it was handled whole, few are left behind its step
-pub leaves_few : {B : Type 0} (old new : World B) (before : Server) (n : ℕ) (request : Request) (result : Result ⊤ Ending) (after : Server) (done : ⊤) → result ≡ Ok done → SweepLeavesFew old new before request result after
-    → (step : RequestStep old new (state_of before) before.store.cat n request) → LeavesFew old new request step.d after.store.cat
-leaves_few old new before n request result after done is few step =
-    let F : Result ⊤ Ending → Type 0 = λ r. SweepLeavesFew old new before request r after in
-    subst F is few step.marks step.d step.does_so
 
 -- ---- other requests
 

@@ -1,11 +1,11 @@
 -- Users that are there stay, with their names, whatever changes are made.
-use Rattle.std.proofs.Common.{◌≡◌, ◌==◌, ℕ, Bool, true, false, List, [], ◌∷◌, Ok, IsTrue, refl, sym, ap, ◌∙◌, subst, eq-eqb, eqb-true}
+use Rattle.std.proofs.Common.{◌≡◌, ◌==◌, ℕ, Bool, true, false, List, [], ◌∷◌, Ok, IsTrue, refl, sym, ap, ◌∙◌, subst, eq-eqb, eqb-true, arith}
 use Rattle.std.specs.Prelude.{not, ◌&&◌, ◌||◌, option_map, unwrap_or}
 use Rattle.std.specs.List.{list_any}
 use Rattle.std.proofs.lemmas.Bool.{and_parts}
 use Rattle.grid_model.specs.Names.{same_text, is_name}
 use Rattle.grid_model.specs.Rows.{Cat, with_row, user_cmp}
-use Rattle.grid_model.specs.RowGrids.{user_name}
+use Rattle.grid_model.specs.RowGrids.{user_name, grid_of}
 use Rattle.grid_model.specs.Applying.{apply, apply_all, where_fits, user_fits, is_user, is_group_kind}
 use Rattle.grid_model.specs.declared.deltas.Delta.{Delta}
 use Rattle.grid_model.specs.declared.deltas.Delta.TheVariants as delta
@@ -15,7 +15,10 @@ use Rattle.tables_laws.proofs.Rows.{IsIn, in_from_any, any_from_in, old_in_with_
 use Rattle.tables_laws.proofs.Numbered.{put_other, same_number}
 use Rattle.tables_laws.proofs.Sound.{fits_so, ok-same, after_first}
 use Rattle.sess.proofs.PlacesLemmas.{sessions_of-names}
-use Rattle.cmd_run.specs.Fits.{AreUsers}
+use Rattle.cmd_run.specs.Fits.{AreUsers, state_by}
+use Rattle.grid_model.specs.Grid.{Grid}
+use Rattle.grid_model.specs.Deeds.{fits}
+use Rattle.grid_model.specs.Sessions.{State, Sessions}
 
 -- users of the one catalogue are there in the other, with their names
 pub record KeepsUsers (c d : Cat) : Type 0 where
@@ -108,3 +111,9 @@ users_stay c d places keeps are n id is = keeps.there id (are n id is)
 
 pub sessions_stay : (c d : Cat) (places : Places) → KeepsUsers c d → AreUsers c places → sessions_of (user_name d) places ≡ sessions_of (user_name c) places
 sessions_stay c d places keeps are = sessions_of-names (user_name d) (user_name c) places (λ n id is. keeps.names id (are n id is))
+
+-- the state behind these rows
+pub state_behind : (c fin : Cat) (places : Places) (g : Grid) → KeepsUsers c fin → AreUsers c places → grid_of fin ≡ g → record (state_by c places) { grid = g } ≡ state_by fin places
+state_behind c fin places g keeps are grid =
+    ap (λ (x : Grid). (let s : State = record { grid = x; rules = []; sessions = sessions_of (user_name c) places } in s)) (sym grid)
+    ∙ ap (λ (x : Sessions). (let s : State = record { grid = grid_of fin; rules = []; sessions = x } in s)) (sym (sessions_stay c fin places keeps are))

@@ -1,10 +1,9 @@
 -- What is kept of a command that changes rows.
-use Rattle.std.specs.Prelude.{◌≡◌, ◌≢◌, ◌⊎◌, ℕ, ◌^◌, ◌<◌, List, [], Result, Ok, Err, IsTrue, ⊤}
+use Rattle.std.specs.Prelude.{◌≡◌, ℕ, ◌^◌, ◌<◌, List, [], Result, Ok, Err, IsTrue, ⊤}
 use Rattle.grid_outside.specs.Device.{IsSettled, Leaves}
 use Rattle.grid_outside.specs.Disk.{DiskState}
 use Rattle.grid_outside.specs.declared.outside.Wear.TheVariants.{Log}
 use Rattle.grid_model.specs.Rows.{Cat}
-use Rattle.grid_model.specs.RowGrids.{grid_of}
 use Rattle.std.specs.List.{list_all}
 use Rattle.grid_model.specs.Applying.{apply_all}
 use Rattle.grid_model.specs.declared.deltas.Delta.{Delta}
@@ -41,7 +40,3 @@ pub record IsChange (c : Cat) (deltas : List Delta) (after : Cat) : Type 0 where
   pub turns : Turns [] [] c after
   pub numbers : after.numbers ≡ c.numbers
   pub pending : after.pending ≡ c.pending
-
--- they make another grid of it, or there are none
-abbrev pub ChangesOrNone : Cat → List Delta → Cat → Type 0
-ChangesOrNone c deltas after = (deltas ≡ []) ⊎ (grid_of after ≢ grid_of c)

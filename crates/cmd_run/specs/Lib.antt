@@ -1,16 +1,11 @@
 pub mod Answers
 pub mod Asking
 pub mod Calls
-pub mod Copies
 pub mod Errors
 pub mod Fits
 pub mod Gets
 pub mod Keeps
 pub mod Logins
-pub mod Noting
 pub mod Obeys
-pub mod Operating
-pub mod Puts
-pub mod Sums
 pub mod Sweeping
-pub mod Writes
+pub mod Works

@@ -11,7 +11,6 @@ use Rattle.grid_model.specs.Sessions.{State}
 use Rattle.grid_model.specs.Working.{Done}
 use Rattle.grid_model.specs.Completing.{EndsByRows}
 use Rattle.grid_model.specs.Runs.{Request, does}
-use Rattle.grid_model.specs.RowGrids.{grid_of}
 use Rattle.grid_model.specs.declared.deltas.Pending.{Pending}
 use Rattle.grid_model.specs.declared.refusal.Refusal.{Refusal}
 use Rattle.grid_model.specs.declared.replies.End.{End}
@@ -20,7 +19,7 @@ use Rattle.grid_journal.specs.Journal.{ClosesAt}
 use Rattle.grid_journal.specs.Stands.{StandsFor}
 use Rattle.grid_headline.specs.Files.{NamesCall, KeepsNamed}
 use Rattle.grid_headline.specs.Worlds.{World}
-use Rattle.grid_headline.specs.Numbers.{KeepsNumbers, last_vault}
+use Rattle.grid_headline.specs.Numbers.{last_vault}
 use Rattle.run_laws.specs.Ends.{MakesFile}
 use Rattle.run_laws.specs.Steps.{RequestStep, IsHandledWhole, IsQuiet, HasLine}
 use Rattle.cmd_run.specs.Fits.{state_of, FitsMain}
@@ -102,20 +101,3 @@ pub record SaysRows (at : State) (request : Request) (rows : List (List Text)) (
 -- the same without rows
 abbrev pub SaysOnly : State → Request → End → State → Type 0
 SaysOnly at request e after = SaysRows at request [] e after
-
--- What rows have beside the grid is as it was, and no file is named by a number that was given before but as it was named then.
-pub record StaysBeside (before after : Cat) : Type 0 where
-  pub rules : after.rules ≡ before.rules
-  pub stores : after.stores ≡ before.stores
-  pub pending : after.pending ≡ before.pending
-  pub run : after.numbers.run ≡ before.numbers.run
-  pub keeps : KeepsNumbers before after
-
--- A request without a deed is answered ok, and makes of the grid what these rows stand for.
-pub record ChangesGrid (at : State) (before : Cat) (request : Request) (after : Cat) : Type 0 where
-  pub d : Done
-  pub does_so : does at request [] ≡ gives d
-  pub reply_is : d.reply ≡ record { marks = []; shown = []; passed = []; rows = []; end = end.Done [] }
-  pub all : d.left ≡ []
-  pub state : d.state ≡ record at { grid = grid_of after }
-  pub stays : StaysBeside before after

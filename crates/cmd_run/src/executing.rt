@@ -193,8 +193,8 @@ impl Server {
     }
 }
 
-// A command none of whose calls was made yet. It takes no memory.
-fn begun_command(alloc: Global, run: u64, number: u64, user: u32, line: Text) -> Command
+/// A command none of whose calls was made yet. It takes no memory.
+pub(crate) fn begun_command(alloc: Global, run: u64, number: u64, user: u32, line: Text) -> Command
     ensures { result ≡ begun_command run number user line }
 {
     Command {
@@ -208,8 +208,8 @@ fn begun_command(alloc: Global, run: u64, number: u64, user: u32, line: Text) ->
     }
 }
 
-// How a run ends in a request whose calls ended so.
-fn ending_by(ending: CallEnding) -> Ending
+/// How a run ends in a request whose calls ended so.
+pub(crate) fn ending_by(ending: CallEnding) -> Ending
     ensures { result ≡ ending_by ending }
 {
     match ending {

@@ -220,8 +220,8 @@ fn text_behind(
     }
 }
 
-/// The mark and the end behind a file that has so many bytes with this digest, which is not what is recorded.
-pub(crate) fn damaged_text(
+// The mark and the end behind a file that has so many bytes with this digest, which is not what is recorded.
+fn damaged_text(
     alloc: Global,
     number: u64,
     file: &OldFile,

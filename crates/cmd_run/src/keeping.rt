@@ -1,4 +1,4 @@
-ghost use Rattle.std.specs.Prelude.{◌≡◌, ◌+◌, ◌≤◌, ◌∷◌, ◌++◌, [], IfOk, IsTrue, IsErrOf, is_some};
+ghost use Rattle.std.specs.Prelude.{◌≡◌, ◌+◌, ◌≤◌, ◌∷◌, ◌++◌, [], IfOk, IsTrue, IsErrOf};
 ghost use Rattle.std.specs.List.{list_all};
 ghost use Rattle.grid_model.specs.Rows.{Cat};
 ghost use Rattle.grid_journal.specs.Journal.{can_be_kept};
@@ -7,7 +7,6 @@ ghost use Rattle.grid_deed.specs.Held.{IsHeld};
 ghost use Rattle.grid_deed.specs.Safe.{KeepWhole};
 ghost use Rattle.cmd_run.specs.Errors.{IsOfCommit, ending_of};
 ghost use Rattle.cmd_run.specs.Keeps.{IsChange, IsKeptSo, named};
-ghost use Rattle.cmd_run.specs.Noting.{ended};
 
 use crate::{Ending, Server};
 use grid_deed::commit;
@@ -49,46 +48,6 @@ impl Server {
             Err(error) => Err(ending_of(error)),
         }
     }
-
-    /// Keeps that the command of this number is done, whose deed came to nothing, in one commit: none is pending any longer.
-    pub(crate) fn end_deed<D: Disk, A: Ambient, P: Plugin>(
-        &mut self,
-        alloc: Global,
-        outside: &mut Outside<D, A, P>,
-        number: u64,
-    ) -> Result<(), Ending>
-        requires held { IsHeld self.old.store.cat (D.disk outside.old.main) self.old.store }
-        requires pending { IsTrue (is_some self.old.store.cat.pending) }
-        requires ready { IsReady D.disk P.plugin 4 outside.old }
-        ensures kept { IsKeptSo self.old.store.cat (ended number self.old.store.cat) outside.old.moments
-            (D.disk outside.old.main) (D.disk outside.new.main) result self.new }
-        ensures whole { KeepWhole P.plugin outside.old.moments self.old.store.cat
-            (D.disk outside.old.main) (D.disk outside.new.main) outside.old.stores.items outside.new.stores.items }
-        ensures frame { Frame D.disk P.plugin (IsErrOf result Ending.Disk) outside.old outside.new }
-        ensures sessions { self.new.sessions ≡ self.old.sessions }
-        ensures stores { outside.new.stores ≡ outside.old.stores }
-        ensures drawn { outside.new.moments ≤ outside.old.moments + 4 }
-    {
-        let numbers = Numbers {
-            last: number,
-            ..self.store.tables().numbers()
-        };
-        let Ok(deltas) = ending_deltas(alloc, numbers) else {
-            return Err(Ending::Memory);
-        };
-        match commit(alloc, &mut self.store, outside, deltas) {
-            Ok(()) => Ok(()),
-            Err(error) => Err(ending_of(error)),
-        }
-    }
-}
-
-// The changes by which no command is pending any longer, with these numbers. Fails for want of memory alone.
-fn ending_deltas(alloc: Global, numbers: Numbers) -> Result<Deltas, AllocError>
-    ensures is { IfOk result (λ list. list ≡ Delta.NoPending ∷ Delta.Numbers numbers ∷ []) }
-    ensures spelled { IfOk result (λ list. IsTrue (list_all can_be_kept list)) }
-{
-    Ok(Deltas::from_vec(vec![in alloc; Delta::NoPending, Delta::Numbers(numbers)]?))
 }
 
 // The changes, and behind them these numbers. Fails for want of memory alone.

@@ -12,8 +12,6 @@ ghost use Rattle.run_laws.specs.Passes.{AreReady, CallsPass};
 ghost use Rattle.cmd_run.specs.Sweeping.{SweepLeavesFew};
 
 use crate::answers::well;
-use crate::tagging::TagLine;
-use crate::working::PutLine;
 use crate::{Ending, Server};
 use grid_model::{Bytes, End, Refusal, Request, Text, Verb};
 use grid_outside::{Ambient, Disk, Outside, Plugin, Sink, Wear};
@@ -86,61 +84,7 @@ impl Server {
             Verb::Login { user } => self.login(alloc, outside, sink, number, session, &user),
             Verb::Logout => self.logout(alloc, outside, sink, number, session),
             Verb::Quit => self.say(alloc, outside, sink, number, well(alloc)),
-            Verb::Put {
-                path,
-                resource,
-                mode,
-                count,
-            } => {
-                let putting = PutLine {
-                    path,
-                    resource,
-                    mode,
-                    count,
-                    body,
-                    line,
-                };
-                self.put_line(alloc, outside, sink, number, session, putting)
-            }
-            Verb::Repl { path, resource } => {
-                self.repl(
-                    alloc, outside, sink, number, session, &path, &resource, &line,
-                )
-            }
-            Verb::ChkSum { path } => { self.chksum(alloc, outside, sink, number, session, &path) }
             Verb::Sweep => self.sweep(alloc, outside, sink, number, session),
-            Verb::AddMeta {
-                item,
-                name,
-                attribute,
-                value,
-                unit,
-            } => {
-                let line = TagLine {
-                    item,
-                    name,
-                    attribute,
-                    value,
-                    unit,
-                };
-                self.tag(alloc, outside, sink, number, session, true, &line)
-            }
-            Verb::RmMeta {
-                item,
-                name,
-                attribute,
-                value,
-                unit,
-            } => {
-                let line = TagLine {
-                    item,
-                    name,
-                    attribute,
-                    value,
-                    unit,
-                };
-                self.tag(alloc, outside, sink, number, session, false, &line)
-            }
             Verb::LsMeta { item, name } => {
                 self.show_tags(alloc, outside, sink, number, session, item, &name)
             }
@@ -148,17 +92,13 @@ impl Server {
             Verb::Exec { text } => self.exec(alloc, outside, sink, number, session, &text, line),
             Verb::Ls { path } => self.list(alloc, outside, sink, number, session, &path),
             Verb::Get { path, resource } => {
-                self.get_for(
-                    alloc,
-                    outside,
-                    sink,
-                    number,
-                    session,
-                    &path,
-                    resource.as_ref(),
-                )
+                let asked = resource.as_ref();
+                self.get_for(alloc, outside, sink, number, session, &path, asked)
             }
-            other => self.works(alloc, outside, sink, number, session, &other),
+            other => {
+                let body = body.as_slice();
+                self.work(alloc, outside, sink, number, session, &other, body, line)
+            }
         }
     }
 }

@@ -1,9 +1,7 @@
-use Rattle.std.proofs.Common.{◌≡◌, inl, inr, ℕ, true, false, Ok, refl, sym, ap, subst, ◌∙◌, arith}
-use Rattle.std.specs.Prelude.{nat_le}
+use Rattle.std.proofs.Common.{◌≡◌, inr, ℕ, Ok, refl, sym, ap, subst, ◌∙◌, arith}
 use Rattle.grid_outside.specs.declared.outside.Wear.TheVariants.{Vaults}
-use Rattle.grid_model.specs.Limits.{object_size}
 use Rattle.grid_model.specs.Orders.{Order, executes, lists, logs_in, logs_out, works}
-use Rattle.grid_model.specs.Operations.Table.{put, get, repl, chksum}
+use Rattle.grid_model.specs.Operations.Table.{get}
 use Rattle.grid_model.specs.Names.{Text, Path}
 use Rattle.grid_model.specs.Refusing.{Or}
 use Rattle.grid_model.specs.RuleText.{CallText}
@@ -14,8 +12,8 @@ use Rattle.grid_model.specs.declared.grid.ItemKind.{ItemKind}
 use Rattle.grid_model.specs.declared.requests.Verb.{Verb}
 use Rattle.grid_model.specs.declared.requests.Verb.TheVariants as verb
 use Rattle.run_laws.specs.Steps.{CallsNoRules, RemovesNoFile}
-use Rattle.cmd_run.specs.declared.tagging.TagLine.{TagLine}
-use Rattle.cmd_run.specs.Asking.{AsksForRequest, FitsTag, HasGoodWords, IsForm, IsLineOf, NamesSome, QueryOf, ShowOf, TagOf}
+use Rattle.row_run.specs.Verbs.{HasGoodWords, NamesSome}
+use Rattle.cmd_run.specs.Asking.{AsksForRequest, AsksForVerb, IsForm, IsLineOf, QueryOf, ShowOf}
 use Rattle.cmd_run.specs.Calls.{CallOf}
 use Rattle.cmd_run.specs.Fits.{state_of}
 use Rattle.cmd_run.specs.Obeys.{NamesItsCall, SaysOnly}
@@ -23,14 +21,11 @@ use Rattle.run_laws.specs.Around.{around}
 use Rattle.cmd_run.proofs.SweptFew.{few_other, few_refused, not_sweep}
 use Rattle.cmd_run.proofs.Remembering.{call_none, call_of, names_none, no_source, remembers_none}
 use Rattle.cmd_run.proofs.LoginLemmas.{says_refused, says_quit}
-use Rattle.cmd_run.proofs.WorkingLemmas.{verb_asks, asks_other}
+use Rattle.cmd_run.proofs.WorkingLemmas.{verb_asks}
+use Rattle.cmd_run.proofs.Works.{is_no_other}
 use borrow.Enum.Total.{values_d}
 use Rattle.grid_model.specs.contracts.requests.Verb as TheVerb
 use Rattle.cmd_run.proofs.server.Server.command.Goals as goal
-
--- the line that the fields of a verb of metadata are
-abbrev line_of : ItemKind → ItemKind × (Text × (Text × (Text × (Text × Unit {0})))) → TagLine
-line_of k f = record { item = k; name = f.1.0; attribute = f.1.1.0; value = f.1.1.1.0; unit = f.1.1.1.1.0 }
 
 pub returns-in-Err-clause-obeys : goal.returns-in-Err-clause-obeys
 returns-in-Err-clause-obeys g c = λ source request asks.
@@ -58,22 +53,11 @@ returns-in-Quit-clause-obeys g c = λ source request asks.
     let E : _ → Type 0 = λ e. SaysOnly (state_of s) request e (state_of s) in
     c.say-in-Quit.ensures.obeys source request s refl (subst E (sym c.well.ensures.is) (subst Q (sym (its.1 ∙ ap (λ (o : Order). Ok (c.in-Ok.request.session, o)) its.2.1)) (says_quit s c.in-Ok.request.session)))
 
-pub returns-in-Put-clause-obeys : goal.returns-in-Put-clause-obeys
-returns-in-Put-clause-obeys g c = λ source request asks.
-    let p = c.in-Put in
-    let its = verb_asks (state_of c.args.self.now) c.args.asked c.args.body request c.in-Ok.request (verb.Put p.path p.resource p.mode p.count) c.in-Ok.is p.is asks in
-    c.put_line.ensures.obeys source request (
-      its.2.0,
-      its.1 ∙ ap (λ (o : Order). Ok (c.in-Ok.request.session, o)) its.2.1
-          ∙ (λ i. Ok (c.in-Ok.request.session, works (put (sym p.path-is i) (sym p.resource-is i) (sym p.mode-is i) its.2.0) (sym p.count-is i))),
-      λ small. its.2.2 (subst (λ n. nat_le n object_size ≡ true) p.count-is small),
-    )
-
 pub returns-in-Get-clause-obeys : goal.returns-in-Get-clause-obeys
 returns-in-Get-clause-obeys g c = λ source request asks.
     let p = c.in-Get in
     let its = verb_asks (state_of c.args.self.now) c.args.asked c.args.body request c.in-Ok.request (verb.Get p.path p.resource) c.in-Ok.is p.is asks in
-    let resource_is = sym (c.as_ref.ensures.value ∙ p.resource-is) in
+    let resource_is = sym (c.as_ref-asked.ensures.value ∙ p.resource-is) in
     c.get_for.ensures.obeys source request (
     its.1 ∙ ap (λ (o : Order). Ok (c.in-Ok.request.session, o)) its.2.1
     ∙ (λ i. Ok (c.in-Ok.request.session, works (get (sym p.path-is i) (resource_is i)) 0))
@@ -106,22 +90,11 @@ returns-in-Logout-clause-idle g c = λ request asks calls refused. (c.logout.ens
 pub returns-in-Quit-clause-idle : goal.returns-in-Quit-clause-idle
 returns-in-Quit-clause-idle g c = λ request asks calls refused. (c.say-in-Quit.ensures.rows, c.say-in-Quit.ensures.stores)
 
-pub returns-in-Put-clause-idle : goal.returns-in-Put-clause-idle
-returns-in-Put-clause-idle g c = λ request asks calls.
-    let p = c.in-Put in
-    let its = verb_asks (state_of c.args.self.now) c.args.asked c.args.body request c.in-Ok.request (verb.Put p.path p.resource p.mode p.count) c.in-Ok.is p.is asks in
-    c.put_line.ensures.idle request (
-      its.2.0,
-      its.1 ∙ ap (λ (o : Order). Ok (c.in-Ok.request.session, o)) its.2.1
-          ∙ (λ i. Ok (c.in-Ok.request.session, works (put (sym p.path-is i) (sym p.resource-is i) (sym p.mode-is i) its.2.0) (sym p.count-is i))),
-      λ small. its.2.2 (subst (λ n. nat_le n object_size ≡ true) p.count-is small),
-    )
-
 pub returns-in-Get-clause-idle : goal.returns-in-Get-clause-idle
 returns-in-Get-clause-idle g c = λ request asks calls.
     let p = c.in-Get in
     let its = verb_asks (state_of c.args.self.now) c.args.asked c.args.body request c.in-Ok.request (verb.Get p.path p.resource) c.in-Ok.is p.is asks in
-    let resource_is = sym (c.as_ref.ensures.value ∙ p.resource-is) in
+    let resource_is = sym (c.as_ref-asked.ensures.value ∙ p.resource-is) in
     c.get_for.ensures.idle request (
     its.1 ∙ ap (λ (o : Order). Ok (c.in-Ok.request.session, o)) its.2.1
     ∙ (λ i. Ok (c.in-Ok.request.session, works (get (sym p.path-is i) (resource_is i)) 0))
@@ -166,14 +139,6 @@ pub returns-in-Quit-clause-remembers : goal.returns-in-Quit-clause-remembers
 returns-in-Quit-clause-remembers g c = λ request asks no_sweep.
     remembers_none c.args.line c.args.self.now.store.cat c.args.outside.now.moments (g.D.Disk.disk c.args.outside.now.main) (g.D.Disk.disk c.say-in-Quit.new.outside.main) c.say-in-Quit.ensures.remembers
 
-pub returns-in-Put-clause-call : goal.returns-in-Put-clause-call
-returns-in-Put-clause-call g c = λ l its.
-    subst (λ (x : Text). NamesItsCall x c.args.outside.now.moments (g.D.Disk.disk c.args.outside.now.main) (g.D.Disk.disk c.put_line.new.outside.main)) (subst (λ a. IsLineOf a c.args.line l) c.in-Ok.is its)
-    (call_of c.args.line c.args.self.now.store.cat c.args.outside.now.moments (g.D.Disk.disk c.args.outside.now.main) (g.D.Disk.disk c.put_line.new.outside.main) c.put_line.ensures.remembers)
-
-pub returns-in-Put-clause-remembers : goal.returns-in-Put-clause-remembers
-returns-in-Put-clause-remembers g c = λ request asks no_sweep. c.put_line.ensures.remembers
-
 pub returns-in-Ls-clause-call : goal.returns-in-Ls-clause-call
 returns-in-Ls-clause-call g c = λ l its. call_none l c.args.self.now.store.cat c.args.outside.now.moments (g.D.Disk.disk c.args.outside.now.main) (g.D.Disk.disk c.list.new.outside.main) c.list.ensures.remembers
 
@@ -206,142 +171,17 @@ returns-in-Sweep-clause-idle g c = λ request asks calls.
 pub returns-in-Sweep-clause-dry : goal.returns-in-Sweep-clause-dry
 returns-in-Sweep-clause-dry g c place is = absurd ((c.sweep.ensures.worn no_source (Ok (0, logs_out)) Vaults place is).2)
 
-pub returns-in-Repl-clause-obeys : goal.returns-in-Repl-clause-obeys
-returns-in-Repl-clause-obeys g c = λ source request asks.
-    let p = c.in-Repl in
-    let its = verb_asks (state_of c.args.self.now) c.args.asked c.args.body request c.in-Ok.request (verb.Repl p.path p.resource) c.in-Ok.is p.is asks in
-    c.repl.ensures.obeys source request (
-    its.1 ∙ ap (λ (o : Order). Ok (c.in-Ok.request.session, o)) its.2.1
-    ∙ (λ i. Ok (c.in-Ok.request.session, works (repl (sym p.path-is i) (sym p.resource-is i)) 0))
-    )
-
-pub returns-in-Repl-clause-worn : goal.returns-in-Repl-clause-worn
-returns-in-Repl-clause-worn g c = λ source request asks.
-    let p = c.in-Repl in
-    let its = verb_asks (state_of c.args.self.now) c.args.asked c.args.body request c.in-Ok.request (verb.Repl p.path p.resource) c.in-Ok.is p.is asks in
-    c.repl.ensures.worn source request (
-    its.1 ∙ ap (λ (o : Order). Ok (c.in-Ok.request.session, o)) its.2.1
-    ∙ (λ i. Ok (c.in-Ok.request.session, works (repl (sym p.path-is i) (sym p.resource-is i)) 0))
-    )
-
-pub returns-in-Repl-clause-idle : goal.returns-in-Repl-clause-idle
-returns-in-Repl-clause-idle g c = λ request asks calls.
-    let p = c.in-Repl in
-    let its = verb_asks (state_of c.args.self.now) c.args.asked c.args.body request c.in-Ok.request (verb.Repl p.path p.resource) c.in-Ok.is p.is asks in
-    c.repl.ensures.idle request (
-    its.1 ∙ ap (λ (o : Order). Ok (c.in-Ok.request.session, o)) its.2.1
-    ∙ (λ i. Ok (c.in-Ok.request.session, works (repl (sym p.path-is i) (sym p.resource-is i)) 0))
-    )
-
-pub returns-in-Repl-clause-call : goal.returns-in-Repl-clause-call
-returns-in-Repl-clause-call g c = λ l its.
-    subst (λ (x : Text). NamesItsCall x c.args.outside.now.moments (g.D.Disk.disk c.args.outside.now.main) (g.D.Disk.disk c.repl.new.outside.main)) (subst (λ a. IsLineOf a c.args.line l) c.in-Ok.is its)
-    (call_of c.args.line c.args.self.now.store.cat c.args.outside.now.moments (g.D.Disk.disk c.args.outside.now.main) (g.D.Disk.disk c.repl.new.outside.main) c.repl.ensures.remembers)
-
-pub returns-in-Repl-clause-remembers : goal.returns-in-Repl-clause-remembers
-returns-in-Repl-clause-remembers g c = λ request asks no_sweep. c.repl.ensures.remembers
-
-pub returns-in-ChkSum-clause-obeys : goal.returns-in-ChkSum-clause-obeys
-returns-in-ChkSum-clause-obeys g c = λ source request asks.
-    let p = c.in-ChkSum in
-    let its = verb_asks (state_of c.args.self.now) c.args.asked c.args.body request c.in-Ok.request (verb.ChkSum p.path) c.in-Ok.is p.is asks in
-    c.chksum.ensures.obeys source request (
-    its.1 ∙ ap (λ (o : Order). Ok (c.in-Ok.request.session, o)) its.2.1 ∙ (λ i. Ok (c.in-Ok.request.session, works (chksum (sym p.path-is i)) 0))
-    )
-
-pub returns-in-ChkSum-clause-idle : goal.returns-in-ChkSum-clause-idle
-returns-in-ChkSum-clause-idle g c = λ request asks calls.
-    let p = c.in-ChkSum in
-    let its = verb_asks (state_of c.args.self.now) c.args.asked c.args.body request c.in-Ok.request (verb.ChkSum p.path) c.in-Ok.is p.is asks in
-    c.chksum.ensures.idle request (
-    its.1 ∙ ap (λ (o : Order). Ok (c.in-Ok.request.session, o)) its.2.1 ∙ (λ i. Ok (c.in-Ok.request.session, works (chksum (sym p.path-is i)) 0))
-    )
-
-pub returns-in-ChkSum-clause-call : goal.returns-in-ChkSum-clause-call
-returns-in-ChkSum-clause-call g c = λ l its. call_none l c.args.self.now.store.cat c.args.outside.now.moments (g.D.Disk.disk c.args.outside.now.main) (g.D.Disk.disk c.chksum.new.outside.main) c.chksum.ensures.remembers
-
-pub returns-in-ChkSum-clause-remembers : goal.returns-in-ChkSum-clause-remembers
-returns-in-ChkSum-clause-remembers g c = λ request asks no_sweep.
-    remembers_none c.args.line c.args.self.now.store.cat c.args.outside.now.moments (g.D.Disk.disk c.args.outside.now.main) (g.D.Disk.disk c.chksum.new.outside.main) c.chksum.ensures.remembers
-
-pub returns-in-ChkSum-clause-dry : goal.returns-in-ChkSum-clause-dry
-returns-in-ChkSum-clause-dry g c place is = absurd ((c.chksum.ensures.worn no_source (Ok (0, logs_out)) Vaults place is).2)
-
-pub tag-requires-clause-line : goal.tag-requires-clause-line
-tag-requires-clause-line g c =
-    let p = c.in-AddMeta in
-    let W : ItemKind → Verb → Type 0 = λ k v. FitsTag true (line_of k (values_d TheVerb.enum 31 p.name-1-own.given.0 v)) in
-    subst (λ k. W k c.in-Ok.request.verb) (sym p.item-is) (subst (W p.item) (sym p.is) (subst HasGoodWords p.is (subst IsForm c.in-Ok.is c.requires.form).1))
-
-pub returns-in-AddMeta-clause-obeys : goal.returns-in-AddMeta-clause-obeys
-returns-in-AddMeta-clause-obeys g c = λ source request asks.
-    let p = c.in-AddMeta in
-    let its = verb_asks (state_of c.args.self.now) c.args.asked c.args.body request c.in-Ok.request (verb.AddMeta p.item p.name p.attribute p.value p.unit) c.in-Ok.is p.is asks in
-    let W : ItemKind → Verb → Type 0 = λ k v. TagOf c.in-Ok.request.session true (line_of k (values_d TheVerb.enum 31 p.name-1-own.given.0 v)) request in
-    c.tag.ensures.obeys source request
-    (subst (λ k. W k c.in-Ok.request.verb) (sym p.item-is) (subst (W p.item) (sym p.is) (its.2.1.0, its.2.1.1, its.1 ∙ ap (λ (o : Order). Ok (c.in-Ok.request.session, o)) its.2.1.2)))
-
-pub returns-in-AddMeta-clause-idle : goal.returns-in-AddMeta-clause-idle
-returns-in-AddMeta-clause-idle g c = λ request asks calls.
-    let p = c.in-AddMeta in
-    let its = verb_asks (state_of c.args.self.now) c.args.asked c.args.body request c.in-Ok.request (verb.AddMeta p.item p.name p.attribute p.value p.unit) c.in-Ok.is p.is asks in
-    let W : ItemKind → Verb → Type 0 = λ k v. TagOf c.in-Ok.request.session true (line_of k (values_d TheVerb.enum 31 p.name-1-own.given.0 v)) request in
-    c.tag.ensures.idle request
-    (subst (λ k. W k c.in-Ok.request.verb) (sym p.item-is) (subst (W p.item) (sym p.is) (its.2.1.0, its.2.1.1, its.1 ∙ ap (λ (o : Order). Ok (c.in-Ok.request.session, o)) its.2.1.2)))
-
-pub returns-in-AddMeta-clause-call : goal.returns-in-AddMeta-clause-call
-returns-in-AddMeta-clause-call g c = λ l its. call_none l c.args.self.now.store.cat c.args.outside.now.moments (g.D.Disk.disk c.args.outside.now.main) (g.D.Disk.disk c.tag.new.outside.main) c.tag.ensures.remembers
-
-pub returns-in-AddMeta-clause-remembers : goal.returns-in-AddMeta-clause-remembers
-returns-in-AddMeta-clause-remembers g c = λ request asks no_sweep.
-    remembers_none c.args.line c.args.self.now.store.cat c.args.outside.now.moments (g.D.Disk.disk c.args.outside.now.main) (g.D.Disk.disk c.tag.new.outside.main) c.tag.ensures.remembers
-
-pub returns-in-AddMeta-clause-dry : goal.returns-in-AddMeta-clause-dry
-returns-in-AddMeta-clause-dry g c place is = absurd ((c.tag.ensures.worn no_source (Ok (0, logs_out)) Vaults place is).2)
-
-pub tag-requires-in-RmMeta-clause-line : goal.tag-requires-in-RmMeta-clause-line
-tag-requires-in-RmMeta-clause-line g c =
-    let p = c.in-RmMeta in
-    let W : ItemKind → Verb → Type 0 = λ k v. FitsTag false (line_of k (values_d TheVerb.enum 32 p.name-in-RmMeta-1-own.given.0 v)) in
-    subst (λ k. W k c.in-Ok.request.verb) (sym p.item-is) (subst (W p.item) (sym p.is) (subst HasGoodWords p.is (subst IsForm c.in-Ok.is c.requires.form).1))
-
-pub returns-in-RmMeta-clause-obeys : goal.returns-in-RmMeta-clause-obeys
-returns-in-RmMeta-clause-obeys g c = λ source request asks.
-    let p = c.in-RmMeta in
-    let its = verb_asks (state_of c.args.self.now) c.args.asked c.args.body request c.in-Ok.request (verb.RmMeta p.item p.name p.attribute p.value p.unit) c.in-Ok.is p.is asks in
-    let W : ItemKind → Verb → Type 0 = λ k v. TagOf c.in-Ok.request.session false (line_of k (values_d TheVerb.enum 32 p.name-in-RmMeta-1-own.given.0 v)) request in
-    c.tag-in-RmMeta.ensures.obeys source request
-    (subst (λ k. W k c.in-Ok.request.verb) (sym p.item-is) (subst (W p.item) (sym p.is) (its.2.1.0, its.2.1.1, its.1 ∙ ap (λ (o : Order). Ok (c.in-Ok.request.session, o)) its.2.1.2)))
-
-pub returns-in-RmMeta-clause-idle : goal.returns-in-RmMeta-clause-idle
-returns-in-RmMeta-clause-idle g c = λ request asks calls.
-    let p = c.in-RmMeta in
-    let its = verb_asks (state_of c.args.self.now) c.args.asked c.args.body request c.in-Ok.request (verb.RmMeta p.item p.name p.attribute p.value p.unit) c.in-Ok.is p.is asks in
-    let W : ItemKind → Verb → Type 0 = λ k v. TagOf c.in-Ok.request.session false (line_of k (values_d TheVerb.enum 32 p.name-in-RmMeta-1-own.given.0 v)) request in
-    c.tag-in-RmMeta.ensures.idle request
-    (subst (λ k. W k c.in-Ok.request.verb) (sym p.item-is) (subst (W p.item) (sym p.is) (its.2.1.0, its.2.1.1, its.1 ∙ ap (λ (o : Order). Ok (c.in-Ok.request.session, o)) its.2.1.2)))
-
-pub returns-in-RmMeta-clause-call : goal.returns-in-RmMeta-clause-call
-returns-in-RmMeta-clause-call g c = λ l its. call_none l c.args.self.now.store.cat c.args.outside.now.moments (g.D.Disk.disk c.args.outside.now.main) (g.D.Disk.disk c.tag-in-RmMeta.new.outside.main) c.tag-in-RmMeta.ensures.remembers
-
-pub returns-in-RmMeta-clause-remembers : goal.returns-in-RmMeta-clause-remembers
-returns-in-RmMeta-clause-remembers g c = λ request asks no_sweep.
-    remembers_none c.args.line c.args.self.now.store.cat c.args.outside.now.moments (g.D.Disk.disk c.args.outside.now.main) (g.D.Disk.disk c.tag-in-RmMeta.new.outside.main) c.tag-in-RmMeta.ensures.remembers
-
-pub returns-in-RmMeta-clause-dry : goal.returns-in-RmMeta-clause-dry
-returns-in-RmMeta-clause-dry g c place is = absurd ((c.tag-in-RmMeta.ensures.worn no_source (Ok (0, logs_out)) Vaults place is).2)
-
 pub show_tags-requires-clause-thing : goal.show_tags-requires-clause-thing
 show_tags-requires-clause-thing g c =
     let p = c.in-LsMeta in
-    let W : ItemKind → Verb → Type 0 = λ k v. NamesSome k (values_d TheVerb.enum 33 p.name-in-LsMeta-1-own.given.0 v).1.0 in
+    let W : ItemKind → Verb → Type 0 = λ k v. NamesSome k (values_d TheVerb.enum 33 p.name-1-own.given.0 v).1.0 in
     subst (λ k. W k c.in-Ok.request.verb) (sym p.item-is) (subst (W p.item) (sym p.is) (subst HasGoodWords p.is (subst IsForm c.in-Ok.is c.requires.form).1))
 
 pub returns-in-LsMeta-clause-obeys : goal.returns-in-LsMeta-clause-obeys
 returns-in-LsMeta-clause-obeys g c = λ source request asks.
     let p = c.in-LsMeta in
     let its = verb_asks (state_of c.args.self.now) c.args.asked c.args.body request c.in-Ok.request (verb.LsMeta p.item p.name) c.in-Ok.is p.is asks in
-    let W : ItemKind → Verb → Type 0 = λ k v. ShowOf c.in-Ok.request.session k (values_d TheVerb.enum 33 p.name-in-LsMeta-1-own.given.0 v).1.0 request in
+    let W : ItemKind → Verb → Type 0 = λ k v. ShowOf c.in-Ok.request.session k (values_d TheVerb.enum 33 p.name-1-own.given.0 v).1.0 request in
     c.show_tags.ensures.obeys source request
     (subst (λ k. W k c.in-Ok.request.verb) (sym p.item-is) (subst (W p.item) (sym p.is) (its.2.1.0, its.2.1.1, its.1 ∙ ap (λ (o : Order). Ok (c.in-Ok.request.session, o)) its.2.1.2)))
 
@@ -377,12 +217,6 @@ returns-in-Query-clause-remembers g c = λ request asks no_sweep.
 
 pub returns-in-Query-clause-dry : goal.returns-in-Query-clause-dry
 returns-in-Query-clause-dry g c place is = absurd ((c.query.ensures.worn no_source (Ok (0, logs_out)) Vaults place is).2)
-
-pub returns-in-Put-clause-dry : goal.returns-in-Put-clause-dry
-returns-in-Put-clause-dry g c place is = inl (c.put_line.ensures.untouched place is)
-
-pub returns-in-Repl-clause-dry : goal.returns-in-Repl-clause-dry
-returns-in-Repl-clause-dry g c place is = inl (c.repl.ensures.untouched place is)
 
 -- what a request asks for by the words of a call
 call_asked : (session : ℕ) (text other : Text) (request : Request) → text ≡ other → CallOf session text request → CallOf session other request
@@ -431,26 +265,37 @@ returns-in-Exec-clause-few g c = λ source request asks.
     (around g.D.Disk.disk g.A.Ambient.ambient g.P.Plugin.plugin c.exec.new.outside (g.K.Sink.sink c.exec.new.sink) source)
     c.args.self.now request c.exec.result c.exec.new.self c.args.asked c.args.body asks c.in-Ok.request (verb.Exec p.text) c.in-Ok.is p.is refl
 
-pub returns-in_default : goal.returns-in_default
-returns-in_default g c =
+pub work-requires-clause-other : goal.work-requires-clause-other
+work-requires-clause-other g c =
     let n = c.in_default in
-    let w = c.works.ensures in
-    let other = asks_other (state_of c.args.self.now) c.args.asked c.args.body in
+    is_no_other c.in-Ok.request.verb n.not-Login n.not-Logout n.not-Quit n.not-Sweep n.not-Ls n.not-LsMeta n.not-Query n.not-Exec n.not-Get
+
+pub work-requires-clause-words : goal.work-requires-clause-words
+work-requires-clause-words g c = (subst IsForm c.in-Ok.is c.requires.form).1
+
+pub returns : goal.returns
+returns g c =
+    let n = c.in_default in
+    let w = c.work.ensures in
+    let r = c.in-Ok.request in
+    let its = λ (request : Request) (asks : AsksForRequest (state_of c.args.self.now) c.args.asked c.args.body request).
+    let A : Text → Type 0 = λ b. AsksForVerb (state_of c.args.self.now) r.session r.verb b request in
+    subst A (sym c.as_slice-body.ensures) (verb_asks (state_of c.args.self.now) c.args.asked c.args.body request r r.verb c.in-Ok.is refl asks) in
     record {
-      obeys = λ source request asks. w.obeys source request
-          (other request c.in-Ok.request c.in-Ok.is n.not-Login n.not-Logout n.not-Quit n.not-Sweep n.not-Ls n.not-Put n.not-Get n.not-AddMeta n.not-RmMeta n.not-LsMeta n.not-Repl n.not-ChkSum n.not-Query n.not-Exec asks);
+      obeys = λ source request asks. w.obeys source request (its request asks);
       few = λ source request asks. few_other (around g.D.Disk.disk g.A.Ambient.ambient g.P.Plugin.plugin c.args.outside.now (g.K.Sink.sink c.args.sink.now) source)
-          (around g.D.Disk.disk g.A.Ambient.ambient g.P.Plugin.plugin c.works.new.outside (g.K.Sink.sink c.works.new.sink) source)
-          c.args.self.now request c.works.result c.works.new.self c.args.asked c.args.body asks c.in-Ok.request c.in-Ok.request.verb c.in-Ok.is refl (not_sweep c.in-Ok.request.verb n.not-Sweep);
-      worn = λ source request asks. w.worn source request;
-      call = λ l its. call_none l c.args.self.now.store.cat c.args.outside.now.moments (g.D.Disk.disk c.args.outside.now.main) (g.D.Disk.disk c.works.new.outside.main) w.remembers;
-      remembers = λ request asks no_sweep. remembers_none c.args.line c.args.self.now.store.cat c.args.outside.now.moments (g.D.Disk.disk c.args.outside.now.main) (g.D.Disk.disk c.works.new.outside.main) w.remembers;
+          (around g.D.Disk.disk g.A.Ambient.ambient g.P.Plugin.plugin c.work.new.outside (g.K.Sink.sink c.work.new.sink) source)
+          c.args.self.now request c.work.result c.work.new.self c.args.asked c.args.body asks r r.verb c.in-Ok.is refl (not_sweep r.verb n.not-Sweep);
+      worn = λ source request asks. w.worn source request (its request asks);
+      call = λ l its.
+          subst (λ (x : Text). NamesItsCall x c.args.outside.now.moments (g.D.Disk.disk c.args.outside.now.main) (g.D.Disk.disk c.work.new.outside.main)) (subst (λ a. IsLineOf a c.args.line l) c.in-Ok.is its)
+          (call_of c.args.line c.args.self.now.store.cat c.args.outside.now.moments (g.D.Disk.disk c.args.outside.now.main) (g.D.Disk.disk c.work.new.outside.main) w.remembers);
+      remembers = λ request asks no_sweep. w.remembers;
       whole = w.whole;
       passes = w.passes;
-      idle = λ request asks calls. w.idle request
-          (other request c.in-Ok.request c.in-Ok.is n.not-Login n.not-Logout n.not-Quit n.not-Sweep n.not-Ls n.not-Put n.not-Get n.not-AddMeta n.not-RmMeta n.not-LsMeta n.not-Repl n.not-ChkSum n.not-Query n.not-Exec asks);
-      dry = λ place is. absurd ((w.worn no_source (Ok (0, logs_out)) Vaults place is).2);
-      drawn = omega (arith, w.drawn);
+      dry = λ place is. inr (λ source request asks. w.dry place is source request (its request asks));
+      idle = λ request asks calls. w.idle request (its request asks);
+      drawn = w.drawn;
     }
 
 pub returns-in-Sweep-clause-call : goal.returns-in-Sweep-clause-call
@@ -482,41 +327,6 @@ returns-in-Quit-clause-few g c = λ source request asks.
     few_other (around g.D.Disk.disk g.A.Ambient.ambient g.P.Plugin.plugin c.args.outside.now (g.K.Sink.sink c.args.sink.now) source)
     (around g.D.Disk.disk g.A.Ambient.ambient g.P.Plugin.plugin c.say-in-Quit.new.outside (g.K.Sink.sink c.say-in-Quit.new.sink) source)
     c.args.self.now request c.say-in-Quit.result c.args.self.now c.args.asked c.args.body asks c.in-Ok.request (verb.Quit) c.in-Ok.is p.is refl
-
-pub returns-in-Put-clause-few : goal.returns-in-Put-clause-few
-returns-in-Put-clause-few g c = λ source request asks.
-    let p = c.in-Put in
-    few_other (around g.D.Disk.disk g.A.Ambient.ambient g.P.Plugin.plugin c.args.outside.now (g.K.Sink.sink c.args.sink.now) source)
-    (around g.D.Disk.disk g.A.Ambient.ambient g.P.Plugin.plugin c.put_line.new.outside (g.K.Sink.sink c.put_line.new.sink) source)
-    c.args.self.now request c.put_line.result c.put_line.new.self c.args.asked c.args.body asks c.in-Ok.request (verb.Put p.path p.resource p.mode p.count) c.in-Ok.is p.is refl
-
-pub returns-in-Repl-clause-few : goal.returns-in-Repl-clause-few
-returns-in-Repl-clause-few g c = λ source request asks.
-    let p = c.in-Repl in
-    few_other (around g.D.Disk.disk g.A.Ambient.ambient g.P.Plugin.plugin c.args.outside.now (g.K.Sink.sink c.args.sink.now) source)
-    (around g.D.Disk.disk g.A.Ambient.ambient g.P.Plugin.plugin c.repl.new.outside (g.K.Sink.sink c.repl.new.sink) source)
-    c.args.self.now request c.repl.result c.repl.new.self c.args.asked c.args.body asks c.in-Ok.request (verb.Repl p.path p.resource) c.in-Ok.is p.is refl
-
-pub returns-in-ChkSum-clause-few : goal.returns-in-ChkSum-clause-few
-returns-in-ChkSum-clause-few g c = λ source request asks.
-    let p = c.in-ChkSum in
-    few_other (around g.D.Disk.disk g.A.Ambient.ambient g.P.Plugin.plugin c.args.outside.now (g.K.Sink.sink c.args.sink.now) source)
-    (around g.D.Disk.disk g.A.Ambient.ambient g.P.Plugin.plugin c.chksum.new.outside (g.K.Sink.sink c.chksum.new.sink) source)
-    c.args.self.now request c.chksum.result c.chksum.new.self c.args.asked c.args.body asks c.in-Ok.request (verb.ChkSum p.path) c.in-Ok.is p.is refl
-
-pub returns-in-AddMeta-clause-few : goal.returns-in-AddMeta-clause-few
-returns-in-AddMeta-clause-few g c = λ source request asks.
-    let p = c.in-AddMeta in
-    few_other (around g.D.Disk.disk g.A.Ambient.ambient g.P.Plugin.plugin c.args.outside.now (g.K.Sink.sink c.args.sink.now) source)
-    (around g.D.Disk.disk g.A.Ambient.ambient g.P.Plugin.plugin c.tag.new.outside (g.K.Sink.sink c.tag.new.sink) source)
-    c.args.self.now request c.tag.result c.tag.new.self c.args.asked c.args.body asks c.in-Ok.request (verb.AddMeta p.item p.name p.attribute p.value p.unit) c.in-Ok.is p.is refl
-
-pub returns-in-RmMeta-clause-few : goal.returns-in-RmMeta-clause-few
-returns-in-RmMeta-clause-few g c = λ source request asks.
-    let p = c.in-RmMeta in
-    few_other (around g.D.Disk.disk g.A.Ambient.ambient g.P.Plugin.plugin c.args.outside.now (g.K.Sink.sink c.args.sink.now) source)
-    (around g.D.Disk.disk g.A.Ambient.ambient g.P.Plugin.plugin c.tag-in-RmMeta.new.outside (g.K.Sink.sink c.tag-in-RmMeta.new.sink) source)
-    c.args.self.now request c.tag-in-RmMeta.result c.tag-in-RmMeta.new.self c.args.asked c.args.body asks c.in-Ok.request (verb.RmMeta p.item p.name p.attribute p.value p.unit) c.in-Ok.is p.is refl
 
 pub returns-in-LsMeta-clause-few : goal.returns-in-LsMeta-clause-few
 returns-in-LsMeta-clause-few g c = λ source request asks.

@@ -1,13 +1,12 @@
-use Rattle.std.proofs.Common.{◌≡◌, ap, refl, sym, subst, ◌∙◌, Ok, Err}
+use Rattle.std.proofs.Common.{ap, refl, sym, subst, ◌∙◌, Ok, Err}
 use Rattle.grid_outside.specs.declared.outside.Wear.TheVariants.{Vaults}
 use Rattle.grid_model.specs.Orders.{executes, logs_out}
-use Rattle.grid_model.specs.Parsed.{call_of, plain_call}
 use Rattle.grid_model.specs.Refusing.{Or}
 use Rattle.grid_model.specs.RuleText.{CallText}
 use Rattle.grid_model.specs.Runs.{Request}
 use Rattle.grid_model.specs.declared.refusal.Refusal.TheVariants as refusal
 use Rattle.grid_model.specs.declared.replies.End.TheVariants as end
-use Rattle.cmd_run.specs.Calls.{CallOf, IsReadSo}
+use Rattle.cmd_run.specs.Calls.{IsReadSo}
 use Rattle.cmd_run.specs.Fits.{state_of}
 use Rattle.cmd_run.specs.Obeys.{SaysOnly}
 use Rattle.cmd_run.proofs.Called.{says_no_call}

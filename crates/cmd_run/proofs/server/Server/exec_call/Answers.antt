@@ -1,9 +1,8 @@
 use Rattle.std.proofs.Common.{◌≡◌, false, ap, refl, sym, subst, ◌∙◌, Ok, Err}
 use Rattle.grid_outside.specs.declared.outside.Wear.TheVariants.{Vaults}
-use Rattle.grid_model.specs.Grid.{Grid}
 use Rattle.grid_model.specs.Names.{Text}
 use Rattle.grid_model.specs.Obeying.{exec_scope, no_env}
-use Rattle.grid_model.specs.Orders.{executes, logs_out}
+use Rattle.grid_model.specs.Orders.{logs_out}
 use Rattle.grid_model.specs.Parsed.{call_of, plain_call}
 use Rattle.grid_model.specs.RowGrids.{grid_of, user_name}
 use Rattle.grid_model.specs.Rows.{Cat}

@@ -1,5 +1,5 @@
-use Rattle.std.proofs.Common.{◌≡◌, ap, refl, sym, subst, ◌∙◌, Ok, Err, IsTrue, List, map}
-use Rattle.std.specs.Prelude.{IsErrOf, Result, ⊤}
+use Rattle.std.proofs.Common.{ap, refl, sym, subst, ◌∙◌, Ok, Err, IsTrue, List, map}
+use Rattle.std.specs.Prelude.{IsErrOf, ⊤}
 use Rattle.grid_model.specs.Applying.{is_user}
 use Rattle.grid_model.specs.Checks.{first_fault, rules_faults}
 use Rattle.grid_model.specs.Deltas.{text as text_part}

@@ -4,7 +4,7 @@ use Rattle.run_laws.specs.Around.{around}
 use Rattle.cmd_run.specs.Keeps.{named, IsChange}
 use Rattle.cmd_run.proofs.GetEnds.{fetch_failed, keep_failed, said_then, keep_looked, keep_then}
 use Rattle.cmd_run.proofs.KeptEnds.{not_sink, worn_kept, passes_kept}
-use Rattle.cmd_run.proofs.WriteLemmas.{no_change}
+use Rattle.cmd_run.proofs.KeepLemmas.{no_change}
 use Rattle.cmd_run.proofs.Remembering.{still_remembers, later_remembers, kept_remembers, keeps_numbered}
 use Rattle.cmd_run.proofs.server.Server.get.Goals as goal
 
