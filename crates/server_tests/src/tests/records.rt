@@ -29,20 +29,21 @@ const MADE_D: &[u8] = b"\x05\0\0\0\0\0\0\0\x08\0\0\0\0\0\0\0\x07\0\0\0\0\0\0\0\x
 \x0D\x02\0\0\0\0\0\0\0\x08\0\0\0\x07\x03\
 \x13\0\0\0\0\0\0\0\x01\0\0\0\0\0\0\0\x02\0\0\0\0\0\0\0\x03";
 
-// A body that is put and sent: before its file is made that is an orphan, and the put is pending, with its line and its call; then it
-// is pending no longer, and the file is an object's. The get keeps its number.
+// A body that is put and sent: before its file is made the put is pending, with its line and its call, and that is an orphan; then the
+// file is an object's, and the put is pending no longer. The get keeps its number.
 const PUTS: &[u8] =
     b"0 login rods\n0 put /tempZone/home/rods/o d0 new 3\nabc0 get /tempZone/home/rods/o d0\n";
 
-const ORPHAN: &[u8] = b"\x13\0\0\0\0\0\0\0\x02\0\0\0\0\0\0\0\x02\0\0\0\0\0\0\0\0\
-\x11\0\0\0\0\0\0\0\x01\0\
-\x14\0\0\0\0\0\0\0\x02\0\0\0\0\0\0\0\x02\0\0\0\x01\0\0\0\0\0\0\0\x240 put /tempZone/home/rods/o d0 new 3\
+const ORPHAN: &[u8] =
+    b"\x14\0\0\0\0\0\0\0\x02\0\0\0\0\0\0\0\x02\0\0\0\x01\0\0\0\0\0\0\0\x240 put /tempZone/home/rods/o d0 new 3\
 \0\0\0\0\0\0\0\0\0\0\0\0\0\0\0\0\x01\0\0\0\0\0\0\0\x03put\0\0\0\0\0\0\0\x04\
 \0\0\0\0\0\0\0\x15/tempZone/home/rods/o\0\0\0\0\0\0\0\x02d0\0\0\0\0\0\0\0\x03new\0\0\0\0\0\0\0\x013\
-\0\0\0\0\0\0\0\0";
+\0\0\0\0\0\0\0\0\
+\x13\0\0\0\0\0\0\0\x02\0\0\0\0\0\0\0\x02\0\0\0\0\0\0\0\0\
+\x11\0\0\0\0\0\0\0\x01\0";
 
 const OBJECT: &[u8] =
-    b"\x15\x07\0\0\0\0\0\0\0\x01\0\0\0\0\0\0\0\x03\0\0\0\0\0\0\0\x01o\0\0\0\0\0\0\0\x03\
+    b"\x07\0\0\0\0\0\0\0\x01\0\0\0\0\0\0\0\x03\0\0\0\0\0\0\0\x01o\0\0\0\0\0\0\0\x03\
 \xBA\x78\x16\xBF\x8F\x01\xCF\xEA\x41\x41\x40\xDE\x5D\xAE\x22\x23\xB0\x03\x61\xA3\x96\x17\x7A\x9C\xB4\x10\xFF\x61\xF2\x00\x15\xAD\
 \0\0\0\0\0\0\x03\xE8\
 \x0D\x01\0\0\0\0\0\0\0\x01\0\0\0\x01\x03\
@@ -50,7 +51,7 @@ const OBJECT: &[u8] =
 \x09\0\0\0\0\0\0\0\x01\0\0\0\0\0\0\0\x01\x01\0\0\0\0\0\0\0\x03\
 \xBA\x78\x16\xBF\x8F\x01\xCF\xEA\x41\x41\x40\xDE\x5D\xAE\x22\x23\xB0\x03\x61\xA3\x96\x17\x7A\x9C\xB4\x10\xFF\x61\xF2\x00\x15\xAD\
 \0\0\0\0\0\0\0\x01\
-\x13\0\0\0\0\0\0\0\x02\0\0\0\0\0\0\0\x02\0\0\0\0\0\0\0\x02";
+\x15\x13\0\0\0\0\0\0\0\x02\0\0\0\0\0\0\0\x02\0\0\0\0\0\0\0\x02";
 
 const KEPT_GET: &[u8] = b"\x13\0\0\0\0\0\0\0\x02\0\0\0\0\0\0\0\x02\0\0\0\0\0\0\0\x03";
 
@@ -60,15 +61,16 @@ const KEPT_FAULT: &[u8] = b"\x15\x13\0\0\0\0\0\0\0\x02\0\0\0\0\0\0\0\x02\0\0\0\0
 // A body that is put where access is handed on.
 const PUTS_IN_L: &[u8] = b"0 login alice\n0 put /l/f d0 new 3\nabc";
 
-const ORPHAN_IN_L: &[u8] = b"\x13\0\0\0\0\0\0\0\x02\0\0\0\0\0\0\0\x02\0\0\0\0\0\0\0\0\
-\x11\0\0\0\0\0\0\0\x01\0\
-\x14\0\0\0\0\0\0\0\x02\0\0\0\0\0\0\0\x02\0\0\0\x07\0\0\0\0\0\0\0\x130 put /l/f d0 new 3\
+const ORPHAN_IN_L: &[u8] =
+    b"\x14\0\0\0\0\0\0\0\x02\0\0\0\0\0\0\0\x02\0\0\0\x07\0\0\0\0\0\0\0\x130 put /l/f d0 new 3\
 \0\0\0\0\0\0\0\0\0\0\0\0\0\0\0\0\x01\0\0\0\0\0\0\0\x03put\0\0\0\0\0\0\0\x04\
 \0\0\0\0\0\0\0\x04/l/f\0\0\0\0\0\0\0\x02d0\0\0\0\0\0\0\0\x03new\0\0\0\0\0\0\0\x013\
-\0\0\0\0\0\0\0\0";
+\0\0\0\0\0\0\0\0\
+\x13\0\0\0\0\0\0\0\x02\0\0\0\0\0\0\0\x02\0\0\0\0\0\0\0\0\
+\x11\0\0\0\0\0\0\0\x01\0";
 
 const OBJECT_IN_L: &[u8] =
-    b"\x15\x07\0\0\0\0\0\0\0\x01\0\0\0\0\0\0\0\x06\0\0\0\0\0\0\0\x01f\0\0\0\0\0\0\0\x03\
+    b"\x07\0\0\0\0\0\0\0\x01\0\0\0\0\0\0\0\x06\0\0\0\0\0\0\0\x01f\0\0\0\0\0\0\0\x03\
 \xBA\x78\x16\xBF\x8F\x01\xCF\xEA\x41\x41\x40\xDE\x5D\xAE\x22\x23\xB0\x03\x61\xA3\x96\x17\x7A\x9C\xB4\x10\xFF\x61\xF2\x00\x15\xAD\
 \0\0\0\0\0\0\x03\xE8\
 \x0D\x01\0\0\0\0\0\0\0\x01\0\0\0\x02\x01\
@@ -78,7 +80,7 @@ const OBJECT_IN_L: &[u8] =
 \x09\0\0\0\0\0\0\0\x01\0\0\0\0\0\0\0\x01\x01\0\0\0\0\0\0\0\x03\
 \xBA\x78\x16\xBF\x8F\x01\xCF\xEA\x41\x41\x40\xDE\x5D\xAE\x22\x23\xB0\x03\x61\xA3\x96\x17\x7A\x9C\xB4\x10\xFF\x61\xF2\x00\x15\xAD\
 \0\0\0\0\0\0\0\x01\
-\x13\0\0\0\0\0\0\0\x02\0\0\0\0\0\0\0\x02\0\0\0\0\0\0\0\x02";
+\x15\x13\0\0\0\0\0\0\0\x02\0\0\0\0\0\0\0\x02\0\0\0\0\0\0\0\x02";
 
 // Serves the input over this grid and a store of which the call of this number fails. The run adds these records.
 fn adds(
