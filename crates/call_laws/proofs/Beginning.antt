@@ -20,13 +20,19 @@ use Rattle.grid_deed.proofs.Wholes.{one_cat, whole_of}
 use Rattle.run_laws.specs.Passes.{AreReady, Seen}
 use Rattle.run_laws.proofs.Draws.{gave-none}
 use Rattle.service_run.specs.Commands.{KeepsBeside}
+use Rattle.service_run.specs.Steps.{lines_of}
 use Rattle.service_run.proofs.StillSteps.{beside_same}
 use Rattle.call_laws.specs.Amid.{IsAmid, IsSafe, IsSetting, Setting}
 use Rattle.call_laws.proofs.Told.{adds_all}
 
 module _ {D A P K : Type 0} (disk : D → DiskState) (ambient : A → AmbientState) (plugin : P → StoreState) (sink : K → SinkState) (source : SourceState)
     {F : Type 0} (s : Setting F) (from : Seen D A P K) (is : IsSetting s) (on_main : s.OnMain s.found []) (rows : Journal)
-    (held : IsHeld s.found (disk from.outside.main) rows) (same : rows.cat ≡ s.found) (more : ℕ) (ready : AreReady disk plugin sink more from) where
+    (held : IsHeld s.found (disk from.outside.main) rows) (same : rows.cat ≡ s.found) (more : ℕ) (ready : AreReady disk plugin sink more from)
+    (none_told : s.text_of [] ≡ []) (plain : (marks : List Mark) → s.text_of marks ≡ lines_of s.start.number marks) where
+  -- the sink has what it had, and the text of no marks
+  none_shown : (shown : Text) → shown ≡ (sink from.sink).holds → shown ≡ (sink from.sink).holds ++ s.text_of []
+  none_shown shown still = still ∙ sym (append-nil (sink from.sink).holds) ∙ ap (λ (t : Text). (sink from.sink).holds ++ t) (sym none_told)
+
   main_is : IsSettled (disk from.outside.main) → (t : ℕ) (main : Text) → from.outside.moments < t → (disk from.outside.main).left t main
       → main ≡ (disk from.outside.main).holds
   main_is settled t main late left = settled t main (omega (arith, late, ready.outside.main_last)) left
@@ -49,8 +55,8 @@ module _ {D A P K : Type 0} (disk : D → DiskState) (ambient : A → AmbientSta
         let S : Text → Type 0 = λ m. StandsFor m s.found in
         is.one_image f [] first s.found on_main (sink from.sink).holds main shown
         (subst S (sym (main_is settled t main late left)) (held_stands s.found (disk from.outside.main) rows held told))
-        (adds_all [] (sink from.sink).holds shown
-        (sink_settled t shown (omega (arith, late, ready.sink_last)) sink_left ∙ sym (append-nil (sink from.sink).holds)));
+        (adds_all (s.text_of []) (sink from.sink).holds shown
+        (none_shown shown (sink_settled t shown (omega (arith, late, ready.sink_last)) sink_left)));
   }
 
   command_begun : s.start ≡ record s.start { marks = s.start.marks ++ [] }
@@ -69,7 +75,8 @@ module _ {D A P K : Type 0} (disk : D → DiskState) (ambient : A → AmbientSta
       on_main = on_main;
       held = held;
       numbers = ap (λ (c : Cat). c.numbers) same;
-      shown = λ told. sym (append-nil (sink from.sink).holds);
+      plain = λ marks. plain marks ∙ ap (λ (t : Text). t ++ lines_of s.start.number marks) (sym none_told);
+      shown = λ told. none_shown (sink from.sink).holds refl;
       settled = λ told settled. settled;
       sink_settled = λ told settled. settled;
     };

@@ -16,8 +16,7 @@ use Rattle.grid_model.specs.declared.deltas.Delta.TheVariants as delta
 use Rattle.grid_model.specs.declared.deltas.Pending.{Pending}
 use Rattle.grid_model.specs.declared.marks.Mark.{Mark}
 use Rattle.grid_model.specs.declared.refusal.Failure.{Failure}
-use Rattle.grid_journal.specs.Journal.{can_be_kept}
-use Rattle.grid_journal.specs.Stands.{sets_no_rules}
+use Rattle.grid_journal.specs.Journal.{can_be_kept, sets_no_rules}
 use Rattle.service_run.specs.Commands.{noted_in}
 use Rattle.service_run.specs.declared.command.Command.{Command}
 use Rattle.call_laws.specs.OneCall.{AreKeepable, AreShort, IsKeepable, IsShown, passed_over}

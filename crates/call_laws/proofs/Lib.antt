@@ -1,6 +1,7 @@
 pub mod Beginning
 pub mod Joined
 pub mod Keepable
+pub mod NotedAmid
 pub mod Ran
 pub mod Rounds
 pub mod Rows

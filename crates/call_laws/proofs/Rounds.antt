@@ -32,7 +32,7 @@ use Rattle.call_laws.specs.Amid.{AreTaken, HoldsSo, IsAmid, IsCutShort, IsSafe, 
 use Rattle.call_laws.specs.OneCall.{passed_over}
 use Rattle.call_laws.proofs.Joined.{passes_then, went_of}
 use Rattle.call_laws.proofs.Rows.{beside_then, first_front}
-use Rattle.call_laws.proofs.Safely.{lines_taken, main_told, part_told, safe_next, sink_told, told_all, whole_kept}
+use Rattle.call_laws.proofs.Safely.{lines_taken, main_told, part_told, plain_taken, safe_next, sink_told, told_all, whole_kept}
 use Rattle.call_laws.proofs.Told.{adds_all, adds_more, lines-append}
 
 -- nothing is pending on a device that was not called
@@ -42,15 +42,15 @@ still_settled a b told still settled t image late left =
 
 module _ {D A P K : Type 0} (disk : D → DiskState) (ambient : A → AmbientState) (plugin : P → StoreState) (sink : K → SinkState) (source : SourceState)
     {F : Type 0} (s : Setting F) (from : Seen D A P K) where
-  -- the lines of the first marks are told
+  -- the text of the first marks is told
   shown_amid : (at : Seen D A P K) (untold : Text) (rows : Journal) (taken : List Mark)
       → HoldsSo disk ambient plugin sink source s from at untold rows taken → IsTrue (sink from.sink).tells
-      → AddsPart (lines_of s.start.number taken) (sink from.sink).holds (sink at.sink).holds
+      → AddsPart (s.text_of taken) (sink from.sink).holds (sink at.sink).holds
   shown_amid at untold rows taken h told =
       subst (λ (t : Text). AddsPart t (sink from.sink).holds (sink at.sink).holds)
       (sym (lines_taken disk ambient plugin sink source s from at untold rows taken h))
-      (adds_more (lines_of s.start.number h.told) (lines_of s.start.number h.fresh) (sink from.sink).holds (sink at.sink).holds
-      (adds_all (lines_of s.start.number h.told) (sink from.sink).holds (sink at.sink).holds (h.shown told)))
+      (adds_more (s.text_of h.told) (lines_of s.start.number h.fresh) (sink from.sink).holds (sink at.sink).holds
+      (adds_all (s.text_of h.told) (sink from.sink).holds (sink at.sink).holds (h.shown told)))
 
   -- calls may end where they have come to
   pub short_amid : (at : Seen D A P K) (y : Command) (rows : Journal) (taken : List Mark)
@@ -79,7 +79,7 @@ module _ {D A P K : Type 0} (disk : D → DiskState) (ambient : A → AmbientSta
     abbrev told_sink : IsTrue (sink from.sink).tells → IsTrue (sink mid.sink).tells
     told_sink = sink_told disk ambient plugin sink source s from is mid new c undo does y rows taken amid may main_last
 
-    number_is : y.number ≡ s.start.number
+    pub number_is : y.number ≡ s.start.number
     number_is = ap (λ (x : Command). x.number) amid.command
 
     -- files that were known are known by the rows now
@@ -88,6 +88,16 @@ module _ {D A P K : Type 0} (disk : D → DiskState) (ambient : A → AmbientSta
       settled = holds.settled told known.settled;
       whole = amid.whole_now known.whole told known.settled;
       there = tells-after at_old at_mid (went_of disk plugin sink ⊥ ⊥ ambient source from mid amid.passes) slot known.there;
+    }
+
+    -- marks that were taken are so, where no mark is told of what was called since
+    pub taken_still : (failed sink_failed : Type 0) → CallsPass disk plugin sink failed sink_failed mid new
+        → (IsTrue at_new.ambient.tells → Gave [] at_mid.ambient at_new.ambient) → AreTaken disk ambient plugin sink source s from new taken
+    taken_still failed sink_failed passes asked = record {
+      told_of = amid.marks.told_of;
+      caused = caused-on at_old at_mid at_new taken (went_of disk plugin sink failed sink_failed ambient source mid new passes) amid.marks.caused;
+      gave = λ told. subst (λ (ms : List Mark). Gave ms (ambient from.outside.ambient) (ambient new.outside.ambient)) (append-nil taken)
+          (gave-then taken [] (ambient from.outside.ambient) (ambient mid.outside.ambient) (ambient new.outside.ambient) amid.marks.gave asked told);
     }
 
     -- ---- it was done, or refused
@@ -112,6 +122,7 @@ module _ {D A P K : Type 0} (disk : D → DiskState) (ambient : A → AmbientSta
         on_main = holds.on_main;
         held = a.held;
         numbers = a.numbers ∙ holds.numbers;
+        plain = holds.plain;
         shown = λ told. a.sink.looks.holds (told_sink told) ∙ holds.shown told;
         settled = λ told settled. still_settled (disk mid.outside.main) (disk new.outside.main) (told_main told) a.main (holds.settled told settled);
         sink_settled = λ told settled. still_settled (sink mid.sink) (sink new.sink) (told_sink told) a.sink (holds.sink_settled told settled);
@@ -125,6 +136,7 @@ module _ {D A P K : Type 0} (disk : D → DiskState) (ambient : A → AmbientSta
         on_main = may.on_noted w.cat w.noted w.waits;
         held = w.held;
         numbers = w.numbers;
+        plain = plain_taken disk ambient plugin sink source s from mid y.untold rows taken holds;
         shown = λ told. w.sink (told_sink told) ∙ told_all disk ambient plugin sink source s from mid y.untold rows taken holds told;
         settled = λ told settled. w.settled (told_main told);
         sink_settled = λ told settled. w.sink_settled (told_sink told) (holds.sink_settled told settled);
@@ -209,12 +221,7 @@ module _ {D A P K : Type 0} (disk : D → DiskState) (ambient : A → AmbientSta
         → IsStep at_mid at_new holds.cat rows y c undo z after does (Err e)
         → IsCutShort disk ambient plugin sink source s from new taken
     cut_next z after e failed sink_failed passes step = record {
-      marks = record {
-        told_of = amid.marks.told_of;
-        caused = caused-on at_old at_mid at_new taken (went_of disk plugin sink failed sink_failed ambient source mid new passes) amid.marks.caused;
-        gave = λ told. subst (λ (ms : List Mark). Gave ms (ambient from.outside.ambient) (ambient new.outside.ambient)) (append-nil taken)
-            (gave-then taken [] (ambient from.outside.ambient) (ambient mid.outside.ambient) (ambient new.outside.ambient) amid.marks.gave step.asked told);
-      };
+      marks = taken_still failed sink_failed passes step.asked;
       shown = λ told.
           part_told disk ambient plugin sink source s from is mid new c undo does y rows taken amid may main_last told (sink new.sink).holds
           (step.shown (told_sink told));

@@ -32,19 +32,31 @@ use Rattle.call_laws.proofs.Told.{adds_all, adds_behind, lines-append}
 
 module _ {D A P K : Type 0} (disk : D → DiskState) (ambient : A → AmbientState) (plugin : P → StoreState) (sink : K → SinkState) (source : SourceState)
     {F : Type 0} (s : Setting F) (from : Seen D A P K) where
-  -- the lines of all marks are those that were told, and those that are still to be
+  -- the text of all marks is that of those that were told, and the lines of those that are still to be
   pub lines_taken : (at : Seen D A P K) (untold : Text) (rows : Journal) (taken : List Mark)
       → (h : HoldsSo disk ambient plugin sink source s from at untold rows taken)
-      → lines_of s.start.number taken ≡ lines_of s.start.number h.told ++ lines_of s.start.number h.fresh
-  lines_taken at untold rows taken h = ap (lines_of s.start.number) h.taken_are ∙ lines-append s.start.number h.told h.fresh
+      → s.text_of taken ≡ s.text_of h.told ++ lines_of s.start.number h.fresh
+  lines_taken at untold rows taken h = ap s.text_of h.taken_are ∙ h.plain h.fresh
+
+  -- what tells more marks behind all of them is their lines
+  pub plain_taken : (at : Seen D A P K) (untold : Text) (rows : Journal) (taken : List Mark)
+      → (h : HoldsSo disk ambient plugin sink source s from at untold rows taken)
+      → (more : List Mark) → s.text_of (taken ++ more) ≡ s.text_of taken ++ lines_of s.start.number more
+  plain_taken at untold rows taken h more =
+      ap (λ (ms : List Mark). s.text_of (ms ++ more)) h.taken_are
+      ∙ ap s.text_of (append_assoc h.told h.fresh more)
+      ∙ h.plain (h.fresh ++ more)
+      ∙ ap (λ (t : Text). s.text_of h.told ++ t) (lines-append s.start.number h.fresh more)
+      ∙ sym (append_assoc (s.text_of h.told) (lines_of s.start.number h.fresh) (lines_of s.start.number more))
+      ∙ ap (λ (t : Text). t ++ lines_of s.start.number more) (sym (lines_taken at untold rows taken h))
 
   -- where all that is still to be told is told
   pub told_all : (at : Seen D A P K) (untold : Text) (rows : Journal) (taken : List Mark)
       → (h : HoldsSo disk ambient plugin sink source s from at untold rows taken) → IsTrue (sink from.sink).tells
-      → (sink at.sink).holds ++ untold ≡ (sink from.sink).holds ++ lines_of s.start.number taken
+      → (sink at.sink).holds ++ untold ≡ (sink from.sink).holds ++ s.text_of taken
   told_all at untold rows taken h told =
       (λ i. h.shown told i ++ h.untold_is i)
-      ∙ append_assoc (sink from.sink).holds (lines_of s.start.number h.told) (lines_of s.start.number h.fresh)
+      ∙ append_assoc (sink from.sink).holds (s.text_of h.told) (lines_of s.start.number h.fresh)
       ∙ ap (λ (t : Text). (sink from.sink).holds ++ t) (sym (lines_taken at untold rows taken h))
 
   module _ (is : IsSetting s) (mid new : Seen D A P K) (c : Call) (undo : List Call) (does : Course → Meaning Did) (y : Command) (rows : Journal)
@@ -78,10 +90,10 @@ module _ {D A P K : Type 0} (disk : D → DiskState) (ambient : A → AmbientSta
 
     -- a part of what was still to be told
     pub part_told : IsTrue (sink from.sink).tells → (shown : Text) → AddsPart y.untold (sink mid.sink).holds shown
-        → AddsPart (lines_of s.start.number taken) (sink from.sink).holds shown
+        → AddsPart (s.text_of taken) (sink from.sink).holds shown
     part_told told shown part =
         subst (λ (t : Text). AddsPart t (sink from.sink).holds shown) (sym (lines_taken mid y.untold rows taken holds))
-        (adds_behind (lines_of s.start.number holds.told) (lines_of s.start.number holds.fresh) (sink from.sink).holds (sink mid.sink).holds shown
+        (adds_behind (s.text_of holds.told) (lines_of s.start.number holds.fresh) (sink from.sink).holds (sink mid.sink).holds shown
         (holds.shown told)
         (subst (λ (t : Text). AddsPart t (sink mid.sink).holds shown) holds.untold_is part))
 
@@ -98,7 +110,7 @@ module _ {D A P K : Type 0} (disk : D → DiskState) (ambient : A → AmbientSta
       image_now f first told main shown (unseen stands still) =
           let first_told = first_front holds.told holds.fresh (s.marks_of f) (subst (λ (ms : List Mark). AreFirst ms (s.marks_of f)) holds.taken_are first) in
           is.one_image f holds.told first_told holds.cat holds.on_main (sink from.sink).holds main shown stands
-          (adds_all (lines_of s.start.number holds.told) (sink from.sink).holds shown (still ∙ holds.shown told))
+          (adds_all (s.text_of holds.told) (sink from.sink).holds shown (still ∙ holds.shown told))
       image_now f first told main shown (in_call cat noted waits stands part) =
           is.one_image f taken first cat (may.on_noted cat noted waits) (sink from.sink).holds main shown stands (part_told told shown part)
 

@@ -31,24 +31,26 @@ use Rattle.service_run.specs.declared.command.Command.{Command}
 
 -- ---- what the calls are for
 
--- The catalogue that main has before the calls, and the command; what main may have of it, once these marks are told and at any moment; and,
--- for each way in which it may end, all its marks, and what a stop leaves of main and of the sink, which had these bytes before.
+-- The catalogue that main has before the calls, and the command; the text that tells marks, with what is sent in front of one of them; what main
+-- may have of it, once these marks are told and at any moment; and, for each way in which it may end, marks that it has so, and what a stop
+-- leaves of main and of the sink, which had these bytes before.
 pub record Setting (F : Type 0) : Type 1 where
   pub found : Cat
   pub start : Command
+  pub text_of : List Mark → Text
   pub OnMain : Cat → List Mark → Type 0
   pub OnWay : Cat → Type 0
   pub marks_of : F → List Mark
   pub OneOf : F → Text → Text → Text → Type 0
 
--- What is to be known of it: the user is there, nothing is to be told yet, and what main may have, with a part of the lines of marks, is what
+-- What is to be known of it: the user is there, nothing is to be told yet, and what main may have, with a part of the text of marks, is what
 -- a stop leaves.
 pub record IsSetting {F : Type 0} (s : Setting F) : Type 0 where
   pub user : IsTrue (is_user s.found s.start.user)
   pub untold : s.start.untold ≡ []
   pub on_way : (c : Cat) (told : List Mark) → s.OnMain c told → s.OnWay c
   pub one_image : (f : F) (told : List Mark) → AreFirst told (s.marks_of f) → (c : Cat) → s.OnMain c told → (shown main sink : Text)
-      → StandsFor main c → AddsPart (lines_of s.start.number told) shown sink → s.OneOf f shown main sink
+      → StandsFor main c → AddsPart (s.text_of told) shown sink → s.OneOf f shown main sink
 
 -- The call, which does this, may be made of the command with these rows, behind these marks: where it is noted main may have that.
 pub record MayCall {F : Type 0} (s : Setting F) (rows : Cat) (y : Command) (taken : List Mark) (does : Course → Meaning Did) (call : Call)
@@ -86,7 +88,8 @@ module _ {D A P K : Type 0} (disk : D → DiskState) (ambient : A → AmbientSta
           → (t : ℕ) (main shown : Text) → old.moments < t → (disk at.outside.main).left t main → (sink at.sink).left t shown
           → s.OneOf f old.sink.holds main shown
 
-    -- What main and the sink hold, where calls took these marks: lines of the first ones were told, and those of the others are still to be.
+    -- What main and the sink hold, where calls took these marks: the text of the first ones was told, and the lines of the others, which are all
+    -- that tells them, are still to be.
     pub record HoldsSo (at : Seen D A P K) (untold : Text) (rows : Journal) (taken : List Mark) : Type 0 where
       pub told : List Mark
       pub fresh : List Mark
@@ -96,7 +99,8 @@ module _ {D A P K : Type 0} (disk : D → DiskState) (ambient : A → AmbientSta
       pub on_main : s.OnMain cat told
       pub held : IsHeld cat (disk at.outside.main) rows
       pub numbers : rows.cat.numbers ≡ cat.numbers
-      pub shown : IsTrue old.sink.tells → (sink at.sink).holds ≡ old.sink.holds ++ lines_of s.start.number told
+      pub plain : (more : List Mark) → s.text_of (told ++ more) ≡ s.text_of told ++ lines_of s.start.number more
+      pub shown : IsTrue old.sink.tells → (sink at.sink).holds ≡ old.sink.holds ++ s.text_of told
       pub settled : IsTrue old.main.tells → IsSettled old.main → IsSettled (disk at.outside.main)
       pub sink_settled : IsTrue old.sink.tells → IsSettled old.sink → IsSettled (sink at.sink)
 
@@ -120,5 +124,5 @@ module _ {D A P K : Type 0} (disk : D → DiskState) (ambient : A → AmbientSta
     -- The calls took these marks, and the last of them was cut short.
     pub record IsCutShort (at : Seen D A P K) (taken : List Mark) : Type 0 where
       pub marks : AreTaken at taken
-      pub shown : IsTrue old.sink.tells → AddsPart (lines_of s.start.number taken) old.sink.holds (sink at.sink).holds
+      pub shown : IsTrue old.sink.tells → AddsPart (s.text_of taken) old.sink.holds (sink at.sink).holds
       pub safe : IsSafe at taken

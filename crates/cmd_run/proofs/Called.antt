@@ -9,7 +9,7 @@ use Rattle.grid_model.specs.Names.{Text}
 use Rattle.grid_model.specs.Obeying.{after_exec, exec_scope, no_env}
 use Rattle.grid_model.specs.Orders.{Order, executes}
 use Rattle.grid_model.specs.RowGrids.{grid_of, user_name}
-use Rattle.grid_model.specs.RuleText.{CallText, Rule}
+use Rattle.grid_model.specs.RuleText.{CallText}
 use Rattle.grid_model.specs.Sessions.{State}
 use Rattle.grid_model.specs.Values.{Env, computed, is_short, value}
 use Rattle.grid_model.specs.Working.{Done, answered, begun, end_of, refused_at_once}
@@ -18,6 +18,7 @@ use Rattle.grid_model.specs.declared.marks.Mark.{Mark}
 use Rattle.grid_model.specs.declared.refusal.Failure.TheVariants.{LongText}
 use Rattle.grid_model.specs.declared.refusal.Refusal.{Refusal}
 use Rattle.grid_model.specs.declared.replies.End.TheVariants as end
+use Rattle.grid_headline.specs.Reads.{HasRules}
 use Rattle.sess.specs.Places.{at, user_of}
 use Rattle.rule_run.specs.Asked.{IsAsked}
 use Rattle.rule_run.specs.Executing.{DoesCall}
@@ -36,9 +37,9 @@ module _ (s : Server) (session user : ℕ) (has : user_of (at s.sessions session
   name = user_name s.store.cat user
 
   -- an order is asked for
-  pub asked_for : (order : Order) (run number : ℕ) (line : Text) → run ≡ s.store.cat.numbers.run → IsTrue (is_user s.store.cat user) → s.store.cat.pending ≡ None
-      → IsAsked now (Ok (session, order)) s.store.cat (begun_command run number user line)
-  asked_for order run number line is there none = record {
+  pub asked_for : (order : Order) (number : ℕ) (line : Text) → IsTrue (is_user s.store.cat user) → s.store.cat.pending ≡ None → HasRules s.store.cat now.rules
+      → IsAsked now (Ok (session, order)) s.store.cat (begun_command s.store.cat.numbers.run number user line)
+  asked_for order number line there none has_rules = record {
     session = session;
     order = order;
     asks = refl;
@@ -47,7 +48,8 @@ module _ (s : Server) (session user : ℕ) (has : user_of (at s.sessions session
     user = there;
     name = refl;
     grid = refl;
-    run = is;
+    rules = has_rules;
+    run = refl;
     begun = refl;
     none = none;
   }
@@ -87,17 +89,16 @@ module _ (s : Server) (session user : ℕ) (has : user_of (at s.sessions session
     }
 
     does_by : (done : Call) → IsComputed name (grid_of s.store.cat) call done
-        → DoesCall now (Ok (session, executes (Ok call))) [] (no_env name) done (map (value (exec_scope name) now.grid) call.args)
+        → DoesCall now (Ok (session, executes (Ok call))) now.rules (no_env name) done (map (value (exec_scope name) now.grid) call.args)
     does_by done c marks =
         with_login now session (executes (Ok call)) marks (who s session user has) (login s session user has)
         ∙ ap (by_short marks) (sym (ap is_short c.is) ∙ c.short)
         ∙ ap (λ (x : Call). mapped (after_exec now)
-        (begin_step (call_rule [] (no_env name)) name (map (value (exec_scope name) now.grid) call.args) x (counted (begun now.grid marks)))) (sym c.is)
+        (begin_step (call_rule now.rules (no_env name)) name (map (value (exec_scope name) now.grid) call.args) x (counted (begun now.grid marks)))) (sym c.is)
 
-    -- what it does by rules and session variables that are these
-    pub does_call : (done : Call) (rules : List Rule) (env : Env) → rules ≡ [] → env ≡ no_env name → IsComputed name (grid_of s.store.cat) call done
-        → DoesCall now (Ok (session, executes (Ok call))) rules env done (map (value (exec_scope name) now.grid) call.args)
-    does_call done rules env none is c =
-        let E : Env → Type 0 = λ e. DoesCall now (Ok (session, executes (Ok call))) rules e done (map (value (exec_scope name) now.grid) call.args) in
-        let R : List Rule → Type 0 = λ rs. DoesCall now (Ok (session, executes (Ok call))) rs (no_env name) done (map (value (exec_scope name) now.grid) call.args) in
-        subst E (sym is) (subst R (sym none) (does_by done c))
+    -- what it does by session variables that are these
+    pub does_call : (done : Call) (env : Env) → env ≡ no_env name → IsComputed name (grid_of s.store.cat) call done
+        → DoesCall now (Ok (session, executes (Ok call))) now.rules env done (map (value (exec_scope name) now.grid) call.args)
+    does_call done env is c =
+        let E : Env → Type 0 = λ e. DoesCall now (Ok (session, executes (Ok call))) now.rules e done (map (value (exec_scope name) now.grid) call.args) in
+        subst E (sym is) (does_by done c)

@@ -13,10 +13,11 @@ use Rattle.grid_model.specs.declared.grid.ItemKind.TheVariants as item
 use Rattle.grid_model.specs.declared.requests.Request.{Request}
 use Rattle.grid_model.specs.declared.requests.Verb.{Verb}
 use Rattle.cmd_read.specs.Orders.{an_object, a_collection, a_resource, a_user}
-use Rattle.cmd_read.specs.Table.{Form, FormValue, Means, VerbFrom, Way, Row, among, kinds_with_path, kinds_with_name, table, of_sessions, of_users, of_resources, of_rules, of_collections, of_objects, of_uploads, of_metadata}
+use Rattle.cmd_read.specs.Table.{Form, FormValue, Means, VerbFrom, Way, Row, among, kinds_with_path, kinds_with_name, named_resource, table, of_sessions}
+use Rattle.cmd_read.specs.Table.{of_users, of_resources, of_rules, of_collections, of_objects, of_uploads, of_metadata}
 use Rattle.cmd_read.specs.Reading.{Makes, fits_forms, chosen, WordsAsk, ReadsVerb, ReadsIn, ReadsBehind, Reads, session_of}
 use Rattle.plan_meta.proofs.LineWords.{line_words}
-use Rattle.row_run.specs.Verbs.{HasGoodWords, NamesSome}
+use Rattle.row_run.specs.Verbs.{HasGoodWords, IsWordIfAny, NamesSome}
 
 -- whatever values stand for words of these forms, the verb has a new name
 abbrev AllMade : (fs : List Form) → VerbFrom fs → Type 0
@@ -125,11 +126,19 @@ collections_so = (
 same_word : (w text : Text) → is_word w ≡ true → w ≡ text → is_word text ≡ true
 same_word w text good same = subst (λ x. is_word x ≡ true) same good
 
+-- and so is the name of a resource, if it is one
+word_if_any : (w : Text) (resource : Option Text) → is_word w ≡ true → named_resource w ≡ resource → IsWordIfAny resource
+word_if_any w resource good is = subst IsWordIfAny is (by (same_text (codes "-") w))
+  where
+    by : (b : Bool) → IsWordIfAny (elim b as (λ _. Option Text) [ true ↦ None | false ↦ Some w ])
+    by true = tt
+    by false = good
+
 objects_so : AllRows of_objects
 objects_so = (
   (λ a b c d e f g h i j k l m n o p. same_word e f g h, tt),
   (
-    (λ a b c d e f g h. tt, tt),
+    (λ a b c d e f g h. word_if_any e f g h, tt),
     (
       (λ a b c d e f g h. same_word e f g h, tt),
       (
@@ -162,13 +171,15 @@ uploads_so = (
 )
 
 -- the kind by its word is one of two
-kind_of_two : (a b : Bool) (x y kind : ItemKind) → elim a as (λ _. Option ItemKind) [ true ↦ Some x | false ↦ elim b as (λ _. Option ItemKind) [ true ↦ Some y | false ↦ None ] ] ≡ Some kind
+kind_of_two : (a b : Bool) (x y kind : ItemKind)
+    → elim a as (λ _. Option ItemKind) [ true ↦ Some x | false ↦ elim b as (λ _. Option ItemKind) [ true ↦ Some y | false ↦ None ] ] ≡ Some kind
     → (x ≡ kind) ⊎ (y ≡ kind)
 kind_of_two true b x y kind is = inl cc
 kind_of_two false true x y kind is = inr cc
 kind_of_two false false x y kind is = absurd cc
 
-by_path : (k : Text) (kind : ItemKind) → among kinds_with_path k ≡ Some kind → (w text : Text) → w ≡ text → (path : Path) → SpellsPath w path → NamesSome kind text
+by_path : (k : Text) (kind : ItemKind) → among kinds_with_path k ≡ Some kind → (w text : Text) → w ≡ text → (path : Path) → SpellsPath w path
+    → NamesSome kind text
 by_path k kind is w text same path spells =
     let spelled : SpellsPath text path = subst (λ (x : Text). SpellsPath x path) same spells in
     elim (kind_of_two (same_text (codes "-d") k) (same_text (codes "-C") k) item.Object item.Collection kind is) [
@@ -233,11 +244,13 @@ by_way (way ∷ ways) all ws good its asks = by (fits_forms way.forms ws) (λ is
     by true later is = made way.forms way.makes all.0 ws good its is
     by false later is = later is
 
-by_row : (rows : List Row) → AllRows rows → (v : Text) (ws : List Text) → list_all is_word ws ≡ true → (its : Verb) → ReadsVerb (among rows v) ws (Ok its) → HasGoodWords its
+by_row : (rows : List Row) → AllRows rows → (v : Text) (ws : List Text) → list_all is_word ws ≡ true → (its : Verb) → ReadsVerb (among rows v) ws (Ok its)
+    → HasGoodWords its
 by_row [] all v ws good its reads = absurd cc
 by_row (row ∷ rows) all v ws good its reads = by (same_text row.0 v) (λ is. by_row rows all.1 v ws good its is) reads
   where
-    by : (b : Bool) → (ReadsVerb (among rows v) ws (Ok its) → HasGoodWords its) → ReadsVerb (elim b as (λ _. Option (List Way)) [ true ↦ Some row.1 | false ↦ among rows v ]) ws (Ok its) → HasGoodWords its
+    by : (b : Bool) → (ReadsVerb (among rows v) ws (Ok its) → HasGoodWords its)
+        → ReadsVerb (elim b as (λ _. Option (List Way)) [ true ↦ Some row.1 | false ↦ among rows v ]) ws (Ok its) → HasGoodWords its
     by true later is = by_way row.1 all.0 ws good its is
     by false later is = later is
 

@@ -1,5 +1,6 @@
 -- Orphans whose files were not removed: as many as their store failed.
-use Rattle.std.proofs.Common.{◌≡◌, ◌≢◌, inl, inr, ℕ, suc, ◌+◌, ◌-◌, ◌^◌, ◌<◌, ◌≤◌, Bool, true, false, List, [], ◌∷◌, length, slice_get, Ok, refl, sym, ap, ◌∙◌, subst, arith}
+use Rattle.std.proofs.Common.{◌≡◌, ◌≢◌, inl, inr, ℕ, suc, ◌+◌, ◌-◌, ◌^◌, ◌<◌, ◌≤◌, Bool, true, false, List, [], ◌∷◌, length, slice_get, Ok, refl, sym, ap, ◌∙◌}
+use Rattle.std.proofs.Common.{subst, arith}
 use Rattle.std.specs.Prelude.{◌==◌, not, cond, filter, map, vec_len}
 use Rattle.std.specs.List.{AllByRecursion}
 use Rattle.std.specs.Option.{option_map_or}
@@ -58,7 +59,8 @@ all_stay : (g : NewFile) (files : List NewFile) → AllByRecursion (λ (f : NewF
 all_stay g [] others = refl
 all_stay g (f ∷ files) others = passed (other_name g) f files (ap not (apart f.name g.name others.0)) ∙ ap (λ fs. f ∷ fs) (all_stay g files others.1)
 
-first_stays : (f : NewFile) (gone files : List NewFile) → AllByRecursion (λ (g : NewFile). g.name ≢ f.name) gone → without gone (f ∷ files) ≡ f ∷ without gone files
+first_stays : (f : NewFile) (gone files : List NewFile) → AllByRecursion (λ (g : NewFile). g.name ≢ f.name) gone
+    → without gone (f ∷ files) ≡ f ∷ without gone files
 first_stays f [] files others = refl
 first_stays f (g ∷ gone) files others =
     ap (without gone) (passed (other_name g) f files (ap not (apart f.name g.name (λ same. others.0 (sym same)))))
@@ -101,13 +103,15 @@ files_after (g ∷ gone) c after e =
 count_same : (slot : ℕ) (rows : List OrphanRow) → count_in slot (map file_of rows) ≡ length (filter (λ (o : OrphanRow). o.slot == slot) rows)
 count_same slot [] = refl
 count_same slot (o ∷ rows) =
-    elim (o.slot == slot) as (λ b. length (cond b (file_of o ∷ filter (λ (f : NewFile). f.slot == slot) (map file_of rows)) (filter (λ (f : NewFile). f.slot == slot) (map file_of rows)))
+    elim (o.slot == slot) as (λ b. length (cond b (file_of o ∷ filter (λ (f : NewFile). f.slot == slot) (map file_of rows))
+    (filter (λ (f : NewFile). f.slot == slot) (map file_of rows)))
     ≡ length (cond b (o ∷ filter (λ (o : OrphanRow). o.slot == slot) rows) (filter (λ (o : OrphanRow). o.slot == slot) rows))) [
       | true ↦ ap suc (count_same slot rows)
       | false ↦ count_same slot rows
     ]
 
-none_there : (slot stores : ℕ) (rows : List OrphanRow) → stores ≤ slot → ((o : OrphanRow) → IsIn rows o → o.slot < stores) → length (filter (λ (o : OrphanRow). o.slot == slot) rows) ≡ 0
+none_there : (slot stores : ℕ) (rows : List OrphanRow) → stores ≤ slot → ((o : OrphanRow) → IsIn rows o → o.slot < stores)
+    → length (filter (λ (o : OrphanRow). o.slot == slot) rows) ≡ 0
 none_there slot stores [] past small = refl
 none_there slot stores (o ∷ rows) past small =
     ap length (dropped (λ (o : OrphanRow). o.slot == slot) o rows (apart o.slot slot (λ same. absurd (omega (arith, same, past, small o (inl refl))))))
@@ -116,17 +120,20 @@ none_there slot stores (o ∷ rows) past small =
 -- ---- what is left
 
 -- what was left of all orphans' files are those of the orphans behind it
-pub left_behind : (c after : Cat) (files gone left : List NewFile) → files ≡ orphan_files c → SplitInto files gone left → HaveOwnNames (orphan_files c) → apply_all c (no_orphans gone) ≡ Ok after → left ≡ orphan_files after
+pub left_behind : (c after : Cat) (files gone left : List NewFile) → files ≡ orphan_files c → SplitInto files gone left → HaveOwnNames (orphan_files c)
+    → apply_all c (no_orphans gone) ≡ Ok after → left ≡ orphan_files after
 left_behind c after files gone left all split own applied =
     let S : List NewFile → Type 0 = λ fs. SplitInto fs gone left in
     sym (files_after gone c after applied ∙ left_are (orphan_files c) gone left (subst S all split) own)
 
-module _ {B : Type 0} (plugin : B → StoreState) (stores_old stores_new : List B) (count : length stores_new ≡ length stores_old) (c : Cat) (made : IsMade c) (stores_are : c.stores ≡ length stores_old) where
+module _ {B : Type 0} (plugin : B → StoreState) (stores_old stores_new : List B) (count : length stores_new ≡ length stores_old) (c : Cat) (made : IsMade c)
+    (stores_are : c.stores ≡ length stores_old) where
   abbrev faults_in : List B → ℕ → ℕ
   faults_in stores slot = option_map_or (λ store. (plugin store).faults) (slice_get stores slot) 0
 
   -- where there are no more than their stores failed, there are few in each slot
-  few_in : FewerThanFaults plugin (orphan_files c) stores_old stores_new → (slot : ℕ) → faults_in stores_new slot < 2 ^ 64 - 1 → faults_in stores_old slot + orphan_count c slot ≤ faults_in stores_new slot
+  few_in : FewerThanFaults plugin (orphan_files c) stores_old stores_new → (slot : ℕ) → faults_in stores_new slot < 2 ^ 64 - 1
+      → faults_in stores_old slot + orphan_count c slot ≤ faults_in stores_new slot
   few_in fewer slot less = elim (cases_lt slot (length stores_old)) [
     | inl within ↦
         let was = at_place stores_old slot within in
@@ -135,13 +142,16 @@ module _ {B : Type 0} (plugin : B → StoreState) (stores_old stores_new : List 
         let fault_new : faults_in stores_new slot ≡ (plugin now.0).faults = ap (λ o. option_map_or (λ store. (plugin store).faults) o 0) now.1 in
         omega (arith, less, fault_old, fault_new, count_same slot c.orphans, fewer slot was.0 now.0 was.1 now.1)
     | inr past ↦
-        let absent_rows : orphan_count c slot ≡ 0 = none_there slot c.stores c.orphans (omega (arith, past, stores_are)) (λ o here. ((sound_of c made).vaults.orphans o here).2) in
+        let absent_rows : orphan_count c slot ≡ 0 = none_there slot c.stores c.orphans (omega (arith, past, stores_are))
+        (λ o here. ((sound_of c made).vaults.orphans o here).2) in
         let absent : faults_in stores_old slot ≡ 0 = ap (λ o. option_map_or (λ store. (plugin store).faults) o 0) (slice_get_past stores_old slot past) in
         omega (arith, absent_rows, absent)
   ]
 
 -- the same in a world
-pub few_orphans : {D A P : Type 0} (disk : D → DiskState) (ambient : A → AmbientState) (plugin : P → StoreState) (from to : SinkState) (source : SourceState) (o n : Outside D A P) (before c : Cat) → length n.stores.items ≡ length o.stores.items
+pub few_orphans : {D A P : Type 0} (disk : D → DiskState) (ambient : A → AmbientState) (plugin : P → StoreState) (from to : SinkState) (source : SourceState)
+    (o n : Outside D A P) (before c : Cat) → length n.stores.items ≡ length o.stores.items
     → before.stores ≡ vec_len o.stores → c.stores ≡ before.stores → IsMade c → FewerThanFaults plugin (orphan_files c) o.stores.items n.stores.items
     → HasFewOrphans (around disk ambient plugin o from source) (around disk ambient plugin n to source) c
-few_orphans disk ambient plugin from to source o n before c count slots same made fewer = few_in plugin o.stores.items n.stores.items count c made (omega (arith, slots, same, o.stores.ok.0)) fewer
+few_orphans disk ambient plugin from to source o n before c count slots same made fewer =
+    few_in plugin o.stores.items n.stores.items count c made (omega (arith, slots, same, o.stores.ok.0)) fewer

@@ -7,26 +7,18 @@ use Rattle.grid_model.specs.Levels.{may}
 use Rattle.grid_model.specs.Listings.{ls_rows, listed, lsmeta_rows, may_see, object_rows, triples_at}
 use Rattle.grid_model.specs.Maps.{get, has}
 use Rattle.grid_model.specs.MapLists.{values}
-use Rattle.grid_model.specs.Meanings.{Meaning, gives, mapped}
-use Rattle.grid_model.specs.Obeying.{listing, query_work}
+use Rattle.grid_model.specs.Meanings.{Meaning, gives}
+use Rattle.grid_model.specs.Obeying.{listing}
 use Rattle.grid_model.specs.Operations.Common.{is_taken, needs, object_there}
-use Rattle.grid_model.specs.Orders.{lists, lists_triples, queries}
-use Rattle.grid_model.specs.Points.{query_point}
-use Rattle.grid_model.specs.QueryOrders.{ReadsQuery}
-use Rattle.grid_model.specs.QueryRows.{query_rows}
-use Rattle.grid_model.specs.QueryText.{IsQueryText, IsRefusedQuery}
+use Rattle.grid_model.specs.Orders.{lists, lists_triples}
 use Rattle.grid_model.specs.Refusing.{Or, ◌>>=◌, unless}
 use Rattle.grid_model.specs.RowGrids.{grid_of, user_name}
-use Rattle.grid_model.specs.Runs.{does}
 use Rattle.grid_model.specs.Sessions.{State}
 use Rattle.grid_model.specs.Working.{Done, begun, done, well, refused_at_once}
 use Rattle.grid_model.specs.declared.grid.Level.TheVariants.{Read}
-use Rattle.grid_model.specs.declared.queries.Query.{Query}
 use Rattle.grid_model.specs.declared.refusal.Refusal.{Refusal}
-use Rattle.grid_model.specs.declared.refusal.Refusal.TheVariants.{BadQuery, NoObject, NoAccess, NoCollection, NoResource, NoUser}
+use Rattle.grid_model.specs.declared.refusal.Refusal.TheVariants.{NoObject, NoAccess, NoCollection, NoResource, NoUser}
 use Rattle.grid_model.specs.declared.replies.End.TheVariants as end
-use Rattle.grid_model.proofs.WithoutRules.{answers, points_alone}
-use Rattle.query_parse.proofs.TextLemmas.{one_place, one_text, never_both}
 use Rattle.chain_laws.proofs.OfGrid.{OfGrid, then_of, there_of, unless_of}
 use Rattle.sess.specs.Places.{at, user_of}
 use Rattle.cmd_run.specs.declared.server.Server.{Server}
@@ -85,8 +77,11 @@ module _ (s : Server) (session user : ℕ) (has : user_of (at s.sessions session
 
 module _ (g : Grid) (user : Text) where
   may_see_of : (thing : Thing) → OfGrid (may_see g user thing)
-  may_see_of (object_at p) = then_of (object_there g p) (λ _. needs g user p Read) (there_of (get g.objects p) NoObject tt) (λ _. unless_of (may g user p Read) NoAccess tt)
-  may_see_of (collection_at p) = then_of (unless (has g.collections p) NoCollection) (λ _. needs g user p Read) (unless_of (has g.collections p) NoCollection tt) (λ _. unless_of (may g user p Read) NoAccess tt)
+  may_see_of (object_at p) =
+      then_of (object_there g p) (λ _. needs g user p Read) (there_of (get g.objects p) NoObject tt) (λ _. unless_of (may g user p Read) NoAccess tt)
+  may_see_of (collection_at p) =
+      then_of (unless (has g.collections p) NoCollection) (λ _. needs g user p Read) (unless_of (has g.collections p) NoCollection tt)
+      (λ _. unless_of (may g user p Read) NoAccess tt)
   may_see_of (resource_named n) = unless_of (has g.resources n) NoResource tt
   may_see_of (user_named n) = unless_of (has g.users n) NoUser tt
 
@@ -106,7 +101,8 @@ module _ (s : Server) (session user : ℕ) (has_user : user_of (at s.sessions se
   by_triples o = gives (listing at_once o (begun at_once.grid []))
 
   -- what is said of a thing is shown
-  pub says_told : (rows : List (List Text)) → lsmeta_rows (grid_of s.store.cat) user_now thing ≡ Ok rows → SaysRows at_once (Ok (session, lists_triples thing)) rows well at_once
+  pub says_told : (rows : List (List Text)) → lsmeta_rows (grid_of s.store.cat) user_now thing ≡ Ok rows
+      → SaysRows at_once (Ok (session, lists_triples thing)) rows well at_once
   says_told rows is = record {
     d = done at_once (begun at_once.grid []) [] rows None well;
     does_so = with_login at_once session (lists_triples thing) [] (who s session user has_user) (login s session user has_user) ∙ ap by_triples is;
@@ -118,7 +114,8 @@ module _ (s : Server) (session user : ℕ) (has_user : user_of (at s.sessions se
   }
 
   -- or nothing is
-  pub says_untold : (r : Refusal) → lsmeta_rows (grid_of s.store.cat) user_now thing ≡ Err r → SaysOnly at_once (Ok (session, lists_triples thing)) (end.Refused r) at_once
+  pub says_untold : (r : Refusal) → lsmeta_rows (grid_of s.store.cat) user_now thing ≡ Err r
+      → SaysOnly at_once (Ok (session, lists_triples thing)) (end.Refused r) at_once
   says_untold r is = record {
     d = refused_at_once at_once (begun at_once.grid []) r;
     does_so = with_login at_once session (lists_triples thing) [] (who s session user has_user) (login s session user has_user) ∙ ap by_triples is;
@@ -128,53 +125,3 @@ module _ (s : Server) (session user : ℕ) (has_user : user_of (at s.sessions se
     grid = refl;
     by_rows = subst OfGrid is (lsmeta_of (grid_of s.store.cat) user_now thing);
   }
-
--- ---- queries
-
-module _ (s : Server) (session user : ℕ) (has_user : user_of (at s.sessions session) ≡ Some user) where
-  abbrev asked_at : State
-  asked_at = state_of s
-
-  abbrev asker : Text
-  asker = user_name s.store.cat user
-
-  -- a query is done alone, since no rules stand
-  done_alone : (query : Or Query) → does asked_at (Ok (session, queries query)) [] ≡ mapped (answers asked_at) (query_work asker query (begun asked_at.grid []))
-  done_alone query =
-      with_login asked_at session (queries query) [] (who s session user has_user) (login s session user has_user)
-      ∙ points_alone asked_at (query_point asker) (query_work asker query) (begun asked_at.grid []) refl
-
-  -- its rows are shown
-  pub says_queried : (query : Query) → SaysRows asked_at (Ok (session, queries (Ok query))) (query_rows (grid_of s.store.cat) asker query) well asked_at
-  says_queried query = record {
-    d = done asked_at (begun asked_at.grid []) [] (query_rows (grid_of s.store.cat) asker query) None well;
-    does_so = done_alone (Ok query);
-    reply_is = refl;
-    all = refl;
-    state = refl;
-    grid = refl;
-    by_rows = tt;
-  }
-
-  -- or its text spells none
-  pub says_misspelt : (place : ℕ) → SaysOnly asked_at (Ok (session, queries (Err (BadQuery place)))) (end.Refused (BadQuery place)) asked_at
-  says_misspelt place = record {
-    d = refused_at_once asked_at (begun asked_at.grid []) (BadQuery place);
-    does_so = done_alone (Err (BadQuery place));
-    reply_is = refl;
-    all = refl;
-    state = refl;
-    grid = refl;
-    by_rows = tt;
-  }
-
--- a text is read as one query, or refused at one place
-pub read_as_spelled : (text : Text) (query : Or Query) (q : Query) → ReadsQuery text query → IsQueryText text q → query ≡ Ok q
-read_as_spelled text (Ok other) q reads spells = ap Ok (one_text reads spells)
-read_as_spelled text (Err (BadQuery place)) q reads spells = absurd (never_both reads spells)
-read_as_spelled text (Err other) q reads spells = absurd reads
-
-pub read_as_refused : (text : Text) (query : Or Query) (place : ℕ) → ReadsQuery text query → IsRefusedQuery text place → query ≡ Err (BadQuery place)
-read_as_refused text (Ok other) place reads refused = absurd (never_both refused reads)
-read_as_refused text (Err (BadQuery other)) place reads refused = ap (λ (n : ℕ). Err (BadQuery n)) (one_place reads refused)
-read_as_refused text (Err other) place reads refused = absurd reads

@@ -1,5 +1,5 @@
 -- Who logs in and out.
-use Rattle.std.proofs.Common.{◌≡◌, ◌≢◌, ◌==◌, ℕ, [], Bool, true, false, Option, Some, None, Ok, Err, refl, sym, ap, ◌∙◌, eq-eqb, arith}
+use Rattle.std.proofs.Common.{◌≡◌, ◌≢◌, ◌==◌, ℕ, [], Bool, true, false, Option, Some, None, Ok, Err, refl, sym, ap, ◌∙◌, eq-eqb}
 use Rattle.std.specs.Prelude.{option_map, unwrap_or, find, not, ◌&&◌}
 use Rattle.std.proofs.lemmas.Bool.{and_from}
 use Rattle.grid_model.specs.Maps.{get, put, remove}
@@ -59,7 +59,8 @@ is_named c name id in_order e = by_row (with_name c name) refl e
     by_row None is some = absurd cc
     by_row (Some x) is some =
         let same : x.id ≡ id = cc in
-        let self : user c x.id ≡ Some x = found_of (λ x. user c x.id ≡ Some x) (λ r. same_text r.name name) c.users x (find-self user_cmp (λ r. r.id) (λ a b l. lower_id a.id b.id l) c.users in_order.users.ordered) is in
+        let self : user c x.id ≡ Some x = found_of (λ x. user c x.id ≡ Some x) (λ r. same_text r.name name) c.users x
+        (find-self user_cmp (λ r. r.id) (λ a b l. lower_id a.id b.id l) c.users in_order.users.ordered) is in
         let there = in_from_find (λ (r : UserRow). same_text r.name name) c.users x is in
         record {
           row = x;
@@ -91,8 +92,12 @@ module _ (c : Cat) (name : Text) (id : ℕ) (n : Named c name id) where
   pub a_person : (x : UserRow) → Some x ≡ user c id → not (is_group_kind x.kind) ≡ true → FindsPerson c name (Some id)
   a_person x is person =
       let kind : not (is_group_kind n.row.kind) ≡ true = ap (λ (r : UserRow). not (is_group_kind r.kind)) (sym (row_is x is)) ∙ person in
-      let here : ((n.row.id == id) && not (is_group_kind n.row.kind)) ≡ true = and_from (n.row.id == id) (not (is_group_kind n.row.kind)) (eq-eqb n.row.id id n.id_is) kind in
-      (ap is_person n.by_name ∙ kind, any_from_in (λ u. (u.id == id) && not (is_group_kind u.kind)) c.users n.row n.here here, ap (λ (o : Option UserRow). unwrap_or (option_map (λ (r : UserRow). r.name) o) []) n.by_id ∙ n.name_is)
+      let here : ((n.row.id == id) && not (is_group_kind n.row.kind)) ≡ true = and_from (n.row.id == id) (not (is_group_kind n.row.kind))
+      (eq-eqb n.row.id id n.id_is) kind in (
+        ap is_person n.by_name ∙ kind,
+        any_from_in (λ u. (u.id == id) && not (is_group_kind u.kind)) c.users n.row n.here here,
+        ap (λ (o : Option UserRow). unwrap_or (option_map (λ (r : UserRow). r.name) o) []) n.by_id ∙ n.name_is,
+      )
 
 -- ---- sessions
 
@@ -150,19 +155,22 @@ module _ (s : Server) (session : ℕ) where
       by_rows = tt;
     }
 
-    module _ (id : ℕ) (is : FindsPerson c user (Some id)) (new : Places) (own : at new session ≡ Some (record { user = id })) (others : (n : ℕ) → n ≢ session → at new n ≡ at s.sessions n) where
+    module _ (id : ℕ) (is : FindsPerson c user (Some id)) (new : Places) (own : at new session ≡ Some (record { user = id }))
+        (others : (n : ℕ) → n ≢ session → at new n ≡ at s.sessions n) where
       sessions_are : put now.sessions session (record { user = user; upload = None }) ≡ sessions_of names new
       sessions_are =
           ap (λ (t : Text). put now.sessions session (record { user = t; upload = None })) (sym is.2)
           ∙ sym (sessions_of-login names s.sessions new session id own others)
 
-      pub says_login : SaysOnly now (Ok (session, logs_in user)) well (state_by c new)
+      pub says_login : SaysOnly now (Ok (session, logs_in user)) well (state_by c now.rules new)
       says_login = record {
         d = answered (with_session now session (record { user = user; upload = None })) from well;
-        does_so = either ∙ ap (λ b. gives (by_tests b is_open)) is.0 ∙ ap (λ b. gives (by_tests true b)) (ap has_upload (sessions_of-get names s.sessions session) ∙ no_upload names (at s.sessions session));
+        does_so =
+            either ∙ ap (λ b. gives (by_tests b is_open)) is.0 ∙ ap (λ b. gives (by_tests true b))
+            (ap has_upload (sessions_of-get names s.sessions session) ∙ no_upload names (at s.sessions session));
         reply_is = refl;
         all = refl;
-        state = ap (λ (x : Sessions). (let t : State = record { grid = grid_of c; rules = []; sessions = x } in t)) sessions_are;
+        state = ap (λ (x : Sessions). (let t : State = record { grid = grid_of c; rules = now.rules; sessions = x } in t)) sessions_are;
         grid = refl;
         by_rows = tt;
       }
@@ -170,7 +178,9 @@ module _ (s : Server) (session : ℕ) where
   -- ---- to log out, or to quit
 
   -- nobody is logged in, and asks for something else
-  pub says_no_login : (order : Order) → user_of (at s.sessions session) ≡ None → not_logged_in now session order from ≡ gives (refused_at_once now from refusal.NoLogin) → SaysOnly now (Ok (session, order)) (end.Refused refusal.NoLogin) now
+  pub says_no_login : (order : Order) → user_of (at s.sessions session) ≡ None
+      → not_logged_in now session order from ≡ gives (refused_at_once now from refusal.NoLogin)
+      → SaysOnly now (Ok (session, order)) (end.Refused refusal.NoLogin) now
   says_no_login order none is = record {
     d = refused_at_once now from refusal.NoLogin;
     does_so = without_login now session order [] (sessions_of-nobody names s.sessions session none) ∙ is;
@@ -181,14 +191,17 @@ module _ (s : Server) (session : ℕ) where
     by_rows = tt;
   }
 
-  module _ (u : ℕ) (has : user_of (at s.sessions session) ≡ Some u) (new : Places) (own : at new session ≡ None) (others : (n : ℕ) → n ≢ session → at new n ≡ at s.sessions n) where
-    pub says_logout : SaysOnly now (Ok (session, logs_out)) well (state_by c new)
+  module _ (u : ℕ) (has : user_of (at s.sessions session) ≡ Some u) (new : Places) (own : at new session ≡ None)
+      (others : (n : ℕ) → n ≢ session → at new n ≡ at s.sessions n) where
+    pub says_logout : SaysOnly now (Ok (session, logs_out)) well (state_by c now.rules new)
     says_logout = record {
       d = answered (record now { sessions = remove now.sessions session }) from well;
       does_so = with_login now session logs_out [] (record { user = names u; upload = None }) (sessions_of-user names s.sessions session u has);
       reply_is = refl;
       all = refl;
-      state = ap (λ (x : Sessions). (let t : State = record { grid = grid_of c; rules = []; sessions = x } in t)) (sym (sessions_of-logout names s.sessions new session own others));
+      state =
+          ap (λ (x : Sessions). (let t : State = record { grid = grid_of c; rules = now.rules; sessions = x } in t))
+          (sym (sessions_of-logout names s.sessions new session own others));
       grid = refl;
       by_rows = tt;
     }
@@ -221,7 +234,8 @@ module _ (s : Server) (session : ℕ) where
         ∙ ap (λ b. gives (swept_by b)) is
 
     pub says_swept : is_admin (get (grid_of c).users (names u)) ≡ true → SaysOnly now (Ok (session, sweeps)) well now
-    says_swept admin = record { d = answered now from well; does_so = swept_so true admin; reply_is = refl; all = refl; state = refl; grid = refl; by_rows = tt }
+    says_swept admin =
+        record { d = answered now from well; does_so = swept_so true admin; reply_is = refl; all = refl; state = refl; grid = refl; by_rows = tt }
 
     pub says_not_admin : is_admin (get (grid_of c).users (names u)) ≡ false → SaysOnly now (Ok (session, sweeps)) (end.Refused refusal.NotAdmin) now
     says_not_admin other = record {

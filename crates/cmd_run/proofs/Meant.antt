@@ -1,17 +1,18 @@
 -- What verbs mean that are built, and which of them ends the input.
-use Rattle.std.proofs.Common.{◌≡◌, true, false, refl}
+use Rattle.std.proofs.Common.{◌≡◌, ◌≤◌, true, false, length, refl}
 use Rattle.std.specs.Prelude.{nat_le}
 use Rattle.grid_model.specs.Names.{Text}
 use Rattle.grid_model.specs.Limits.{object_size}
-use Rattle.grid_model.specs.Orders.{Order, executes, lists, lists_triples, logs_in, logs_out, queries, quits, sweeps, works}
-use Rattle.grid_model.specs.Operations.Table.{mkuser, mkgroup, mkdir, rmdir, mv, chmod, inherit, addmember, rmmember, mkresc, addchild, modresc, put, get, repl, chksum, trim, rm, addmeta, rmmeta}
+use Rattle.grid_model.specs.Orders.{Order, executes, lists, lists_triples, logs_in, logs_out, queries, quits, sets_rules, shows_rules, sweeps, works}
+use Rattle.grid_model.specs.Operations.Table.{mkuser, mkgroup, mkdir, rmdir, mv, chmod, inherit, addmember, rmmember, mkresc, addchild, modresc, put, get, repl}
+use Rattle.grid_model.specs.Operations.Table.{chksum, trim, rm, addmeta, rmmeta}
 use Rattle.grid_model.specs.Sessions.{State}
 use Rattle.grid_model.specs.declared.grid.ResourceKind.TheVariants.{Storage}
 use Rattle.grid_model.specs.declared.requests.Verb.{Verb}
 use Rattle.grid_model.specs.declared.requests.Verb.TheVariants as verb
 use Rattle.cmd_read.specs.Orders.{MeansOrder, promised}
 use Rattle.query_parse.proofs.EachText.{each_text}
-use Rattle.rule_texts.proofs.EachText.{each_call}
+use Rattle.rule_texts.proofs.EachText.{each_call, each_rules}
 use Rattle.grid_headline.specs.Reads.{texts, is_built}
 use Rattle.row_run.specs.Verbs.{HasGoodWords}
 use Rattle.cmd_run.specs.Asking.{MeansHeld, is_end}
@@ -43,17 +44,23 @@ order_of at (verb.ChkSum path) body built good = (works (chksum path) 0, refl)
 order_of at (verb.Trim path resource) body built good = (works (trim path resource) 0, refl)
 order_of at (verb.Rm path) body built good = (works (rm path) 0, refl)
 order_of at verb.Sweep body built good = (sweeps, refl)
-order_of at (verb.AddMeta kind name a v u) body built good = (works (addmeta (record { of = good.0.0; attribute = a; value = v; unit = u })) 0, (good.0.0, good.0.1, refl))
-order_of at (verb.RmMeta kind name a v u) body built good = (works (rmmeta (record { of = good.0; attribute = a; value = v; unit = u })) 0, (good.0, good.1, refl))
+order_of at (verb.AddMeta kind name a v u) body built good =
+    (works (addmeta (record { of = good.0.0; attribute = a; value = v; unit = u })) 0, (good.0.0, good.0.1, refl))
+order_of at (verb.RmMeta kind name a v u) body built good =
+    (works (rmmeta (record { of = good.0; attribute = a; value = v; unit = u })) 0, (good.0, good.1, refl))
 order_of at (verb.LsMeta kind name) body built good = (lists_triples good.0, (good.0, good.1, refl))
 order_of at (verb.Query text) body built good = let read = each_text text in (queries read.0, (read.0, read.1, refl))
 order_of at (verb.Exec text) body built good = let read = each_call at.rules text in (executes read.0, (read.0, read.1, refl))
+order_of at (verb.Rules count) body built good = let read = each_rules body in (sets_rules read.0, (read.0, read.1, refl))
+order_of at verb.ShowRules body built good = (shows_rules (texts.printed at.rules), refl)
 order_of at other body built good = absurd (cc built)
 
 -- the same with what is held of the body
 pub meant : (at : State) (v : Verb) (body held : Text) → is_built v ≡ true → HasGoodWords v → (nat_le (promised v) object_size ≡ true → body ≡ held)
-    → (order : Order) × MeansHeld at v held order × MeansOrder texts at v body order
-meant at v body held built good all = let its = order_of at v body built good in (its.0, (body, its.1, all), its.1)
+    → promised v ≤ length body → (order : Order) × MeansHeld at v held order × MeansOrder texts at v body order
+meant at v body held built good all promised_there =
+    let its = order_of at v body built good in
+    (its.0, (body, its.1, all, promised_there), its.1)
 
 -- ---- the verb that ends the input
 

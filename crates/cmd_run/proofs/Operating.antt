@@ -1,26 +1,22 @@
--- What requests come to where there are no rules.
-use Rattle.std.proofs.Common.{◌≡◌, ℕ, Bool, true, false, List, [], ◌∷◌, Option, Some, None, refl, sym, ◌∙◌, ap}
+-- What requests come to, and operations where there are no rules.
+use Rattle.std.proofs.Common.{◌≡◌, ℕ, Bool, true, false, List, [], Option, Some, None, refl, sym, ◌∙◌, ap}
 use Rattle.std.specs.Prelude.{Ok, Err, nat_le}
 use Rattle.grid_model.specs.Maps.{get}
 use Rattle.grid_model.specs.Names.{Text}
-use Rattle.grid_model.specs.Digests.{Digest}
 use Rattle.grid_model.specs.Grid.{Grid}
 use Rattle.grid_model.specs.Limits.{object_size}
 use Rattle.grid_model.specs.Refusing.{Or}
-use Rattle.grid_model.specs.Deeds.{Act, Deed, changes, deed, fits, by_mark}
+use Rattle.grid_model.specs.Deeds.{Act, Deed, changes, deed}
 use Rattle.grid_model.specs.Operations.Table.{Operation, row}
 use Rattle.grid_model.specs.Meanings.{Meaning, gives, waits, mapped}
-use Rattle.grid_model.specs.Doing.{Course, Did, do_act, where_mark_fits, with_result, taking}
+use Rattle.grid_model.specs.Doing.{Course, Did, do_act}
 use Rattle.grid_model.specs.Sessions.{Session, State}
 use Rattle.grid_model.specs.Orders.{Order}
 use Rattle.grid_model.specs.Working.{Done, Sent, begun, done, refused_at_once, running, words_of, sent_by, operate}
 use Rattle.grid_model.specs.Obeying.{command, logged_in, not_logged_in, do_works}
-use Rattle.grid_model.specs.declared.marks.BadReplica.{BadReplica}
 use Rattle.grid_model.specs.declared.marks.Mark.{Mark}
-use Rattle.grid_model.specs.declared.marks.Mark.TheVariants.{Ran, Fault, Bad}
 use Rattle.grid_model.specs.declared.refusal.Refusal.{Refusal}
 use Rattle.grid_model.specs.declared.refusal.Refusal.TheVariants as refusal
-use Rattle.grid_model.specs.declared.replies.End.{End}
 use Rattle.grid_model.specs.declared.replies.End.TheVariants as end
 use Rattle.grid_model.proofs.WithoutRules.{answers, operate_alone}
 
@@ -61,64 +57,29 @@ module _ (at : State) (none : at.rules ≡ []) (user : Text) (op : Operation) wh
   abbrev pub its_sent : List Mark → Option Sent
   its_sent marks = sent_by (begun at.grid marks) user op
 
-  -- it was refused
-  abbrev pub refused_work : Refusal → Done
-  refused_work r = done at (begun at.grid []) [] [] (its_sent []) (end.Refused r)
-
   -- it left this grid
   abbrev pub changed_work : Grid → Done
   changed_work g = done at (record (begun at.grid []) { grid = g }) [] [] (its_sent []) (end.Done its_words)
 
-  -- it left this grid and ended with a mark
-  abbrev pub marked_work : Grid → Mark → End → Done
-  marked_work g m e = record {
-    state = record at { grid = g };
-    reply = record { marks = m ∷ []; shown = []; passed = []; rows = []; end = e };
-    left = [];
-    sent = its_sent (m ∷ []);
-  }
-
   abbrev by_act : List Mark → Or Act → Meaning Done
-  by_act marks a = mapped (answers at) (mapped (λ (d : Did). record { state = d.state; failure = d.failure; words = its_words; rows = []; sent = its_sent marks }) (do_act (running op) (begun at.grid marks) a))
+  by_act marks a =
+      mapped (answers at) (mapped (λ (d : Did). record { state = d.state; failure = d.failure; words = its_words; rows = []; sent = its_sent marks })
+      (do_act (running op) (begun at.grid marks) a))
 
   alone : (marks : List Mark) (a : Or Act) → row at.grid user op ≡ a → operate at user op (begun at.grid marks) ≡ by_act marks a
   alone marks a is = operate_alone at user op (begun at.grid marks) none ∙ ap (by_act marks) is
 
-  pub refused_so : (r : Refusal) → row at.grid user op ≡ Err r → operate at user op (begun at.grid []) ≡ gives (refused_work r)
-  refused_so r is = alone [] (Err r) is
-
-  pub changed_so : (g : Grid) → row at.grid user op ≡ Ok (changes g) → operate at user op (begun at.grid []) ≡ gives (changed_work g)
+  changed_so : (g : Grid) → row at.grid user op ≡ Ok (changes g) → operate at user op (begun at.grid []) ≡ gives (changed_work g)
   changed_so g is = alone [] (Ok (changes g)) is
 
   -- a deed waits where no mark is there
-  pub waited_so : (d : Deed) → row at.grid user op ≡ Ok (deed d)
+  waited_so : (d : Deed) → row at.grid user op ≡ Ok (deed d)
       → operate at user op (begun at.grid []) ≡ waits (record { call = running op; grid = at.grid; taken = []; passed = []; undo = [] })
   waited_so d is = alone [] (Ok (deed d)) is
 
-  abbrev by_fit : Deed → Mark → Bool → Meaning Done
-  by_fit d m b = mapped (answers at) (mapped (λ (x : Did). record { state = x.state; failure = x.failure; words = its_words; rows = []; sent = its_sent (m ∷ []) }) (where_mark_fits b (with_result (taking (begun at.grid (m ∷ [])) m []) (by_mark d m))))
-
-  marked : (d : Deed) (m : Mark) → row at.grid user op ≡ Ok (deed d) → fits d m ≡ true → operate at user op (begun at.grid (m ∷ [])) ≡ by_fit d m true
-  marked d m is it_fits = alone (m ∷ []) (Ok (deed d)) is ∙ ap (by_fit d m) it_fits
-
-  pub ran_bad_so : (d : Deed) (word now : ℕ) (bad : List BadReplica) → row at.grid user op ≡ Ok (deed d) → fits d (Ran word now bad) ≡ true
-      → operate at user op (begun at.grid (Ran word now bad ∷ [])) ≡ gives (marked_work (d.ran word now bad) (Ran word now bad) (end.Done its_words))
-  ran_bad_so d word now bad is it_fits = marked d (Ran word now bad) is it_fits
-
-  pub ran_so : (d : Deed) (word now : ℕ) → row at.grid user op ≡ Ok (deed d) → fits d (Ran word now []) ≡ true
-      → operate at user op (begun at.grid (Ran word now [] ∷ [])) ≡ gives (marked_work (d.ran word now []) (Ran word now []) (end.Done its_words))
-  ran_so d word now is it_fits = ran_bad_so d word now [] is it_fits
-
-  pub failed_so : (d : Deed) (slot sent : ℕ) → row at.grid user op ≡ Ok (deed d) → fits d (Fault slot sent) ≡ true
-      → operate at user op (begun at.grid (Fault slot sent ∷ [])) ≡ gives (marked_work at.grid (Fault slot sent) (end.Refused (refusal.Fault slot)))
-  failed_so d slot sent is it_fits = marked d (Fault slot sent) is it_fits
-
-  pub damaged_so : (d : Deed) (slot len : ℕ) (found : Digest) (sent : ℕ) → row at.grid user op ≡ Ok (deed d) → fits d (Bad slot len found sent) ≡ true
-      → operate at user op (begun at.grid (Bad slot len found sent ∷ [])) ≡ gives (marked_work at.grid (Bad slot len found sent) (end.Refused (refusal.Damaged slot d.size d.digest len found)))
-  damaged_so d slot len found sent is it_fits = marked d (Bad slot len found sent) is it_fits
-
   -- what is refused without a mark its row refuses
-  pub refused_row : (d : Done) (why : Refusal) → operate at user op (begun at.grid []) ≡ gives d → d.reply.end ≡ end.Refused why → (r : Refusal) × (row at.grid user op ≡ Err r)
+  pub refused_row : (d : Done) (why : Refusal) → operate at user op (begun at.grid []) ≡ gives d → d.reply.end ≡ end.Refused why
+      → (r : Refusal) × (row at.grid user op ≡ Err r)
   refused_row d why does_so ended = by (row at.grid user op) refl
     where
       by : (a : Or Act) → row at.grid user op ≡ a → (r : Refusal) × (row at.grid user op ≡ Err r)

@@ -18,7 +18,17 @@ use Rattle.run_laws.specs.Around.{around}
 
 -- nothing of a catalogue is other than it was
 pub like_self : (c : Cat) → IsLike c c
-like_self c = record { grid = refl; run = refl; last = refl; rules = refl; stores = refl; pending = refl; keeps = record { rises = omega arith; names = λ slot name row less here. (row, here) } }
+like_self c =
+    record {
+      grid = refl;
+      run = refl;
+      last = refl;
+      rules = refl;
+      stores = refl;
+      pending = refl;
+      keeps = record
+          { rises = omega arith; names = λ slot name row less here. (row, here) };
+    }
 
 -- the ambient was not asked
 pub gave_none : (ambient : AmbientState) → IsTrue ambient.tells → Gave [] ambient ambient
@@ -39,7 +49,8 @@ module _ {D A P : Type 0} (disk : D → DiskState) (ambient : A → AmbientState
       subst P (sym same) (λ t. gave_none (ambient o.ambient) t) told
 
   -- no store was called
-  pub caused_same : (o n : Outside D A P) (from to : SinkState) → n.stores ≡ o.stores → AreCaused (around disk ambient plugin o from source) (around disk ambient plugin n to source) []
+  pub caused_same : (o n : Outside D A P) (from to : SinkState) → n.stores ≡ o.stores
+      → AreCaused (around disk ambient plugin o from source) (around disk ambient plugin n to source) []
   caused_same o n from to same =
       let old : World P = around disk ambient plugin o from source in
       record {
@@ -53,7 +64,8 @@ module _ {D A P : Type 0} (disk : D → DiskState) (ambient : A → AmbientState
 -- ---- images of devices on which nothing is pending
 
 -- a disk that was not called since, whose bytes stand for a catalogue
-pub stands_still : {D : Type 0} (disk : D → DiskState) (a b : D) (c : Cat) (from t : ℕ) (image : Text) → b ≡ a → (disk a).last ≤ from → from < t → IsSettled (disk a) → StandsFor (disk a).holds c → (disk b).left t image → StandsFor image c
+pub stands_still : {D : Type 0} (disk : D → DiskState) (a b : D) (c : Cat) (from t : ℕ) (image : Text) → b ≡ a → (disk a).last ≤ from → from < t
+    → IsSettled (disk a) → StandsFor (disk a).holds c → (disk b).left t image → StandsFor image c
 stands_still disk a b c from t image same last late settled stood left =
     let L : _ → Type 0 = λ d. (disk d).left t image in
     let S : Text → Type 0 = λ x. StandsFor x c in

@@ -35,7 +35,8 @@ rests_self s = record { faults = omega arith; tells = refl; last = refl; holds =
 any_spare : {main spare : Text} {c : Cat} → Stands main spare (Ok c) → StandsFor main c
 any_spare (made_of records c head log replays zone) spare = made_of records c head log replays zone
 
-module _ {D A P : Type 0} (disk : D → DiskState) (ambient : A → AmbientState) (plugin : P → StoreState) (sink : SinkState) (source : SourceState) (o n : Outside D A P) where
+module _ {D A P : Type 0} (disk : D → DiskState) (ambient : A → AmbientState) (plugin : P → StoreState) (sink : SinkState) (source : SourceState)
+    (o n : Outside D A P) where
   abbrev old : World P
   old = around disk ambient plugin o sink source
 
@@ -64,7 +65,8 @@ module _ {D A P : Type 0} (disk : D → DiskState) (ambient : A → AmbientState
       }
 
       -- such a sweep is one where what is left of main, of the files and of the devices is so
-      pub sweeps : IsTrue (disk o.main).tells → c.pending ≡ None → KeepWhole plugin o.moments c (disk o.main) (disk n.main) o.stores.items n.stores.items → Sweeps old new c
+      pub sweeps : IsTrue (disk o.main).tells → c.pending ≡ None → KeepWhole plugin o.moments c (disk o.main) (disk n.main) o.stores.items n.stores.items
+          → Sweeps old new c
       sweeps told none whole = record {
         order = order;
         went = went;
@@ -74,7 +76,11 @@ module _ {D A P : Type 0} (disk : D → DiskState) (ambient : A → AmbientState
             let found = leaves told settled.of_main t main late left.of_main in
             let now = whole told settled.of_main (λ s past. (
             let w = was s past in
-            record { rows = w.rows; files = λ slot store image is tells store_left. w.files slot image (record { store = store; is = is; tells = tells; of_store = store_left }) }
+            record {
+              rows = w.rows;
+              files = λ slot store image is tells store_left. w.files slot image
+                  (record { store = store; is = is; tells = tells; of_store = store_left });
+            }
             )) t main d late left.of_main stood in
             record {
               rows = now.rows;
@@ -88,12 +94,15 @@ module _ {D A P : Type 0} (disk : D → DiskState) (ambient : A → AmbientState
       }
 
   -- and it was done where the server stands as before, and few orphans are left
-  pub is_swept : (failed : Type 0) → Frame disk plugin failed o n → (before after : Server) → StandsAsBefore (disk o.main) (disk n.main) before after → before.store.cat.stores ≡ vec_len o.stores
-      → FewerThanFaults plugin (orphan_files after.store.cat) o.stores.items n.stores.items → (before.store.cat.orphans ≡ [] → n.main ≡ o.main) → IsSwept old new before.store.cat after.store.cat
+  pub is_swept : (failed : Type 0) → Frame disk plugin failed o n → (before after : Server) → StandsAsBefore (disk o.main) (disk n.main) before after
+      → before.store.cat.stores ≡ vec_len o.stores
+      → FewerThanFaults plugin (orphan_files after.store.cat) o.stores.items n.stores.items → (before.store.cat.orphans ≡ [] → n.main ≡ o.main)
+      → IsSwept old new before.store.cat after.store.cat
   is_swept failed frame before after its slots fewer still = record {
     like = its.like;
     stands = λ told. held_stands after.store.cat (disk n.main) after.store its.fits.held (subst IsTrue (sym frame.main.tells) told);
-    few = few_orphans disk ambient plugin sink sink source o n before.store.cat after.store.cat frame.stores.count slots its.like.stores its.fits.held.made fewer;
+    few =
+        few_orphans disk ambient plugin sink sink source o n before.store.cat after.store.cat frame.stores.count slots its.like.stores its.fits.held.made fewer;
     still = λ none told. ap (λ m. (disk m).holds) (still none);
     main_settled = its.settled;
     sink_settled = λ told settled. settled;

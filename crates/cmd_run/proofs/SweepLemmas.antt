@@ -54,9 +54,11 @@ like_then a b c one two = record {
 }
 
 -- what names a file without it named that file with it
-named_back : (c : Cat) (vault slot name : ℕ) (x : Naming) → Names (record c { orphans = filter (λ o. not (o.vault == vault)) c.orphans }) slot name x → Names c slot name x
+named_back : (c : Cat) (vault slot name : ℕ) (x : Naming) → Names (record c { orphans = filter (λ o. not (o.vault == vault)) c.orphans }) slot name x
+    → Names c slot name x
 named_back c vault slot name (by_replica r) n = n
-named_back c vault slot name (by_orphan o) n = (contains_of c.orphans o (in_from_filter (λ (o : OrphanRow). not (o.vault == vault)) c.orphans o (in_of _ o n.0)).0, n.1, n.2)
+named_back c vault slot name (by_orphan o) n =
+    (contains_of c.orphans o (in_from_filter (λ (o : OrphanRow). not (o.vault == vault)) c.orphans o (in_of _ o n.0)).0, n.1, n.2)
 
 -- one is taken away
 gone_one : (c d : Cat) (vault : ℕ) → apply c (delta.NoOrphan vault) ≡ Ok d → IsLike c d
@@ -76,12 +78,21 @@ gone_one c d vault e =
     }
 
 -- a replica names its file as before, and no other row does
-one_stays : (c d : Cat) (vault : ℕ) → apply c (delta.NoOrphan vault) ≡ Ok d → (slot name : ℕ) (r : ReplicaRow) → Names c slot name (by_replica r) → IsNamed c slot name
+one_stays : (c d : Cat) (vault : ℕ) → apply c (delta.NoOrphan vault) ≡ Ok d → (slot name : ℕ) (r : ReplicaRow) → Names c slot name (by_replica r)
+    → IsNamed c slot name
     → Names d slot name (by_replica r) × IsNamed d slot name
 one_stays c d vault e slot name r its was =
     let is = (fits_so (has_orphan c vault) 18 (record c { orphans = filter (λ o. not (o.vault == vault)) c.orphans }) d e).1 in
     let P : Cat → Type 0 = λ x. Names x slot name (by_replica r) × IsNamed x slot name in
-    subst P is (its, record { row = by_replica r; names = its; only = λ other names. was.only other (named_back c vault slot name other names) ∙ sym (was.only (by_replica r) its) })
+    subst P is (
+      its,
+      record {
+        row = by_replica r;
+        names = its;
+        only = λ other names. was.only other (named_back c vault slot name other names) ∙ sym
+            (was.only (by_replica r) its);
+      },
+    )
 
 -- some are taken away
 pub gone_like : (gone : List NewFile) (c d : Cat) → apply_all c (no_orphans gone) ≡ Ok d → IsLike c d
@@ -90,7 +101,8 @@ gone_like (f ∷ gone) c d e =
     let step = after_first (apply c (delta.NoOrphan f.name)) (no_orphans gone) d e in
     like_then c step.0 d (gone_one c step.0 f.name step.1) (gone_like gone step.0 d step.2)
 
-some_stay : (gone : List NewFile) (c d : Cat) → apply_all c (no_orphans gone) ≡ Ok d → (slot name : ℕ) (r : ReplicaRow) → Names c slot name (by_replica r) → IsNamed c slot name → IsNamed d slot name
+some_stay : (gone : List NewFile) (c d : Cat) → apply_all c (no_orphans gone) ≡ Ok d → (slot name : ℕ) (r : ReplicaRow) → Names c slot name (by_replica r)
+    → IsNamed c slot name → IsNamed d slot name
 some_stay [] c d e slot name r its was = let P : Cat → Type 0 = λ x. IsNamed x slot name in subst P (ok-same c d (apply_all c []) refl e) was
 some_stay (f ∷ gone) c d e slot name r its was =
     let step = after_first (apply c (delta.NoOrphan f.name)) (no_orphans gone) d e in
@@ -111,7 +123,8 @@ still_like c from main s held last told settled t image late left =
     (c, subst S (sym (settled t image (omega (arith, last, late)) left)) (held_stands c main s held told), stays_self c)
 
 -- they were forgotten, or how far that came
-pub forgets_like : (c : Cat) (from : ℕ) (old new : DiskState) (result : Result ⊤ Ending) (server : Server) → ForgetsOrphans c from old new result server → LeavesLike c from old new
+pub forgets_like : (c : Cat) (from : ℕ) (old new : DiskState) (result : Result ⊤ Ending) (server : Server) → ForgetsOrphans c from old new result server
+    → LeavesLike c from old new
 forgets_like c from old new result server forgets told settled t main late left = elim (forgets.leaves told settled t main late left) [
   | inl before ↦ (c, before, stays_self c)
   | inr behind ↦ (forgets.after, behind, stays_like forgets.gone c forgets.after forgets.applied)
@@ -131,7 +144,8 @@ no_parts [] [] left none s = refl
 no_parts [] (g ∷ gone) left none s = elim s [ ]
 no_parts (f ∷ files) gone left none s = absurd cc
 
-module _ {D B : Type 0} (disk : D → DiskState) (plugin : B → StoreState) (old : Journal) (files : List NewFile) (from : ℕ) (main_old main_new : D) (stores_old stores_new : List B) where
+module _ {D B : Type 0} (disk : D → DiskState) (plugin : B → StoreState) (old : Journal) (files : List NewFile) (from : ℕ) (main_old main_new : D)
+    (stores_old stores_new : List B) where
   -- what is left was answered
   pub forgot : (left : List NewFile) (new : Journal) → old.staged ≡ [] → (server : Server) → server.store ≡ new
       → AreDiscarded disk plugin old.cat files from main_old main_new stores_old stores_new old (Ok left) new
@@ -140,28 +154,43 @@ module _ {D B : Type 0} (disk : D → DiskState) (plugin : B → StoreState) (ol
     gone = swept.gone;
     after = swept.after;
     applied = swept.applied;
-    ends = (let P : Journal → Type 0 = λ j. Ends j in subst P (sym same) (elim swept.ends.2 [ inl none ↦ unchanged none.0 none.1 none.2 none.3 | inr taken ↦ (let kept = taken.1 in (kept.held, kept.cat, kept.staged, λ told settled. kept.settled told)) ]));
+    ends =
+        (let P : Journal → Type 0 = λ j. Ends j in subst P (sym same)
+        (elim swept.ends.2 [
+          | inl none ↦ unchanged none.0 none.1 none.2 none.3
+          | inr taken ↦
+              (let kept = taken.1 in (kept.held, kept.cat, kept.staged, λ told settled. kept.settled told))
+        ]));
     leaves = swept.leaves;
   }
     where
       Ends : Journal → Type 0
-      Ends j = IsHeld swept.after (disk main_new) j × (j.cat ≡ swept.after) × (j.staged ≡ []) × (IsTrue (disk main_old).tells → IsSettled (disk main_old) → IsSettled (disk main_new))
+      Ends j =
+          IsHeld swept.after (disk main_new) j × (j.cat ≡ swept.after) × (j.staged ≡ []) ×
+          (IsTrue (disk main_old).tells → IsSettled (disk main_old) → IsSettled (disk main_new))
 
       unchanged : swept.gone ≡ [] → new ≡ old → IsHeld old.cat (disk main_new) new → main_new ≡ main_old → Ends new
       unchanged none as_old held main_same =
           let is : old.cat ≡ swept.after = none_gone old.cat swept.after swept.gone none swept.applied in
           let H : Cat → Type 0 = λ x. IsHeld x (disk main_new) new in
-          let S : D → Type 0 = λ m. IsSettled (disk m) in
-          (subst H is held, ap (λ (j : Journal). j.cat) as_old ∙ is, ap (λ (j : Journal). j.staged) as_old ∙ staged, λ told settled. subst S (sym main_same) settled)
+          let S : D → Type 0 = λ m. IsSettled (disk m) in (
+            subst H is held,
+            ap (λ (j : Journal). j.cat) as_old ∙ is,
+            ap (λ (j : Journal). j.staged) as_old ∙ staged,
+            λ told settled. subst S (sym main_same)
+                settled,
+          )
 
-  pub forgot_cat : (left : List NewFile) (new : Journal) → (swept : AreDiscarded disk plugin old.cat files from main_old main_new stores_old stores_new old (Ok left) new) → new.cat ≡ swept.after
+  pub forgot_cat : (left : List NewFile) (new : Journal)
+      → (swept : AreDiscarded disk plugin old.cat files from main_old main_new stores_old stores_new old (Ok left) new) → new.cat ≡ swept.after
   forgot_cat left new swept = elim swept.ends.2 [
     | inl still ↦ ap (λ (j : Journal). j.cat) still.1 ∙ none_gone old.cat swept.after swept.gone still.0 swept.applied
     | inr taken ↦ taken.1.cat
   ]
 
   -- where there was none, main was not called
-  pub forgot_none : (left : List NewFile) (new : Journal) → files ≡ [] → AreDiscarded disk plugin old.cat files from main_old main_new stores_old stores_new old (Ok left) new → main_new ≡ main_old
+  pub forgot_none : (left : List NewFile) (new : Journal) → files ≡ []
+      → AreDiscarded disk plugin old.cat files from main_old main_new stores_old stores_new old (Ok left) new → main_new ≡ main_old
   forgot_none left new none swept = elim swept.ends.2 [
     | inl still ↦ still.3
     | inr taken ↦ absurd (taken.0 (no_parts files swept.gone swept.left none swept.split))
@@ -181,7 +210,8 @@ module _ {D B : Type 0} (disk : D → DiskState) (plugin : B → StoreState) (ol
         leaves = swept.leaves;
       }
     where
-      errors : (x : JournalError) → CommitEnds old.cat swept.after old (disk main_old) (disk main_new) (Err x) new → KeepEnds swept.after swept.after (disk main_old) (disk main_new) (Err (ending_of x)) server
+      errors : (x : JournalError) → CommitEnds old.cat swept.after old (disk main_old) (disk main_new) (Err x) new
+          → KeepEnds swept.after swept.after (disk main_old) (disk main_new) (Err (ending_of x)) server
       errors x ends = ends_err old.cat swept.after from old (disk main_old) (disk main_new) x new server ends
 
 -- ---- all orphans
@@ -215,7 +245,8 @@ own_names (o ∷ rows) sorted = (others_apart o rows sorted.0, own_names rows so
 pub have_own_names : (c : Cat) → IsMade c → HaveOwnNames (orphan_files c)
 have_own_names c made = own_names c.orphans (sound_of c made).cat.orphans.ordered
 
-slots_small : (stores : ℕ) (rows : List OrphanRow) → ((o : OrphanRow) → IsIn rows o → o.slot < stores) → All (λ (f : NewFile). f.slot < stores) (map file_of rows)
+slots_small : (stores : ℕ) (rows : List OrphanRow) → ((o : OrphanRow) → IsIn rows o → o.slot < stores)
+    → All (λ (f : NewFile). f.slot < stores) (map file_of rows)
 slots_small stores [] small k d less = absurd (omega (arith, less))
 slots_small stores (o ∷ rows) small zero d less = small o (inl refl)
 slots_small stores (o ∷ rows) small (suc k) d less = slots_small stores rows (λ x here. small x (inr here)) k d (omega (arith, less))

@@ -1,5 +1,5 @@
 -- Users that are there stay, with their names, whatever changes are made.
-use Rattle.std.proofs.Common.{◌≡◌, ◌==◌, ℕ, Bool, true, false, List, [], ◌∷◌, Ok, IsTrue, refl, sym, ap, ◌∙◌, subst, eq-eqb, eqb-true, arith}
+use Rattle.std.proofs.Common.{◌≡◌, ◌==◌, ℕ, Bool, true, false, List, [], ◌∷◌, Ok, IsTrue, refl, sym, ap, ◌∙◌, subst, eq-eqb, eqb-true}
 use Rattle.std.specs.Prelude.{not, ◌&&◌, ◌||◌, option_map, unwrap_or}
 use Rattle.std.specs.List.{list_any}
 use Rattle.std.proofs.lemmas.Bool.{and_parts}
@@ -17,7 +17,7 @@ use Rattle.tables_laws.proofs.Sound.{fits_so, ok-same, after_first}
 use Rattle.sess.proofs.PlacesLemmas.{sessions_of-names}
 use Rattle.cmd_run.specs.Fits.{AreUsers, state_by}
 use Rattle.grid_model.specs.Grid.{Grid}
-use Rattle.grid_model.specs.Deeds.{fits}
+use Rattle.grid_model.specs.RuleText.{Rule}
 use Rattle.grid_model.specs.Sessions.{State, Sessions}
 
 -- users of the one catalogue are there in the other, with their names
@@ -53,7 +53,8 @@ module _ (c : Cat) (r : UserRow) (fits : user_fits c r ≡ true) where
   other : (u : UserRow) → IsIn c.users u → u.id ≡ r.id → ⊥
   other u here same =
       never_both (list_any (λ u. (u.id == r.id) || same_text u.name r.name) c.users)
-      (any_from_in (λ u. (u.id == r.id) || same_text u.name r.name) c.users u here (or_left (u.id == r.id) (same_text u.name r.name) (eq-eqb u.id r.id same))) free
+      (any_from_in (λ u. (u.id == r.id) || same_text u.name r.name) c.users u here (or_left (u.id == r.id) (same_text u.name r.name) (eq-eqb u.id r.id same)))
+      free
 
   users_joined : KeepsUsers c joined
   users_joined = record { there = there_still; names = names_still }
@@ -71,7 +72,8 @@ module _ (c : Cat) (r : UserRow) (fits : user_fits c r ≡ true) where
       names_still id is =
           let found = in_from_any (λ u. (u.id == id) && not (is_group_kind u.kind)) c.users is in
           let same : found.0.id ≡ id = eqb-true found.0.id id (and_parts (found.0.id == id) (not (is_group_kind found.0.kind)) found.2).0 in
-          ap (λ o. unwrap_or (option_map (λ (u : UserRow). u.name) o) []) (put_other (λ (u : UserRow). u.id) c.users r id (λ e. other found.0 found.1 (same ∙ e)))
+          ap (λ o. unwrap_or (option_map (λ (u : UserRow). u.name) o) [])
+          (put_other (λ (u : UserRow). u.id) c.users r id (λ e. other found.0 found.1 (same ∙ e)))
 
 -- where a change fits, what it makes keeps them
 so : (b : Bool) (cause : ℕ) (c next d : Cat) → where_fits b cause next ≡ Ok d → next.users ≡ c.users → KeepsUsers c d
@@ -79,7 +81,8 @@ so b cause c next d e same = users_same c d (sym (ap (λ (x : Cat). x.users) (fi
 
 pub users_apply : (c d : Cat) (x : Delta) → apply c x ≡ Ok d → KeepsUsers c d
 users_apply c d (delta.Zone name stores) e = so _ 1 c _ d e refl
-users_apply c d (delta.User r) e = let f = fits_so (user_fits c r) 2 (record c { users = with_row user_cmp c.users r }) d e in subst (KeepsUsers c) f.1 (users_joined c r f.0)
+users_apply c d (delta.User r) e =
+    let f = fits_so (user_fits c r) 2 (record c { users = with_row user_cmp c.users r }) d e in subst (KeepsUsers c) f.1 (users_joined c r f.0)
 users_apply c d (delta.Member m) e = so _ 3 c _ d e refl
 users_apply c d (delta.NoMember m) e = so _ 4 c _ d e refl
 users_apply c d (delta.Collection r) e = so _ 5 c _ d e refl
@@ -102,7 +105,8 @@ users_apply c d delta.NoPending e = so _ 21 c _ d e refl
 
 pub users_apply_all : (deltas : List Delta) (c d : Cat) → apply_all c deltas ≡ Ok d → KeepsUsers c d
 users_apply_all [] c d e = users_same c d (sym (ap (λ (x : Cat). x.users) (ok-same c d (apply_all c []) refl e)))
-users_apply_all (x ∷ deltas) c d e = let step = after_first (apply c x) deltas d e in users_then c step.0 d (users_apply c step.0 x step.1) (users_apply_all deltas step.0 d step.2)
+users_apply_all (x ∷ deltas) c d e =
+    let step = after_first (apply c x) deltas d e in users_then c step.0 d (users_apply c step.0 x step.1) (users_apply_all deltas step.0 d step.2)
 
 -- ---- who is logged in
 
@@ -113,7 +117,8 @@ pub sessions_stay : (c d : Cat) (places : Places) → KeepsUsers c d → AreUser
 sessions_stay c d places keeps are = sessions_of-names (user_name d) (user_name c) places (λ n id is. keeps.names id (are n id is))
 
 -- the state behind these rows
-pub state_behind : (c fin : Cat) (places : Places) (g : Grid) → KeepsUsers c fin → AreUsers c places → grid_of fin ≡ g → record (state_by c places) { grid = g } ≡ state_by fin places
-state_behind c fin places g keeps are grid =
-    ap (λ (x : Grid). (let s : State = record { grid = x; rules = []; sessions = sessions_of (user_name c) places } in s)) (sym grid)
-    ∙ ap (λ (x : Sessions). (let s : State = record { grid = grid_of fin; rules = []; sessions = x } in s)) (sym (sessions_stay c fin places keeps are))
+pub state_behind : (c fin : Cat) (rules : List Rule) (places : Places) (g : Grid) → KeepsUsers c fin → AreUsers c places → grid_of fin ≡ g
+    → record (state_by c rules places) { grid = g } ≡ state_by fin rules places
+state_behind c fin rules places g keeps are grid =
+    ap (λ (x : Grid). (let s : State = record { grid = x; rules = rules; sessions = sessions_of (user_name c) places } in s)) (sym grid)
+    ∙ ap (λ (x : Sessions). (let s : State = record { grid = grid_of fin; rules = rules; sessions = x } in s)) (sym (sessions_stay c fin places keeps are))

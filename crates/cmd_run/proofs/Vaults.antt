@@ -34,7 +34,8 @@ vault_after c d (delta.Resource r) some is = where_kept _ 15 _ d (λ fits. some)
 vault_after c d (delta.Rules text) some is = let same : record c { rules = text } ≡ d = cc in subst (λ (c : Cat). 0 < c.numbers.next_vault) same some
 vault_after c d (delta.Orphan r) some is = where_kept _ 17 _ d (λ fits. some) is
 vault_after c d (delta.NoOrphan vault) some is = where_kept _ 18 _ d (λ fits. some) is
-vault_after c d (delta.Numbers n) some is = where_kept (numbers_fit c n) 19 _ d (λ fits. ltb-true 0 n.next_vault (first_of (nat_lt 0 n.next_vault) (nat_le c.numbers.next_vault n.next_vault) fits)) is
+vault_after c d (delta.Numbers n) some is =
+    where_kept (numbers_fit c n) 19 _ d (λ fits. ltb-true 0 n.next_vault (first_of (nat_lt 0 n.next_vault) (nat_le c.numbers.next_vault n.next_vault) fits)) is
 vault_after c d (delta.Pending p) some is = where_kept _ 20 _ d (λ fits. some) is
 vault_after c d delta.NoPending some is = where_kept _ 21 _ d (λ fits. some) is
 

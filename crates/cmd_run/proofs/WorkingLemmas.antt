@@ -44,7 +44,8 @@ module _ (s : Server) (session user : ℕ) (has : user_of (at s.sessions session
   login = sessions_of-user (user_name s.store.cat) s.sessions session user has
 
   -- more bytes were promised than an object may have
-  pub says_too_large : (op : Operation) (count : ℕ) → nat_le count object_size ≡ false → SaysOnly now (Ok (session, works op count)) (end.Refused (refusal.TooLarge object_size)) now
+  pub says_too_large : (op : Operation) (count : ℕ) → nat_le count object_size ≡ false
+      → SaysOnly now (Ok (session, works op count)) (end.Refused (refusal.TooLarge object_size)) now
   says_too_large op count more = record {
     d = refused_at_once now from (refusal.TooLarge object_size);
     does_so = with_login now session (works op count) [] who login ∙ too_much now who op count from more;
@@ -58,7 +59,8 @@ module _ (s : Server) (session user : ℕ) (has : user_of (at s.sessions session
 -- ---- what was read
 
 -- what it asks for, where its verb is known
-pub verb_asks : (at : State) (asked : Result model.Request Refusal) (body : Text) (request : Request) (r : model.Request) (v : Verb) → asked ≡ Ok r → r.verb ≡ v → AsksForRequest at asked body request
+pub verb_asks : (at : State) (asked : Result model.Request Refusal) (body : Text) (request : Request) (r : model.Request) (v : Verb) → asked ≡ Ok r
+    → r.verb ≡ v → AsksForRequest at asked body request
     → AsksForVerb at r.session v body request
 verb_asks at asked body request r v is verb_is asks =
     let A : Result model.Request Refusal → Type 0 = λ a. AsksForRequest at a body request in

@@ -1,11 +1,11 @@
 -- The operations of verbs.
-use Rattle.std.proofs.Common.{◌≡◌, ℕ, Bool, true, false, Option, Ok, Err, refl, ◌∙◌, ap, subst}
+use Rattle.std.proofs.Common.{◌≡◌, ℕ, Bool, true, false, Ok, Err, refl, ◌∙◌, ap, subst}
 use Rattle.std.specs.Prelude.{nat_le}
 use Rattle.std.specs.Bool.{MatchBool}
 use Rattle.grid_model.specs.Limits.{object_size}
 use Rattle.grid_model.specs.Names.{Path, Text}
 use Rattle.grid_model.specs.Operations.Table.{Operation, mkuser, mkgroup, mkdir, rmdir, mv, chmod, inherit, addmember, rmmember, mkresc, addchild, modresc}
-use Rattle.grid_model.specs.Operations.Table.{put, repl, chksum, trim, rm, addmeta, rmmeta}
+use Rattle.grid_model.specs.Operations.Table.{put, get, repl, chksum, trim, rm, addmeta, rmmeta}
 use Rattle.grid_model.specs.Orders.{Order, works}
 use Rattle.grid_model.specs.Runs.{Request}
 use Rattle.grid_model.specs.Sessions.{State}
@@ -24,17 +24,18 @@ use Rattle.cmd_run.proofs.Meant.{order_of}
 -- one that is none of these
 pub is_no_other : (v : Verb) → ((u : Text) → v ≡ verb.Login u → ⊥) → (v ≡ verb.Logout → ⊥) → (v ≡ verb.Quit → ⊥) → (v ≡ verb.Sweep → ⊥)
     → ((p : Path) → v ≡ verb.Ls p → ⊥) → ((k : ItemKind) (n : Text) → v ≡ verb.LsMeta k n → ⊥) → ((text : Text) → v ≡ verb.Query text → ⊥)
-    → ((text : Text) → v ≡ verb.Exec text → ⊥) → ((p : Path) (o : Option Text) → v ≡ verb.Get p o → ⊥) → IsNoOther v
-is_no_other (verb.Login u) n0 n1 n2 n3 n4 n5 n6 n7 n8 = absurd (n0 u refl)
-is_no_other verb.Logout n0 n1 n2 n3 n4 n5 n6 n7 n8 = absurd (n1 refl)
-is_no_other verb.Quit n0 n1 n2 n3 n4 n5 n6 n7 n8 = absurd (n2 refl)
-is_no_other verb.Sweep n0 n1 n2 n3 n4 n5 n6 n7 n8 = absurd (n3 refl)
-is_no_other (verb.Ls p) n0 n1 n2 n3 n4 n5 n6 n7 n8 = absurd (n4 p refl)
-is_no_other (verb.LsMeta k n) n0 n1 n2 n3 n4 n5 n6 n7 n8 = absurd (n5 k n refl)
-is_no_other (verb.Query text) n0 n1 n2 n3 n4 n5 n6 n7 n8 = absurd (n6 text refl)
-is_no_other (verb.Exec text) n0 n1 n2 n3 n4 n5 n6 n7 n8 = absurd (n7 text refl)
-is_no_other (verb.Get p o) n0 n1 n2 n3 n4 n5 n6 n7 n8 = absurd (n8 p o refl)
-is_no_other other n0 n1 n2 n3 n4 n5 n6 n7 n8 = tt
+    → ((text : Text) → v ≡ verb.Exec text → ⊥) → ((count : ℕ) → v ≡ verb.Rules count → ⊥) → (v ≡ verb.ShowRules → ⊥) → IsNoOther v
+is_no_other (verb.Login u) n0 n1 n2 n3 n4 n5 n6 n7 n8 n9 = absurd (n0 u refl)
+is_no_other verb.Logout n0 n1 n2 n3 n4 n5 n6 n7 n8 n9 = absurd (n1 refl)
+is_no_other verb.Quit n0 n1 n2 n3 n4 n5 n6 n7 n8 n9 = absurd (n2 refl)
+is_no_other verb.Sweep n0 n1 n2 n3 n4 n5 n6 n7 n8 n9 = absurd (n3 refl)
+is_no_other (verb.Ls p) n0 n1 n2 n3 n4 n5 n6 n7 n8 n9 = absurd (n4 p refl)
+is_no_other (verb.LsMeta k n) n0 n1 n2 n3 n4 n5 n6 n7 n8 n9 = absurd (n5 k n refl)
+is_no_other (verb.Query text) n0 n1 n2 n3 n4 n5 n6 n7 n8 n9 = absurd (n6 text refl)
+is_no_other (verb.Exec text) n0 n1 n2 n3 n4 n5 n6 n7 n8 n9 = absurd (n7 text refl)
+is_no_other (verb.Rules count) n0 n1 n2 n3 n4 n5 n6 n7 n8 n9 = absurd (n8 count refl)
+is_no_other verb.ShowRules n0 n1 n2 n3 n4 n5 n6 n7 n8 n9 = absurd (n9 refl)
+is_no_other other n0 n1 n2 n3 n4 n5 n6 n7 n8 n9 = tt
 
 -- what it means is the operation that it does
 pub means_work : (at : State) (v : Verb) (body : Text) (order : Order) → IsNoOther v → is_built v ≡ true → MeansOrder texts at v body order
@@ -54,11 +55,13 @@ means_work at (verb.ChMod level name path) body order mine built m = (chmod leve
 means_work at (verb.Inherit path) body order mine built m = (inherit path true, refl, m)
 means_work at (verb.NoInherit path) body order mine built m = (inherit path false, refl, m)
 means_work at (verb.Put path resource mode count) body order mine built m = (put path resource mode body, refl, m)
+means_work at (verb.Get path resource) body order mine built m = (get path resource, refl, m)
 means_work at (verb.Repl path resource) body order mine built m = (repl path resource, refl, m)
 means_work at (verb.ChkSum path) body order mine built m = (chksum path, refl, m)
 means_work at (verb.Trim path resource) body order mine built m = (trim path resource, refl, m)
 means_work at (verb.Rm path) body order mine built m = (rm path, refl, m)
-means_work at (verb.AddMeta kind name a v u) body order mine built m = (addmeta (record { of = m.0; attribute = a; value = v; unit = u }), (m.0, m.1, refl), m.2)
+means_work at (verb.AddMeta kind name a v u) body order mine built m =
+    (addmeta (record { of = m.0; attribute = a; value = v; unit = u }), (m.0, m.1, refl), m.2)
 means_work at (verb.RmMeta kind name a v u) body order mine built m = (rmmeta (record { of = m.0; attribute = a; value = v; unit = u }), (m.0, m.1, refl), m.2)
 means_work at (verb.Login user) body order mine built m = absurd mine
 means_work at verb.Logout body order mine built m = absurd mine
@@ -68,7 +71,8 @@ means_work at (verb.Ls path) body order mine built m = absurd mine
 means_work at (verb.LsMeta kind name) body order mine built m = absurd mine
 means_work at (verb.Query text) body order mine built m = absurd mine
 means_work at (verb.Exec text) body order mine built m = absurd mine
-means_work at (verb.Get path resource) body order mine built m = absurd mine
+means_work at (verb.Rules count) body order mine built m = absurd mine
+means_work at verb.ShowRules body order mine built m = absurd mine
 means_work at other body order mine built m = absurd (cc built)
 
 -- there is one where its words are good
@@ -81,12 +85,15 @@ work_of at v body mine built good =
 module _ (at : State) (session : ℕ) (v : Verb) (held : Text) (request : Request) (mine : IsNoOther v) (asks : AsksForVerb at session v held request) where
   -- what one asks for that is not built
   pub asks_unbuilt : is_built v ≡ false → request ≡ Err UnknownCommand
-  asks_unbuilt not_built = let M : Bool → Type 0 = λ b. MatchBool b ((order : Order) × (request ≡ Ok (session, order)) × MeansHeld at v held order) (request ≡ Err UnknownCommand) in
+  asks_unbuilt not_built =
+      let M : Bool → Type 0 = λ b. MatchBool b ((order : Order) × (request ≡ Ok (session, order)) × MeansHeld at v held order) (request ≡ Err UnknownCommand) in
       subst M not_built asks
 
   module _ (built : is_built v ≡ true) where
     ordered : (order : Order) × (request ≡ Ok (session, order)) × MeansHeld at v held order
-    ordered = let M : Bool → Type 0 = λ b. MatchBool b ((order : Order) × (request ≡ Ok (session, order)) × MeansHeld at v held order) (request ≡ Err UnknownCommand) in
+    ordered =
+        let M : Bool → Type 0 = λ b. MatchBool b ((order : Order) × (request ≡ Ok (session, order)) × MeansHeld at v held order) (request ≡ Err UnknownCommand)
+        in
         subst M built asks
 
     -- what one asks for that is built

@@ -1,11 +1,12 @@
 -- What is put on the sink.
-use Rattle.std.specs.Prelude.{◌≡◌, ℕ, ◌+◌, ◌≤◌, List, ◌++◌, Result, Ok, Err, IsTrue, flat_map, ⊤}
+use Rattle.std.specs.Prelude.{◌≡◌, ℕ, ◌+◌, ◌≤◌, List, [], ◌++◌, Result, Ok, Err, IsTrue, flat_map, ⊤}
 use Rattle.grid_outside.specs.Device.{Acts, IsSettled}
 use Rattle.grid_outside.specs.Fault.{Rose}
 use Rattle.grid_outside.specs.Sink.{SinkState, AddsPart}
 use Rattle.grid_model.specs.Names.{Text}
-use Rattle.grid_model.specs.Replies.{row_line, end_line}
+use Rattle.grid_model.specs.Replies.{row_line, end_line, rest_lines}
 use Rattle.grid_model.specs.declared.replies.End.{End}
+use Rattle.grid_model.specs.declared.replies.Reply.{Reply}
 use Rattle.cmd_run.specs.declared.server.Ending.{Ending}
 use Rattle.cmd_run.specs.declared.server.Ending.TheVariants.{Sink}
 
@@ -24,3 +25,11 @@ PutEnds text old new (Err other) = ⊥
 -- rows, and an end behind them
 abbrev pub shown_lines : ℕ → List (List Text) → End → Text
 shown_lines n rows e = flat_map (row_line n) rows ++ end_line n e
+
+-- a reply without marks that has nothing but a text, rows and its end
+abbrev pub unmarked : Text → List (List Text) → End → Reply
+unmarked shown rows e = record { marks = []; shown = shown; passed = []; rows = rows; end = e }
+
+-- and its lines
+abbrev pub said_lines : ℕ → Text → List (List Text) → End → Text
+said_lines n shown rows e = rest_lines n (unmarked shown rows e)

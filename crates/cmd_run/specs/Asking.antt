@@ -1,5 +1,5 @@
 -- What a request asks for that was read.
-use Rattle.std.specs.Prelude.{◌≡◌, ℕ, ◌<◌, Bool, true, false, nat_le, Result, Ok, Err}
+use Rattle.std.specs.Prelude.{◌≡◌, ℕ, ◌<◌, ◌≤◌, Bool, true, false, length, nat_le, Result, Ok, Err}
 use Rattle.std.specs.Bool.{MatchBool}
 use Rattle.grid_model.specs.Names.{Text}
 use Rattle.grid_model.specs.Grid.{Thing}
@@ -21,9 +21,11 @@ use Rattle.cmd_read.specs.Orders.{MeansOrder, NamesThing, promised}
 use Rattle.row_run.specs.Verbs.{HasGoodWords}
 use Rattle.grid_headline.specs.Reads.{is_built, texts}
 
--- The verb means this order with a body of which this is held: all of it, where no more bytes were promised than an object may have.
+-- The verb means this order with a body that has as many bytes as were promised, of which this is held: all of it, where no more were promised
+-- than an object may have.
 abbrev pub MeansHeld : State → Verb → Text → Order → Type 0
-MeansHeld at verb held order = (body : Text) × MeansOrder texts at verb body order × (nat_le (promised verb) object_size ≡ true → body ≡ held)
+MeansHeld at verb held order =
+    (body : Text) × MeansOrder texts at verb body order × (nat_le (promised verb) object_size ≡ true → body ≡ held) × (promised verb ≤ length body)
 
 -- The verb asks in the session for this request where the state is so; one that is not built is refused as unknown.
 abbrev pub AsksForVerb : State → ℕ → Verb → Text → runs.Request → Type 0

@@ -1,5 +1,5 @@
 -- A call by itself that a request asks for, and what it comes to.
-use Rattle.std.specs.Prelude.{◌≡◌, ℕ, true, [], Some, Result, Ok, Err, map}
+use Rattle.std.specs.Prelude.{◌≡◌, ℕ, true, List, [], Some, Result, Ok, Err, map, ⊤}
 use Rattle.grid_model.specs.Grid.{Grid}
 use Rattle.grid_model.specs.Names.{Text}
 use Rattle.grid_model.specs.Obeying.{exec_scope}
@@ -7,7 +7,7 @@ use Rattle.grid_model.specs.Orders.{executes}
 use Rattle.grid_model.specs.Parsed.{call_of, plain_call}
 use Rattle.grid_model.specs.Refusing.{Or}
 use Rattle.grid_model.specs.RowGrids.{grid_of, user_name}
-use Rattle.grid_model.specs.RuleText.{CallText}
+use Rattle.grid_model.specs.RuleText.{CallText, Rule}
 use Rattle.grid_model.specs.Runs.{Request}
 use Rattle.grid_model.specs.Values.{computed, is_short, value}
 use Rattle.grid_model.specs.declared.calls.Call.{Call}
@@ -29,9 +29,9 @@ use Rattle.cmd_run.specs.declared.server.Ending.{Ending}
 use Rattle.cmd_run.specs.declared.server.Ending.TheVariants as ending
 use Rattle.cmd_run.specs.declared.server.Server.{Server}
 
--- the request asks in the session for what the text says as a call by itself
-abbrev pub CallOf : ℕ → Text → Request → Type 0
-CallOf session text request = (call : Or CallText) × ReadsCall [] text call × (request ≡ Ok (session, executes call))
+-- the request asks in the session for what the text says as a call by itself, where there are these rules
+abbrev pub CallOf : List Rule → ℕ → Text → Request → Type 0
+CallOf rules session text request = (call : Or CallText) × ReadsCall rules text call × (request ≡ Ok (session, executes call))
 
 -- the call is read so, or there was no memory
 abbrev pub IsReadSo : Or CallText → Result Call0 PlanError → Type 0
@@ -70,3 +70,8 @@ ending_by called.Disk = ending.Disk
 ending_by called.Sink = ending.Sink
 ending_by called.Memory = ending.Memory
 ending_by (called.Worn what place) = ending.Worn what place
+
+-- how such a request ends
+abbrev pub ended_by : Result ⊤ calls.Ending → Result ⊤ Ending
+ended_by (Ok done) = Ok done
+ended_by (Err e) = Err (ending_by e)

@@ -3,9 +3,9 @@ pub mod Asking
 pub mod Calls
 pub mod Errors
 pub mod Fits
-pub mod Gets
 pub mod Keeps
 pub mod Logins
 pub mod Obeys
+pub mod Rules
 pub mod Sweeping
 pub mod Works

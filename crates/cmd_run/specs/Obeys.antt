@@ -1,5 +1,5 @@
 -- What the handling of one request leaves.
-use Rattle.std.specs.Prelude.{◌≡◌, ℕ, ◌^◌, ◌<◌, List, [], Option, None, Result, Ok, Err, IsTrue, ⊤}
+use Rattle.std.specs.Prelude.{◌≡◌, ◌≢◌, ◌⊎◌, ℕ, ◌^◌, ◌<◌, List, [], Option, None, Result, Ok, Err, IsTrue, ⊤}
 use Rattle.grid_outside.specs.Device.{IsSettled}
 use Rattle.grid_outside.specs.Disk.{DiskState}
 use Rattle.grid_outside.specs.declared.outside.Wear.{Wear}
@@ -65,21 +65,31 @@ abbrev pub RemembersDeed : Text → Cat → ℕ → DiskState → DiskState → 
 RemembersDeed line before from old new = IsTrue old.tells → IsSettled old → (t : ℕ) (main : Text) (c : Cat)
     → from < t → new.left t main → StandsFor main c → IsNoted line c.pending × KeepsNamed before c
 
--- the request makes files
-abbrev pub AsksForFile : Request → Type 0
-AsksForFile (Ok (session, order)) = MakesFile order
-AsksForFile (Err r) = ⊥
+-- the request, or a rule that it has run, may make files
+abbrev pub MayMakeFile : State → Request → Type 0
+MayMakeFile at (Ok (session, order)) = MakesFile order ⊎ (at.rules ≢ [])
+MayMakeFile at (Err r) = ⊥
 
--- what has run out: the numbers of vault files, in the catalogue on main, or the room behind the log
+-- what has run out: the numbers of vault files, in the catalogue on main, where the request or a rule may make files, or the room behind the log
 abbrev pub IsWornAt : {B : Type 0} → World B → Server → Request → ℕ → Wear → Type 0
 IsWornAt new before request place wear.Runs = ⊥
 IsWornAt new before request place wear.Vaults =
-    (last_vault < place) × (IsTrue new.main.tells → (c : Cat) × StandsFor new.main.holds c × (c.numbers.next_vault ≡ place)) × AsksForFile request
+    (last_vault < place) × (IsTrue new.main.tells → (c : Cat) × StandsFor new.main.holds c × (c.numbers.next_vault ≡ place))
+    × MayMakeFile (state_of before) request
 IsWornAt new before request place wear.Log = (2 ^ 62 < place) × (IsTrue new.main.tells → ClosesAt new.main.holds place)
 
 -- a run that ended for that has run out of it
 abbrev pub IsWorn : {B : Type 0} → World B → Server → Request → Result ⊤ Ending → Type 0
 IsWorn new before request result = (what : Wear) (place : ℕ) → result ≡ Err (Worn what place) → IsWornAt new before request place what
+
+-- a run does not end for want of numbers or room
+abbrev pub LacksNothing : Result ⊤ Ending → Type 0
+LacksNothing result = (what : Wear) (place : ℕ) → result ≡ Err (Worn what place) → ⊥
+
+-- or it ends for want of room behind the log alone
+abbrev pub LacksRoomAlone : DiskState → DiskState → Result ⊤ Ending → Type 0
+LacksRoomAlone old new result = (what : Wear) (place : ℕ) → result ≡ Err (Worn what place)
+    → (what ≡ wear.Log) × (2 ^ 62 < place) × (IsTrue old.tells → ClosesAt new.holds place)
 
 -- A request is refused without a mark.
 pub record IsRefusedAtOnce (at : State) (request : Request) : Type 0 where
@@ -88,16 +98,20 @@ pub record IsRefusedAtOnce (at : State) (request : Request) : Type 0 where
   pub does_so : does at request [] ≡ gives d
   pub reply_is : d.reply ≡ record { marks = []; shown = []; passed = []; rows = []; end = end.Refused why }
 
--- A request is answered with these rows and this end alone, and leaves this state with the same grid.
-pub record SaysRows (at : State) (request : Request) (rows : List (List Text)) (e : End) (after : State) : Type 0 where
+-- A request is answered with this text, these rows and this end alone, and leaves this state with the same grid.
+pub record Says (at : State) (request : Request) (shown : Text) (rows : List (List Text)) (e : End) (after : State) : Type 0 where
   pub d : Done
   pub does_so : does at request [] ≡ gives d
-  pub reply_is : d.reply ≡ record { marks = []; shown = []; passed = []; rows = rows; end = e }
+  pub reply_is : d.reply ≡ record { marks = []; shown = shown; passed = []; rows = rows; end = e }
   pub all : d.left ≡ []
   pub state : d.state ≡ after
   pub grid : d.state.grid ≡ at.grid
   pub by_rows : EndsByRows e
 
--- the same without rows
+-- the same without a text
+abbrev pub SaysRows : State → Request → List (List Text) → End → State → Type 0
+SaysRows at request rows e after = Says at request [] rows e after
+
+-- and with neither
 abbrev pub SaysOnly : State → Request → End → State → Type 0
-SaysOnly at request e after = SaysRows at request [] e after
+SaysOnly at request e after = Says at request [] [] e after

@@ -9,7 +9,7 @@ use Rattle.grid_model.specs.declared.requests.Verb.{Verb}
 use Rattle.grid_model.specs.declared.requests.Verb.TheVariants as verb
 use Rattle.row_run.specs.Verbs.{WorksBy}
 
--- where the verb is built it does an operation, and sends no bytes
+-- where the verb is built it does an operation
 abbrev pub IsNoOther : Verb → Type 0
 IsNoOther (verb.Login user) = ⊥
 IsNoOther verb.Logout = ⊥
@@ -19,7 +19,8 @@ IsNoOther (verb.Ls path) = ⊥
 IsNoOther (verb.LsMeta kind name) = ⊥
 IsNoOther (verb.Query text) = ⊥
 IsNoOther (verb.Exec text) = ⊥
-IsNoOther (verb.Get path resource) = ⊥
+IsNoOther (verb.Rules count) = ⊥
+IsNoOther verb.ShowRules = ⊥
 IsNoOther other = Unit {0}
 
 -- The request is the operation in the session that the verb does with this body, and its line promised no more bytes than an object may

@@ -1,12 +1,12 @@
-ghost use Rattle.std.specs.Prelude.{◌≡◌, ◌+◌, ◌^◌, ◌<◌, ◌≤◌, [], ◌++◌, IfOk, IsTrue};
-ghost use Rattle.grid_model.specs.Replies.{mark_line as mark_text, end_line};
+ghost use Rattle.std.specs.Prelude.{◌≡◌, ◌+◌, ◌^◌, ◌<◌, ◌≤◌, [], IfOk, IsTrue};
+ghost use Rattle.grid_model.specs.Replies.{end_line};
 ghost use Rattle.std.specs.List.{list_all};
 ghost use Rattle.grid_model.specs.Writable.{is_word, is_writable_end};
-ghost use Rattle.cmd_run.specs.Answers.{IsTextPut, PutEnds, shown_lines};
+ghost use Rattle.cmd_run.specs.Answers.{IsTextPut, PutEnds, said_lines, shown_lines, unmarked};
 
 use crate::Ending;
-use cmd_reply::{mark_line, rest};
-use grid_model::{End, Mark, Marks, Passeds, Reply, Rows, Text, Texts};
+use cmd_reply::rest;
+use grid_model::{End, Marks, Passeds, Reply, Rows, Text, Texts};
 use grid_outside::{Moments, Sink, SinkFault};
 use std::alloc::{AllocError, Global};
 
@@ -34,8 +34,9 @@ pub(crate) fn end_text(alloc: Global, number: u64, end: End) -> Result<Text, All
     requires { IsTrue (is_writable_end end) }
     ensures { IfOk result (λ text. text ≡ end_line number end) }
 {
+    let shown = Text::from_vec(Vec::new(alloc));
     let rows = Rows::from_vec(Vec::new(alloc));
-    rest(alloc, number, &of_rows(alloc, rows, end))
+    rest(alloc, number, &unmarked(alloc, shown, rows, end))
 }
 
 /// Rows, and ok behind them. Fails for want of memory alone.
@@ -43,23 +44,16 @@ pub(crate) fn rows_text(alloc: Global, number: u64, rows: Rows) -> Result<Text, 
     requires { IsTrue (list_all (list_all is_word) rows) }
     ensures { IfOk result (λ text. text ≡ shown_lines number rows (End.Done [])) }
 {
-    rest(alloc, number, &of_rows(alloc, rows, well(alloc)))
+    let shown = Text::from_vec(Vec::new(alloc));
+    rest(alloc, number, &unmarked(alloc, shown, rows, well(alloc)))
 }
 
-/// A mark and the last line behind it. Fails for want of memory alone.
-pub(crate) fn mark_and_end(
-    alloc: Global,
-    number: u64,
-    mark: &Mark,
-    end: End,
-) -> Result<Text, AllocError>
-    requires { IsTrue (is_writable_end end) }
-    ensures { IfOk result (λ text. text ≡ mark_text number mark.now ++ end_line number end) }
+/// A text as data lines, and ok behind them. Fails for want of memory alone.
+pub(crate) fn text_shown(alloc: Global, number: u64, shown: Text) -> Result<Text, AllocError>
+    ensures { IfOk result (λ text. text ≡ said_lines number shown [] (End.Done [])) }
 {
-    let mut text = mark_line(alloc, number, mark)?.into_vec();
-    let last = end_text(alloc, number, end)?;
-    text.extend_from_slice(last.as_slice())?;
-    Ok(Text::from_vec(text))
+    let rows = Rows::from_vec(Vec::new(alloc));
+    rest(alloc, number, &unmarked(alloc, shown, rows, well(alloc)))
 }
 
 /// Ok, and nothing to say.
@@ -70,13 +64,13 @@ pub(crate) fn well(alloc: Global) -> End
     End::Done(Texts::from_vec(Vec::new(alloc)))
 }
 
-// A reply that has nothing but rows and its end.
-fn of_rows(alloc: Global, rows: Rows, end: End) -> Reply
-    ensures { result ≡ record { marks = []; shown = []; passed = []; rows = rows; end = end } }
+// A reply without marks that has nothing but a text, rows and its end.
+fn unmarked(alloc: Global, shown: Text, rows: Rows, end: End) -> Reply
+    ensures { result ≡ unmarked shown rows end }
 {
     Reply {
         marks: Marks::from_vec(Vec::new(alloc)),
-        shown: Text::from_vec(Vec::new(alloc)),
+        shown,
         passed: Passeds::from_vec(Vec::new(alloc)),
         rows,
         end,

@@ -1,4 +1,4 @@
-ghost use Rattle.std.specs.Prelude.{◌≡◌, false, [], IfOk, IsErrOf};
+ghost use Rattle.std.specs.Prelude.{◌≡◌, false, IfOk, IsErrOf};
 ghost use Rattle.grid_model.specs.Completing.{IsOfGrid};
 ghost use Rattle.grid_model.specs.Grid.{Grid};
 ghost use Rattle.grid_model.specs.Obeying.{exec_scope, no_env};
@@ -8,6 +8,7 @@ ghost use Rattle.grid_model.specs.RowGrids.{user_name};
 ghost use Rattle.grid_model.specs.RuleText.{CallText};
 ghost use Rattle.grid_model.specs.Values.{computed, is_short};
 ghost use Rattle.grid_model.specs.declared.refusal.Refusal.{Refusal as RefusalOf};
+ghost use Rattle.chain_core.specs.Seen.{plain_rules};
 ghost use Rattle.chain_run.specs.Steps.{FitsFail, FitsInt64, FitsInt64Alone, terms_of};
 ghost use Rattle.rule_cond.specs.Scopes.{env_of};
 ghost use Rattle.rule_parse.specs.RuleOrders.{ReadsCall};
@@ -20,10 +21,10 @@ use rule_cond::{ComputeError, Env, Scope, compute};
 use rule_parse::{RuleError, read_call};
 use std::alloc::{AllocError, Global};
 
-/// The call that a text spells, which may be made by itself where there are no rules. Refused as `BadRule`, and fails for
+/// The call that a text spells, which may be made by itself where there are these rules. Refused as `BadRule`, and fails for
 /// want of memory.
-pub(crate) fn call_from(alloc: Global, text: &Text) -> Result<Call0, PlanError>
-    ensures is { (call : Or CallText) → ReadsCall [] text.now call → IsReadSo call result }
+pub(crate) fn call_from(alloc: Global, rules: &Rules, text: &Text) -> Result<Call0, PlanError>
+    ensures is { (call : Or CallText) → ReadsCall (plain_rules rules.now) text.now call → IsReadSo call result }
     ensures of_grid { (r : RefusalOf) → IsErrOf result (PlanError.Refused r) → IsOfGrid r }
     ensures fits { IfOk result (λ call. FitsFail (call_of call)) }
 {
@@ -31,8 +32,7 @@ pub(crate) fn call_from(alloc: Global, text: &Text) -> Result<Call0, PlanError>
         Ok(call) => call,
         Err(error) => return Err(unread(error)),
     };
-    let rules = Rules::from_vec(Vec::new(alloc));
-    match check_call(alloc, &rules, &call) {
+    match check_call(alloc, rules, &call) {
         Ok(()) => Ok(call),
         Err(error) => Err(unchecked(error)),
     }

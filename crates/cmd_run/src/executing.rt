@@ -1,4 +1,4 @@
-ghost use Rattle.std.specs.Prelude.{◌≡◌, ℕ, ◌+◌, ◌<◌, ◌≤◌, ◌^◌, [], Some, Err, Ok, IsErrOf, IsTrue, vec_len};
+ghost use Rattle.std.specs.Prelude.{◌≡◌, ℕ, ◌+◌, ◌<◌, ◌≤◌, ◌^◌, Some, Err, Ok, IsErrOf, IsTrue, vec_len};
 ghost use Rattle.grid_outside.specs.Source.{SourceState};
 ghost use Rattle.grid_model.specs.Obeying.{no_env};
 ghost use Rattle.grid_model.specs.Orders.{executes};
@@ -14,17 +14,15 @@ ghost use Rattle.rule_cond.specs.Scopes.{env_of};
 ghost use Rattle.run_laws.specs.Around.{around};
 ghost use Rattle.run_laws.specs.Passes.{AreReady, CallsPass};
 ghost use Rattle.run_laws.specs.Steps.{RequestStep};
-ghost use Rattle.cmd_run.specs.Calls.{CallOf, IsCalled, begun_command, ending_by};
+ghost use Rattle.cmd_run.specs.Calls.{CallOf, IsCalled};
 
 use crate::calling::{call_from, computed_call, env_by};
-use crate::noting::word_is_text;
+use crate::noting::ended_by;
 use crate::{Ending, Server};
-use chain_core::RuleBase;
-use grid_model::{Call, Call0, End, Failure, Marks, Passeds, PlanError, Refusal, Rules, Text};
+use grid_model::{Call, Call0, End, Failure, PlanError, Refusal, Text};
 use grid_outside::{Ambient, Disk, Outside, Plugin, Sink, Wear};
 use rule_cond::{ComputeError, Env};
 use rule_run::execute;
-use service_run::{Command, Ending as CallEnding};
 use std::alloc::Global;
 
 impl Server {
@@ -48,15 +46,15 @@ impl Server {
         requires line { IsTrue (is_word line) }
         requires slots { self.old.store.cat.stores ≡ vec_len outside.old.stores }
         requires ready { AreReady D.disk P.plugin K.sink (2 ^ 79) (record { outside = outside.old; sink = sink.old }) }
-        ensures obeys { (source : SourceState) (request : Request) → CallOf session text.now request →
+        ensures obeys { (source : SourceState) (request : Request) → CallOf (state_of self.old).rules session text.now request →
             Obeys (around D.disk A.ambient P.plugin outside.old (K.sink sink.old) source)
             (around D.disk A.ambient P.plugin outside.new (K.sink sink.new) source)
             self.old number request result self.new }
-        ensures worn { (source : SourceState) (request : Request) → CallOf session text.now request →
+        ensures worn { (source : SourceState) (request : Request) → CallOf (state_of self.old).rules session text.now request →
             IsWorn (around D.disk A.ambient P.plugin outside.new (K.sink sink.new) source) self.old request result }
         // Where the numbers of vault files have run out the request was begun.
         ensures dry { (place : ℕ) → result ≡ Err (Ending.Worn Wear.Vaults place) →
-            (source : SourceState) (request : Request) → CallOf session text.now request →
+            (source : SourceState) (request : Request) → CallOf (state_of self.old).rules session text.now request →
             RequestStep (around D.disk A.ambient P.plugin outside.old (K.sink sink.old) source)
             (around D.disk A.ambient P.plugin outside.new (K.sink sink.new) source)
             (state_of self.old) self.old.store.cat number request }
@@ -70,7 +68,7 @@ impl Server {
         let Some(user) = self.sessions.user(session) else {
             return self.say(alloc, outside, sink, number, End::Refused(Refusal::NoLogin));
         };
-        match call_from(alloc, text) {
+        match call_from(alloc, self.rules.rules(), text) {
             Ok(call) => { self.exec_call(alloc, outside, sink, number, session, user, &call, line) }
             Err(PlanError::Refused(refusal)) => {
                 self.say(alloc, outside, sink, number, End::Refused(refusal))
@@ -171,51 +169,17 @@ impl Server {
             (record { outside = outside.old; sink = sink.old }) (record { outside = outside.new; sink = sink.new }) }
         ensures drawn { outside.new.moments ≤ outside.old.moments + 2 ^ 79 }
     {
-        let Ok(rules) = RuleBase::new(alloc, Rules::from_vec(Vec::new(alloc))) else {
-            return Err(Ending::Memory);
-        };
-        let run = self.store.tables().numbers().run;
-        word_is_text(line.as_slice());
-        let command = begun_command(alloc, run, number, user, line);
-        match execute(
+        let command = self.begin(alloc, number, user, line);
+        let ran = execute(
             alloc,
             &mut self.store,
             outside,
             sink,
-            &rules,
+            &self.rules,
             command,
             call,
             env,
-        ) {
-            Ok(()) => Ok(()),
-            Err(error) => Err(ending_by(error)),
-        }
-    }
-}
-
-/// A command none of whose calls was made yet. It takes no memory.
-pub(crate) fn begun_command(alloc: Global, run: u64, number: u64, user: u32, line: Text) -> Command
-    ensures { result ≡ begun_command run number user line }
-{
-    Command {
-        run,
-        number,
-        user,
-        line,
-        marks: Marks::from_vec(Vec::new(alloc)),
-        passed: Passeds::from_vec(Vec::new(alloc)),
-        untold: Text::from_vec(Vec::new(alloc)),
-    }
-}
-
-/// How a run ends in a request whose calls ended so.
-pub(crate) fn ending_by(ending: CallEnding) -> Ending
-    ensures { result ≡ ending_by ending }
-{
-    match ending {
-        CallEnding::Disk => Ending::Disk,
-        CallEnding::Sink => Ending::Sink,
-        CallEnding::Memory => Ending::Memory,
-        CallEnding::Worn { what, at } => Ending::Worn { what, at },
+        );
+        ended_by(ran)
     }
 }

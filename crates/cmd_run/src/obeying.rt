@@ -68,7 +68,7 @@ impl Server {
             (around D.disk A.ambient P.plugin outside.new (K.sink sink.new) source)
             (state_of self.old) self.old.store.cat number request) }
         // Where a request that calls no rules is refused without a mark nothing is called but the sink.
-        ensures idle { (request : RequestOf) → AsksForRequest (state_of self.old) asked body request → CallsNoRules request →
+        ensures idle { (request : RequestOf) → AsksForRequest (state_of self.old) asked body request → CallsNoRules (state_of self.old) request →
             IsRefusedAtOnce (state_of self.old) request →
             (outside.new.main ≡ outside.old.main) × (outside.new.stores ≡ outside.old.stores) }
         ensures drawn { outside.new.moments ≤ outside.old.moments + 2 ^ 79 }
@@ -88,13 +88,14 @@ impl Server {
             Verb::LsMeta { item, name } => {
                 self.show_tags(alloc, outside, sink, number, session, item, &name)
             }
-            Verb::Query { text } => self.query(alloc, outside, sink, number, session, &text),
+            Verb::Query { text } => self.query(alloc, outside, sink, number, session, &text, line),
             Verb::Exec { text } => self.exec(alloc, outside, sink, number, session, &text, line),
             Verb::Ls { path } => self.list(alloc, outside, sink, number, session, &path),
-            Verb::Get { path, resource } => {
-                let asked = resource.as_ref();
-                self.get_for(alloc, outside, sink, number, session, &path, asked)
+            Verb::Rules { count } => {
+                let body = body.as_slice();
+                self.set_rules(alloc, outside, sink, number, session, count, body)
             }
+            Verb::ShowRules => self.show_rules(alloc, outside, sink, number, session),
             other => {
                 let body = body.as_slice();
                 self.work(alloc, outside, sink, number, session, &other, body, line)

@@ -9,16 +9,14 @@ ghost use Rattle.cmd_read.specs.Orders.{promised};
 ghost use Rattle.grid_headline.specs.Reads.{is_built};
 ghost use Rattle.run_laws.specs.Around.{around};
 ghost use Rattle.run_laws.specs.Passes.{AreReady, CallsPass};
-ghost use Rattle.run_laws.specs.Steps.{RequestStep};
+ghost use Rattle.run_laws.specs.Steps.{CallsNoRules, RequestStep};
 ghost use Rattle.row_run.specs.Verbs.{HasGoodWords, WorksBy};
 ghost use Rattle.cmd_run.specs.Asking.{AsksForVerb};
 ghost use Rattle.cmd_run.specs.Works.{IsNoOther, IsWorkOf};
 
-use crate::executing::{begun_command, ending_by};
-use crate::noting::word_is_text;
+use crate::noting::ended_by;
 use crate::{Ending, Server};
-use chain_core::RuleBase;
-use grid_model::{End, Refusal, Rules, Text, Verb};
+use grid_model::{End, Refusal, Text, Verb};
 use grid_outside::{Ambient, Disk, Outside, Plugin, Sink, Wear};
 use std::alloc::Global;
 use work_run::operate;
@@ -68,7 +66,8 @@ impl Server {
             (D.disk outside.old.main) (D.disk outside.new.main) outside.old.stores.items outside.new.stores.items }
         ensures passes { CallsPass D.disk P.plugin K.sink (IsErrOf result Ending.Disk) (IsErrOf result Ending.Sink)
             (record { outside = outside.old; sink = sink.old }) (record { outside = outside.new; sink = sink.new }) }
-        ensures idle { (request : Request) → AsksForVerb (state_of self.old) session verb.now body.now request → IsRefusedAtOnce (state_of self.old) request →
+        ensures idle { (request : Request) → AsksForVerb (state_of self.old) session verb.now body.now request →
+            CallsNoRules (state_of self.old) request → IsRefusedAtOnce (state_of self.old) request →
             (outside.new.main ≡ outside.old.main) × (outside.new.stores ≡ outside.old.stores) }
         ensures drawn { outside.new.moments ≤ outside.old.moments + 2 ^ 79 }
     {
@@ -125,29 +124,23 @@ impl Server {
             (D.disk outside.old.main) (D.disk outside.new.main) outside.old.stores.items outside.new.stores.items }
         ensures passes { CallsPass D.disk P.plugin K.sink (IsErrOf result Ending.Disk) (IsErrOf result Ending.Sink)
             (record { outside = outside.old; sink = sink.old }) (record { outside = outside.new; sink = sink.new }) }
-        ensures idle { (request : Request) → IsWorkOf session verb.now body.now request → IsRefusedAtOnce (state_of self.old) request →
+        ensures idle { (request : Request) → IsWorkOf session verb.now body.now request →
+            CallsNoRules (state_of self.old) request → IsRefusedAtOnce (state_of self.old) request →
             (outside.new.main ≡ outside.old.main) × (outside.new.stores ≡ outside.old.stores) }
         ensures drawn { outside.new.moments ≤ outside.old.moments + 2 ^ 79 }
     {
-        let Ok(rules) = RuleBase::new(alloc, Rules::from_vec(Vec::new(alloc))) else {
-            return Err(Ending::Memory);
-        };
-        let run = self.store.tables().numbers().run;
-        word_is_text(line.as_slice());
-        let command = begun_command(alloc, run, number, user, line);
-        match operate(
+        let command = self.begin(alloc, number, user, line);
+        let ran = operate(
             alloc,
             &mut self.store,
             outside,
             sink,
-            &rules,
+            &self.rules,
             command,
             verb,
             body,
-        ) {
-            Ok(()) => Ok(()),
-            Err(error) => Err(ending_by(error)),
-        }
+        );
+        ended_by(ran)
     }
 }
 
@@ -156,8 +149,6 @@ fn is_built(verb: &Verb) -> bool
     ensures { result ≡ is_built verb.now }
 {
     match verb {
-        Verb::Rules { count: _ } => false,
-        Verb::ShowRules => false,
         Verb::Open {
             path: _,
             resource: _,

@@ -1,24 +1,27 @@
-ghost use Rattle.std.specs.Prelude.{◌≡◌, ℕ, ◌+◌, ◌<◌, ◌≤◌, Ok, IsErrOf};
+ghost use Rattle.std.specs.Prelude.{◌≡◌, ℕ, ◌+◌, ◌^◌, ◌<◌, ◌≤◌, Some, Err, IsErrOf, IsTrue, vec_len};
 ghost use Rattle.grid_outside.specs.Source.{SourceState};
 ghost use Rattle.grid_model.specs.Runs.{Request};
+ghost use Rattle.grid_model.specs.Writable.{is_word};
 ghost use Rattle.grid_deed.specs.Safe.{KeepWhole};
+ghost use Rattle.sess.specs.Places.{at, user_of};
 ghost use Rattle.run_laws.specs.Around.{around};
-ghost use Rattle.cmd_run.specs.Asking.{QueryOf};
 ghost use Rattle.run_laws.specs.Passes.{AreReady, CallsPass};
+ghost use Rattle.run_laws.specs.Steps.{CallsNoRules, RequestStep};
+ghost use Rattle.cmd_run.specs.Asking.{QueryOf};
 
+use crate::noting::ended_by;
 use crate::{Ending, Server};
 use grid_model::{End, Refusal, Text};
-use grid_outside::{Ambient, Disk, Outside, Plugin, Sink};
-use query_parse::{QueryError, read_query};
-use query_run::query_rows;
-use std::alloc::{AllocError, Global};
+use grid_outside::{Ambient, Disk, Outside, Plugin, Sink, Wear};
+use std::alloc::Global;
+use work_run::ask;
 
 impl Server {
     ghost use Rattle.cmd_run.specs.declared.server.Server.{Server};
     ghost use Rattle.cmd_run.specs.Fits.{state_of, FitsMain};
-    ghost use Rattle.cmd_run.specs.Obeys.{Obeys, IsWorn, Remembers};
+    ghost use Rattle.cmd_run.specs.Obeys.{Obeys, IsWorn, RemembersDeed};
 
-    /// Shows what a query asks for to whoever is logged in to the session.
+    /// Shows what a query asks for, with its points, to whoever is logged in to the session.
     pub(crate) fn query<D: Disk, K: Sink, A: Ambient, P: Plugin>(
         &mut self,
         alloc: Global,
@@ -27,40 +30,87 @@ impl Server {
         number: u64,
         session: u8,
         text: &Text,
+        line: Text,
     ) -> Result<(), Ending>
         requires fits { FitsMain (D.disk outside.old.main) self.old }
         requires session { session < 64 }
-        requires ready { AreReady D.disk P.plugin K.sink 1 (record { outside = outside.old; sink = sink.old }) }
+        requires line { IsTrue (is_word line) }
+        requires slots { self.old.store.cat.stores ≡ vec_len outside.old.stores }
+        requires ready { AreReady D.disk P.plugin K.sink (2 ^ 79) (record { outside = outside.old; sink = sink.old }) }
         ensures obeys { (source : SourceState) (request : Request) → QueryOf session text.now request →
             Obeys (around D.disk A.ambient P.plugin outside.old (K.sink sink.old) source)
             (around D.disk A.ambient P.plugin outside.new (K.sink sink.new) source)
             self.old number request result self.new }
-        ensures worn { (source : SourceState) (request : Request)
-            → IsWorn (around D.disk A.ambient P.plugin outside.new (K.sink sink.new) source) self.old request result }
-        ensures remembers { Remembers self.old.store.cat outside.old.moments (D.disk outside.old.main) (D.disk outside.new.main) }
+        ensures worn { (source : SourceState) (request : Request) → QueryOf session text.now request →
+            IsWorn (around D.disk A.ambient P.plugin outside.new (K.sink sink.new) source) self.old request result }
+        // Where the numbers of vault files have run out the request was begun.
+        ensures dry { (place : ℕ) → result ≡ Err (Ending.Worn Wear.Vaults place) →
+            (source : SourceState) (request : Request) → QueryOf session text.now request →
+            RequestStep (around D.disk A.ambient P.plugin outside.old (K.sink sink.old) source)
+            (around D.disk A.ambient P.plugin outside.new (K.sink sink.new) source)
+            (state_of self.old) self.old.store.cat number request }
+        ensures remembers { RemembersDeed line self.old.store.cat outside.old.moments (D.disk outside.old.main) (D.disk outside.new.main) }
         ensures whole { KeepWhole P.plugin outside.old.moments self.old.store.cat
             (D.disk outside.old.main) (D.disk outside.new.main) outside.old.stores.items outside.new.stores.items }
         ensures passes { CallsPass D.disk P.plugin K.sink (IsErrOf result Ending.Disk) (IsErrOf result Ending.Sink)
             (record { outside = outside.old; sink = sink.old }) (record { outside = outside.new; sink = sink.new }) }
-        ensures rows { outside.new.main ≡ outside.old.main }
-        ensures stores { outside.new.stores ≡ outside.old.stores }
-        ensures drawn { outside.new.moments ≤ outside.old.moments + 1 }
+        ensures idle { (request : Request) → QueryOf session text.now request → CallsNoRules (state_of self.old) request →
+            (outside.new.main ≡ outside.old.main) × (outside.new.stores ≡ outside.old.stores) }
+        ensures drawn { outside.new.moments ≤ outside.old.moments + 2 ^ 79 }
     {
-        let Some(user) = self.sessions.user(session) else {
-            return self.say(alloc, outside, sink, number, End::Refused(Refusal::NoLogin));
-        };
-        let query = match read_query(alloc, text.as_slice()) {
-            Ok(query) => query,
-            Err(QueryError::BadQuery { at }) => {
-                let refusal = Refusal::BadQuery { at: at as u64 };
-                return self.say(alloc, outside, sink, number, End::Refused(refusal));
-            }
-            Err(QueryError::Memory) => return Err(Ending::Memory),
-        };
-        self.store.is_spelled();
-        match query_rows(alloc, self.store.tables(), user, &query) {
-            Ok(rows) => self.show(alloc, outside, sink, number, rows),
-            Err(AllocError) => Err(Ending::Memory),
+        match self.sessions.user(session) {
+            None => self.say(alloc, outside, sink, number, End::Refused(Refusal::NoLogin)),
+            Some(user) => self.query_as(alloc, outside, sink, number, session, user, text, line),
         }
+    }
+
+    // Does the query with its points, for the user of this id, who is logged in to the session.
+    fn query_as<D: Disk, K: Sink, A: Ambient, P: Plugin>(
+        &mut self,
+        alloc: Global,
+        outside: &mut Outside<D, A, P>,
+        sink: &mut K,
+        number: u64,
+        session: u8,
+        user: u32,
+        text: &Text,
+        line: Text,
+    ) -> Result<(), Ending>
+        requires fits { FitsMain (D.disk outside.old.main) self.old }
+        requires logged_in { user_of (at self.old.sessions session) ≡ Some user }
+        requires line { IsTrue (is_word line) }
+        requires slots { self.old.store.cat.stores ≡ vec_len outside.old.stores }
+        requires ready { AreReady D.disk P.plugin K.sink (2 ^ 79) (record { outside = outside.old; sink = sink.old }) }
+        ensures obeys { (source : SourceState) (request : Request) → QueryOf session text.now request →
+            Obeys (around D.disk A.ambient P.plugin outside.old (K.sink sink.old) source)
+            (around D.disk A.ambient P.plugin outside.new (K.sink sink.new) source)
+            self.old number request result self.new }
+        ensures worn { (source : SourceState) (request : Request) → QueryOf session text.now request →
+            IsWorn (around D.disk A.ambient P.plugin outside.new (K.sink sink.new) source) self.old request result }
+        ensures dry { (place : ℕ) → result ≡ Err (Ending.Worn Wear.Vaults place) →
+            (source : SourceState) (request : Request) → QueryOf session text.now request →
+            RequestStep (around D.disk A.ambient P.plugin outside.old (K.sink sink.old) source)
+            (around D.disk A.ambient P.plugin outside.new (K.sink sink.new) source)
+            (state_of self.old) self.old.store.cat number request }
+        ensures remembers { RemembersDeed line self.old.store.cat outside.old.moments (D.disk outside.old.main) (D.disk outside.new.main) }
+        ensures whole { KeepWhole P.plugin outside.old.moments self.old.store.cat
+            (D.disk outside.old.main) (D.disk outside.new.main) outside.old.stores.items outside.new.stores.items }
+        ensures passes { CallsPass D.disk P.plugin K.sink (IsErrOf result Ending.Disk) (IsErrOf result Ending.Sink)
+            (record { outside = outside.old; sink = sink.old }) (record { outside = outside.new; sink = sink.new }) }
+        ensures idle { (request : Request) → QueryOf session text.now request → CallsNoRules (state_of self.old) request →
+            (outside.new.main ≡ outside.old.main) × (outside.new.stores ≡ outside.old.stores) }
+        ensures drawn { outside.new.moments ≤ outside.old.moments + 2 ^ 79 }
+    {
+        let command = self.begin(alloc, number, user, line);
+        let ran = ask(
+            alloc,
+            &mut self.store,
+            outside,
+            sink,
+            &self.rules,
+            command,
+            text,
+        );
+        ended_by(ran)
     }
 }

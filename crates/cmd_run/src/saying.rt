@@ -17,7 +17,7 @@ use std::alloc::Global;
 impl Server {
     ghost use Rattle.cmd_run.specs.declared.server.Server.{Server};
     ghost use Rattle.cmd_run.specs.Fits.{state_of, FitsMain};
-    ghost use Rattle.cmd_run.specs.Obeys.{Obeys, IsWorn, SaysOnly, SaysRows, Remembers};
+    ghost use Rattle.cmd_run.specs.Obeys.{LacksNothing, Obeys, Remembers, SaysOnly, SaysRows};
 
     /// Answers with an end alone; rows are as they were.
     pub(crate) fn say<D: Disk, K: Sink, A: Ambient, P: Plugin>(
@@ -38,8 +38,7 @@ impl Server {
             before number request result self.now }
         ensures passes { CallsPass D.disk P.plugin K.sink (IsErrOf result Ending.Disk) (IsErrOf result Ending.Sink)
             (record { outside = outside.old; sink = sink.old }) (record { outside = outside.new; sink = sink.new }) }
-        ensures worn { (source : SourceState) (request : Request) →
-            IsWorn (around D.disk A.ambient P.plugin outside.new (K.sink sink.new) source) self.now request result }
+        ensures worn { LacksNothing result }
         ensures remembers { Remembers self.now.store.cat outside.old.moments (D.disk outside.old.main) (D.disk outside.new.main) }
         ensures whole { KeepWhole P.plugin outside.old.moments self.now.store.cat
             (D.disk outside.old.main) (D.disk outside.new.main) outside.old.stores.items outside.new.stores.items }
@@ -73,8 +72,7 @@ impl Server {
             before number request result self.now }
         ensures passes { CallsPass D.disk P.plugin K.sink (IsErrOf result Ending.Disk) (IsErrOf result Ending.Sink)
             (record { outside = outside.old; sink = sink.old }) (record { outside = outside.new; sink = sink.new }) }
-        ensures worn { (source : SourceState) (request : Request) →
-            IsWorn (around D.disk A.ambient P.plugin outside.new (K.sink sink.new) source) self.now request result }
+        ensures worn { LacksNothing result }
         ensures remembers { Remembers self.now.store.cat outside.old.moments (D.disk outside.old.main) (D.disk outside.new.main) }
         ensures whole { KeepWhole P.plugin outside.old.moments self.now.store.cat
             (D.disk outside.old.main) (D.disk outside.new.main) outside.old.stores.items outside.new.stores.items }

@@ -1,3 +1,4 @@
+use chain_core::RuleBase;
 use grid_journal::Store;
 use grid_outside::Wear;
 use sess::Sessions;
@@ -15,9 +16,10 @@ pub enum Ending {
     Worn { what: Wear, at: u64 },
 }
 
-/// The catalogue, and who is logged in where.
+/// The catalogue, who is logged in where, and the rules of the catalogue as they are run.
 #[derive(Drop)]
 pub struct Server {
     pub store: Store,
     pub sessions: Sessions,
+    pub rules: RuleBase,
 }

@@ -1,9 +1,8 @@
-ghost use Rattle.std.specs.Prelude.{◌≡◌, ℕ, ◌+◌, ◌≤◌, ◌<◌, ◌^◌, [], IfOk, IsTrue, IsErrOf, OnOk, Err, Ok, length, vec_len};
+ghost use Rattle.std.specs.Prelude.{◌≡◌, ◌+◌, ◌≤◌, ◌<◌, ◌^◌, [], IfOk, IsErrOf, OnOk, Ok, length, vec_len};
 ghost use Rattle.grid_outside.specs.Source.{SourceState};
 ghost use Rattle.grid_model.specs.Orders.{sweeps};
 ghost use Rattle.grid_model.specs.Runs.{Request};
 ghost use Rattle.grid_model.specs.Working.{well};
-ghost use Rattle.grid_journal.specs.Journal.{ClosesAt};
 ghost use Rattle.grid_vault.specs.Removal.{FewerThanFaults};
 ghost use Rattle.grid_deed.specs.Frame.{IsReady, Frame};
 ghost use Rattle.grid_deed.specs.Safe.{KeepWhole};
@@ -18,7 +17,7 @@ use crate::keeping::ending_of;
 use crate::{Ending, Server};
 use grid_deed::discard_all;
 use grid_model::{End, NewFile, NewFiles, Refusal};
-use grid_outside::{Ambient, Disk, Outside, Plugin, Sink, Wear};
+use grid_outside::{Ambient, Disk, Outside, Plugin, Sink};
 use grid_tables::Tables;
 use plan_base::is_admin;
 use std::alloc::{AllocError, Global};
@@ -29,7 +28,7 @@ const MANY: usize = 4_294_967_296;
 impl Server {
     ghost use Rattle.cmd_run.specs.declared.server.Server.{Server};
     ghost use Rattle.cmd_run.specs.Fits.{state_of, FitsMain};
-    ghost use Rattle.cmd_run.specs.Obeys.{HasNoneWaiting, IsRefusedAtOnce, Obeys, IsWorn, SaysOnly};
+    ghost use Rattle.cmd_run.specs.Obeys.{HasNoneWaiting, IsRefusedAtOnce, LacksRoomAlone, Obeys, SaysOnly};
 
     /// Has the files of all orphans removed, for an administrator, forgets those that are gone, and answers ok, whichever
     /// stores fail.
@@ -53,8 +52,7 @@ impl Server {
             SweepLeavesFew (around D.disk A.ambient P.plugin outside.old (K.sink sink.old) source)
             (around D.disk A.ambient P.plugin outside.new (K.sink sink.new) source)
             self.old request result self.new }
-        ensures worn { (source : SourceState) (request : Request)
-            → IsWorn (around D.disk A.ambient P.plugin outside.new (K.sink sink.new) source) self.old request result }
+        ensures worn { LacksRoomAlone (D.disk outside.old.main) (D.disk outside.new.main) result }
         ensures none_waits { HasNoneWaiting outside.old.moments (D.disk outside.old.main) (D.disk outside.new.main) }
         ensures whole { KeepWhole P.plugin outside.old.moments self.old.store.cat
             (D.disk outside.old.main) (D.disk outside.new.main) outside.old.stores.items outside.new.stores.items }
@@ -97,8 +95,7 @@ impl Server {
             self.old number request result self.new }
         ensures few { (source : SourceState) → OnOk result (HasFewOrphans (around D.disk A.ambient P.plugin outside.old (K.sink sink.old) source)
             (around D.disk A.ambient P.plugin outside.new (K.sink sink.new) source) self.new.store.cat) }
-        ensures worn { (source : SourceState) (request : Request)
-            → IsWorn (around D.disk A.ambient P.plugin outside.new (K.sink sink.new) source) self.old request result }
+        ensures worn { LacksRoomAlone (D.disk outside.old.main) (D.disk outside.new.main) result }
         ensures none_waits { HasNoneWaiting outside.old.moments (D.disk outside.old.main) (D.disk outside.new.main) }
         ensures whole { KeepWhole P.plugin outside.old.moments self.old.store.cat
             (D.disk outside.old.main) (D.disk outside.new.main) outside.old.stores.items outside.new.stores.items }
@@ -130,12 +127,12 @@ impl Server {
         ensures few { OnOk result (FewerThanFaults P.plugin (orphan_files self.new.store.cat) outside.old.stores.items outside.new.stores.items) }
         ensures still { self.old.store.cat.orphans ≡ [] → OnOk result (outside.new.main ≡ outside.old.main) }
         ensures sessions { self.new.sessions ≡ self.old.sessions }
+        ensures rules { self.new.rules ≡ self.old.rules }
         ensures leaves { LeavesLike self.old.store.cat outside.old.moments (D.disk outside.old.main) (D.disk outside.new.main) }
         ensures whole { KeepWhole P.plugin outside.old.moments self.old.store.cat
             (D.disk outside.old.main) (D.disk outside.new.main) outside.old.stores.items outside.new.stores.items }
         ensures frame { Frame D.disk P.plugin (IsErrOf result Ending.Disk) outside.old outside.new }
-        ensures worn { (what : Wear) (place : ℕ) → result ≡ Err (Ending.Worn what place) →
-            (what ≡ Wear.Log) × (2 ^ 62 < place) × (IsTrue (D.disk outside.old.main).tells → ClosesAt (D.disk outside.new.main).holds place) }
+        ensures worn { LacksRoomAlone (D.disk outside.old.main) (D.disk outside.new.main) result }
         ensures not_sink { ¬ IsErrOf result Ending.Sink }
         ensures drawn { outside.new.moments ≤ outside.old.moments + 2 ^ 40 }
     {
@@ -166,6 +163,7 @@ impl Server {
             (D.disk outside.old.main) (D.disk outside.new.main) outside.old.stores.items outside.new.stores.items }
         ensures frame { Frame D.disk P.plugin (IsErrOf result Ending.Disk) outside.old outside.new }
         ensures sessions { self.new.sessions ≡ self.old.sessions }
+        ensures rules { self.new.rules ≡ self.old.rules }
         ensures drawn { outside.new.moments ≤ outside.old.moments + length files.now + 4 }
     {
         match discard_all(alloc, &mut self.store, outside, files) {

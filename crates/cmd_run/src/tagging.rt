@@ -15,8 +15,8 @@ use std::alloc::Global;
 
 impl Server {
     ghost use Rattle.cmd_run.specs.declared.server.Server.{Server};
-    ghost use Rattle.cmd_run.specs.Fits.{state_of, FitsMain};
-    ghost use Rattle.cmd_run.specs.Obeys.{Obeys, IsWorn, Remembers};
+    ghost use Rattle.cmd_run.specs.Fits.{FitsMain};
+    ghost use Rattle.cmd_run.specs.Obeys.{LacksNothing, Obeys, Remembers};
 
     /// Shows what is said of a thing to whoever is logged in to the session.
     pub(crate) fn show_tags<D: Disk, K: Sink, A: Ambient, P: Plugin>(
@@ -37,8 +37,7 @@ impl Server {
             Obeys (around D.disk A.ambient P.plugin outside.old (K.sink sink.old) source)
             (around D.disk A.ambient P.plugin outside.new (K.sink sink.new) source)
             self.old number request result self.new }
-        ensures worn { (source : SourceState) (request : Request)
-            → IsWorn (around D.disk A.ambient P.plugin outside.new (K.sink sink.new) source) self.old request result }
+        ensures worn { LacksNothing result }
         ensures remembers { Remembers self.old.store.cat outside.old.moments (D.disk outside.old.main) (D.disk outside.new.main) }
         ensures whole { KeepWhole P.plugin outside.old.moments self.old.store.cat
             (D.disk outside.old.main) (D.disk outside.new.main) outside.old.stores.items outside.new.stores.items }

@@ -1,4 +1,7 @@
 pub mod PutSteps
 pub mod WriteSteps
 pub mod NotedSteps
+pub mod NoteCalls
+pub mod SentSteps
+pub mod StoredFiles
 pub mod SumWords

@@ -1,2 +1,4 @@
+pub mod Notes
 pub mod Puts
+pub mod Sent
 pub mod Written

@@ -19,7 +19,7 @@ use service_run::{Command, announce};
 use std::alloc::{AllocError, Global};
 
 /// The call of a put with a body of so many bytes. Fails for want of memory alone.
-pub fn put_call(
+pub(crate) fn put_call(
     alloc: Global,
     path: &Path,
     resource: &Text,

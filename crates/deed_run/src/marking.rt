@@ -21,6 +21,13 @@ pub(crate) fn take_written(
     ensures taken { OnOk result (command.new ≡ with_mark command.old (written_mark word now fault.now)) }
 {
     let mark = written_mark(alloc, word, now, fault);
+    take_mark(alloc, command, mark)
+}
+
+/// Has the command take a mark, whose line is still to be told. Fails for want of memory alone, and then marks or lines may be lost.
+pub(crate) fn take_mark(alloc: Global, command: &mut Command, mark: Mark) -> Result<(), AllocError>
+    ensures taken { OnOk result (command.new ≡ with_mark command.old mark) }
+{
     let line = mark_line(alloc, command.number, &mark)?;
     let mut marks = replace(&mut command.marks, Marks::from_vec(Vec::new(alloc))).into_vec();
     marks.push(mark)?;
@@ -64,16 +71,16 @@ pub(crate) fn written_is_kept(word: u64, now: u64, fault: &Option<Fault>)
 {
     match fault {
         None => ran_is_kept(word, now),
-        Some(fault) => fault_is_kept(fault.slot),
+        Some(fault) => fault_is_kept(fault.slot, 0),
     }
 }
 
-// The mark of a deed that was done may stand in the catalogue. It does nothing.
-fn ran_is_kept(word: u64, now: u64)
+/// The mark of a deed that was done may stand in the catalogue. It does nothing.
+pub(crate) fn ran_is_kept(word: u64, now: u64)
     ensures { IsTrue (mark_fits (Mark.Ran word now [])) }
 {}
 
-// The mark of a fault may stand in the catalogue. It does nothing.
-fn fault_is_kept(slot: u8)
-    ensures { IsTrue (mark_fits (Mark.Fault slot 0)) }
+/// The mark of a fault may stand in the catalogue. It does nothing.
+pub(crate) fn fault_is_kept(slot: u8, parts: u64)
+    ensures { IsTrue (mark_fits (Mark.Fault slot parts)) }
 {}

@@ -1,8 +1,8 @@
-ghost use Rattle.std.specs.Prelude.{◌≡◌, IsTrue, IsOk, OnOk, Ok};
-ghost use Rattle.std.specs.List.{list_all};
+ghost use Rattle.std.specs.Prelude.{◌≡◌, IsOk, OnOk, Ok};
+ghost use Rattle.std.specs.List.{AllByRecursion};
 ghost use Rattle.grid_model.specs.Rows.{Cat};
 ghost use Rattle.grid_model.specs.Applying.{apply_all};
-ghost use Rattle.grid_journal.specs.Journal.{can_be_kept};
+ghost use Rattle.grid_journal.specs.Journal.{MayBeKept};
 ghost use Rattle.grid_deed.specs.Held.{IsHeld, IsStaged};
 
 use grid_journal::Store;
@@ -20,7 +20,7 @@ pub fn stage<D: Disk, A: Ambient, P: Plugin>(
 ) -> Result<(), AllocError>
     requires held { (kept : Cat) × IsHeld kept (D.disk outside.now.main) store.old }
     requires apply { IsOk (apply_all store.old.cat deltas) }
-    requires spelled { IsTrue (list_all can_be_kept deltas) }
+    requires spelled { AllByRecursion MayBeKept deltas }
     ensures { (kept after : Cat) → IsHeld kept (D.disk outside.now.main) store.old → apply_all store.old.cat deltas ≡ Ok after →
         OnOk result (IsStaged kept after (D.disk outside.now.main) store.new) }
 {

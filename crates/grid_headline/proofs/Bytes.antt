@@ -15,7 +15,9 @@ use Rattle.grid_model.specs.declared.grid.UserKind.TheVariants.{Rodsadmin, Rodsg
 use Rattle.grid_model.specs.declared.grid.Level.TheVariants.{Read, Own}
 use Rattle.grid_model.specs.declared.grid.ItemKind.TheVariants.{Collection}
 use Rattle.grid_journal.specs.Start.{main_with}
-use Rattle.grid_journal.specs.Stands.{Stands, stands, taken, none_left, sets_no_rules}
+use Rattle.grid_journal.specs.Journal.{sets_no_rules}
+use Rattle.grid_journal.specs.Stands.{Stands, stands, taken, none_left}
+use Rattle.grid_journal.proofs.KeptDeltas.{no_rules_kept}
 use Rattle.grid_headline.specs.Stops.{OneImage}
 use Rattle.grid_headline.proofs.Scene.{zone, rods, first_leaf, second_leaf}
 use Rattle.grid_headline.proofs.PutStops.{run, pending, within, image_within}
@@ -40,7 +42,7 @@ stands_made deltas c fit none made zoned short spare =
       closed = λ e. absurd (cc e);
       is = ap (λ t. t ++ 0 ∷ []) (sym (append-nil (frame body)));
     })
-    (taken deltas (record { fit = fit; bytes_are = refl }) none made none_left) zoned
+    (taken deltas (record { fit = fit; bytes_are = refl }) (no_rules_kept deltas none) made none_left) zoned
 
 -- the changes that make the catalogue
 abbrev deltas : (known : ℕ → Type 0) → List Delta

@@ -12,11 +12,11 @@ use Rattle.grid_model.specs.Runs as runs
 use Rattle.grid_journal.specs.Stands.{Stands}
 use Rattle.grid_headline.specs.Worlds.{World, IsInOrder, DevicesImage, LeavesImage, LeavesDisks}
 use Rattle.grid_headline.specs.Reads.{HasRules}
-use Rattle.grid_headline.specs.Served.{NoneSweeps, Run}
+use Rattle.grid_headline.specs.Served.{NoneSweeps, Run, all as all_sure}
 use Rattle.grid_headline.specs.Stops.{OneImage}
 use Rattle.grid_headline.specs.Files.{IsKnown, AreSettled, DisksAreSettled, KeepsReplicas, WereWhole, AllStayWhole, AllAreWhole, ReplicasStayNamed}
 use Rattle.grid_headline.specs.Silence.{IsBetween, IsOfDisks, NoneIsSilent, AddsBeforeRun}
-use Rattle.grid_headline.specs.Draws.{DrawsMarks, AreSomeOf, no_words, none_left}
+use Rattle.grid_headline.specs.Draws.{no_words, none_left}
 use Rattle.grid_headline.specs.Draws as draws
 use Rattle.grid_headline.specs.Ends.{HasRecovery, no_memory}
 use Rattle.grid_headline.specs.Headline.{BeginsOn, Shows, Serves, ServesTidily}
@@ -42,7 +42,8 @@ module _ {B : Type 0} (old : World B) (c : Cat) (rules : List Rule) where
     end = begins (grid_of found) rules;
     after = runs.none;
     pieces = [];
-    pieces_are = tt;
+    sure = [];
+    are_sure = all_sure tt refl;
     no_stop = tt;
   }
 

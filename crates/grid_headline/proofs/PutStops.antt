@@ -33,7 +33,7 @@ use Rattle.grid_model.specs.declared.requests.Verb.TheVariants as verb
 use Rattle.req_words.proofs.OneReading.{SpellsLine-unique}
 use Rattle.grid_headline.specs.Reads.{texts}
 use Rattle.grid_headline.specs.Numbers.{KeepsNumbers}
-use Rattle.grid_headline.specs.Served.{Run, reached, run_text}
+use Rattle.grid_headline.specs.Served.{Run, all, joined_texts, reached, reply_texts, run_text}
 use Rattle.grid_headline.specs.Stops.{OneImage, IsInterrupted}
 use Rattle.grid_headline.proofs.Scene.{rods, found, has_no_rules, login_line, put_line, abc, input, f, puts, ran}
 use Rattle.grid_headline.proofs.Scene.{logs_in_first, puts_then, login_done, put_done, logged, login_words, means_put, are_requests, after}
@@ -91,7 +91,8 @@ module _ (known : ℕ → Type 0) where
     end = put_done.state;
     after = after;
     pieces = [] ∷ (mark_line 2 ran ∷ []) ∷ [];
-    pieces_are = (tt, ((refl, tt), tt));
+    sure = joined_texts (reply_texts 1 (login_done ∷ put_done ∷ []) ([] ∷ (mark_line 2 ran ∷ []) ∷ []));
+    are_sure = all (tt, ((refl, tt), tt)) refl;
     no_stop = (is_no_stop, tt);
   }
 
@@ -104,7 +105,7 @@ module _ (known : ℕ → Type 0) where
   abbrev pub before : Cat
   before = record found { numbers = record { next_vault = 1; run = 1; last = 0 } }
 
-  keeps_before : KeepsNumbers found before
+  pub keeps_before : KeepsNumbers found before
   keeps_before = record { rises = omega arith; names = λ slot name row less h. (row, same slot name row less h) }
     where
       same : (slot name : ℕ) (row : Naming) → name < 1 → Names before slot name row → Names found slot name row

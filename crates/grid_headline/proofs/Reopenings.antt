@@ -19,7 +19,7 @@ use Rattle.grid_model.specs.declared.marks.Mark.{Mark}
 use Rattle.grid_model.specs.declared.marks.Mark.TheVariants.{Ran, Stop}
 use Rattle.grid_model.specs.declared.replies.Passed.{Passed}
 use Rattle.grid_journal.specs.Stands.{Stands}
-use Rattle.grid_headline.specs.Served.{Run, reached, run_text}
+use Rattle.grid_headline.specs.Served.{Run, all, reached, run_text}
 use Rattle.grid_headline.specs.Files.{KeepsNamed}
 use Rattle.grid_headline.specs.Stops.{OneImage, IsBeforeRun, IsInRun}
 use Rattle.grid_headline.proofs.Scene.{ran}
@@ -56,7 +56,8 @@ module _ (known : ℕ → Type 0) where
     end = begins (grid_of found) (a_copy ∷ []);
     after = runs.none;
     pieces = [];
-    pieces_are = tt;
+    sure = [];
+    are_sure = all tt refl;
     no_stop = tt;
   }
 
@@ -193,7 +194,8 @@ module _ (known : ℕ → Type 0) where
     end = begins left.grid (a_copy ∷ []);
     after = runs.none;
     pieces = [];
-    pieces_are = tt;
+    sure = [];
+    are_sure = all tt refl;
     no_stop = (is_no_stop 9 2000 [], tt);
   }
 

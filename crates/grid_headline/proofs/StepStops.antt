@@ -33,9 +33,9 @@ use Rattle.rule_parse.specs.Printed.{print_rules}
 use Rattle.grid_journal.specs.Stands.{Stands}
 use Rattle.grid_headline.specs.Reads.{MeansRequest}
 use Rattle.grid_headline.specs.Numbers.{KeepsNumbers}
-use Rattle.grid_headline.specs.Served.{Run, reached, run_text}
+use Rattle.grid_headline.specs.Served.{Run, all, joined_texts, reached, reply_texts, run_text}
 use Rattle.grid_headline.specs.Stops.{OneImage, IsInterrupted, IsTold, AreFirst}
-use Rattle.grid_headline.proofs.Scene.{rods, login_line, put_line, abc, asks_login, asks_put, f, puts}
+use Rattle.grid_headline.proofs.Scene.{rods, put_line, abc, asks_put, f, puts}
 use Rattle.grid_headline.proofs.Scene.{ran, done_or, nothing_done, means_login, means_put, are_requests, input, logs_in_first}
 use Rattle.grid_headline.proofs.Scene as scene
 use Rattle.grid_headline.proofs.PutStops.{none_end, the_only, the_catalogue}
@@ -107,7 +107,8 @@ module _ (known : ℕ → Type 0) where
     end = put_done.state;
     after = after;
     pieces = [] ∷ (mark_line 2 ran ∷ mark_line 2 ran_later ∷ []) ∷ [];
-    pieces_are = (tt, ((refl, (refl, tt)), tt));
+    sure = joined_texts (reply_texts 1 (login_done ∷ put_done ∷ []) ([] ∷ (mark_line 2 ran ∷ mark_line 2 ran_later ∷ []) ∷ []));
+    are_sure = all (tt, ((refl, (refl, tt)), tt)) refl;
     no_stop = (is_no_stop 7 1000 [], (is_no_stop 8 1001 [], tt));
   }
 

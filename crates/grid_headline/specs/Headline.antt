@@ -7,7 +7,7 @@ use Rattle.grid_model.specs.Rows.{Cat}
 use Rattle.grid_model.specs.Completing.{AreClean, AllEndByRows}
 use Rattle.grid_journal.specs.Stands.{Stands}
 use Rattle.grid_headline.specs.Worlds.{World, DevicesImage, LeavesImage}
-use Rattle.grid_headline.specs.Served.{Run, NoneSweeps, report_of, run_text, acknowledged, marks_of}
+use Rattle.grid_headline.specs.Served.{Run, NoneSweeps, report_of, sure_text, acknowledged, marks_of}
 use Rattle.grid_headline.specs.Stops.{OneImage}
 use Rattle.grid_headline.specs.Files.{IsKnown, IsOfUnknown, DisksAreSettled, AreSettled, WereWhole, AllStayWhole, ReplicasStayNamed}
 use Rattle.grid_headline.specs.Silence.{NoneIsSilent}
@@ -31,12 +31,12 @@ IsGoodEnd no_memory = Unit {0}
 IsGoodEnd other = ⊥
 
 module _ {B : Type 0} {found : Cat} (old new : World B) (run : Run (IsKnown old found) found old.source.left) where
-  -- This is what the sink shows: a front of what the run has to write, with at least all but the last text of it.
+  -- This is what the sink shows: a front of what is sure of all that the run has to write, with at least all but the last text of it.
   pub record Shows : Type 0 where
     pub part : Text
     pub more : Text
     pub sink : new.sink.holds ≡ old.sink.holds ++ part
-    pub split : run_text run ≡ part ++ more
+    pub split : sure_text run ≡ part ++ more
     -- at most one request, or the report, is not shown whole
     pub report_first : 0 < length run.begun → length (report_of run) ≤ length part
     pub all_but_one : length run.begun ≤ acknowledged run (length part) + 1

@@ -45,6 +45,8 @@ is_built (verb.RmMeta kind name attribute value unit) = true
 is_built (verb.LsMeta kind name) = true
 is_built (verb.Query text) = true
 is_built (verb.Exec text) = true
+is_built (verb.Rules count) = true
+is_built verb.ShowRules = true
 is_built other = false
 
 -- the texts of rules and calls are read and printed so

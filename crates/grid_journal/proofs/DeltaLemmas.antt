@@ -1,14 +1,11 @@
 -- Deltas that are taken one after another.
-use Rattle.std.proofs.Common.{◌≡◌, inl, inr, ℕ, Bool, true, false, IsTrue, List, [], ◌∷◌, ◌++◌, Result, Ok, Err, refl, sym, ap, subst, ◌∙◌}
-use Rattle.std.specs.Prelude.{not, is_err}
-use Rattle.std.specs.List.{list_all}
-use Rattle.std.proofs.lemmas.Bool.{and_parts, and_from}
+use Rattle.std.proofs.Common.{◌≡◌, inl, inr, ℕ, true, List, [], ◌∷◌, ◌++◌, Result, Ok, Err, refl, sym, ap, subst, ◌∙◌}
+use Rattle.std.specs.Prelude.{is_err}
+use Rattle.std.specs.List.{AllByRecursion}
 use Rattle.grid_model.specs.Rows.{Cat}
 use Rattle.grid_model.specs.Applying.{apply, apply_all}
-use Rattle.grid_model.specs.Deltas.{delta_fits}
 use Rattle.grid_model.specs.declared.deltas.Delta.{Delta}
-use Rattle.grid_journal.specs.Journal.{can_be_kept}
-use Rattle.grid_journal.specs.Stands.{IsRefused, sets_rules, sets_no_rules}
+use Rattle.grid_journal.specs.Stands.{IsRefused, SetsKeptRules}
 
 -- what more deltas make of a result
 abbrev pub then_all : List Delta → Result Cat ℕ → Result Cat ℕ
@@ -30,35 +27,17 @@ pub apply_all_push : (ds : List Delta) (d : Delta) (c mid next : Cat) → apply_
 apply_all_push ds d c mid next h e = apply_all_after ds (d ∷ []) c mid h ∙ ap (then_all []) e
 
 -- a list of which one is refused behind others isn't taken
-pub not_taken : (c after : Cat) (d : Delta) (ds : List Delta) → IsRefused c d → IsTrue (list_all sets_no_rules (d ∷ ds)) → apply_all c (d ∷ ds) ≡ Ok after → ⊥
-not_taken c after d ds (inl rules) none e = by (sets_rules d) rules (and_parts (sets_no_rules d) (list_all sets_no_rules ds) none).0
-  where
-    by : (b : Bool) → b ≡ true → not b ≡ true → ⊥
-    by true h g = cc
-    by false h g = cc
-not_taken c after d ds (inr refused) none e = by (apply c d) refused e
+pub not_taken : (c after : Cat) (d : Delta) (ds : List Delta) → IsRefused c d → AllByRecursion SetsKeptRules (d ∷ ds) → apply_all c (d ∷ ds) ≡ Ok after → ⊥
+not_taken c after d ds (inl others) sets e = others sets.0
+not_taken c after d ds (inr refused) sets e = by (apply c d) refused e
   where
     by : (r : Result Cat ℕ) → is_err r ≡ true → then_all ds r ≡ Ok after → ⊥
     by (Ok next) h g = cc
     by (Err cause) h g = cc
 
-pub fit_of : (ds : List Delta) → IsTrue (list_all can_be_kept ds) → IsTrue (list_all delta_fits ds)
-fit_of [] h = refl
-fit_of (d ∷ ds) h =
-    let p = and_parts (can_be_kept d) (list_all can_be_kept ds) h in
-    let q = and_parts (delta_fits d) (sets_no_rules d) p.0 in
-    and_from (delta_fits d) (list_all delta_fits ds) q.0 (fit_of ds p.1)
-
-pub no_rules_of : (ds : List Delta) → IsTrue (list_all can_be_kept ds) → IsTrue (list_all sets_no_rules ds)
-no_rules_of [] h = refl
-no_rules_of (d ∷ ds) h =
-    let p = and_parts (can_be_kept d) (list_all can_be_kept ds) h in
-    let q = and_parts (delta_fits d) (sets_no_rules d) p.0 in
-    and_from (sets_no_rules d) (list_all sets_no_rules ds) q.1 (no_rules_of ds p.1)
-
 -- of one list the deltas before the first refused one are always the same
 pub refused_once : (xs ys us vs : List Delta) (d e : Delta) (c before other : Cat) → xs ++ d ∷ us ≡ ys ++ e ∷ vs
-    → IsTrue (list_all sets_no_rules xs) → IsTrue (list_all sets_no_rules ys) → apply_all c xs ≡ Ok before → apply_all c ys ≡ Ok other
+    → AllByRecursion SetsKeptRules xs → AllByRecursion SetsKeptRules ys → apply_all c xs ≡ Ok before → apply_all c ys ≡ Ok other
     → IsRefused before d → IsRefused other e → xs ≡ ys
 refused_once [] [] us vs d e c before other same p q a b f g = refl
 refused_once [] (y ∷ ys) us vs d e c before other same p q a b f g =
@@ -76,9 +55,7 @@ refused_once (x ∷ xs) [] us vs d e c before other same p q a b f g =
 refused_once (x ∷ xs) (y ∷ ys) us vs d e c before other same p q a b f g =
     let first : x ≡ y = cc in
     let rest : xs ++ d ∷ us ≡ ys ++ e ∷ vs = cc in
-    let p_rest = (and_parts (sets_no_rules x) (list_all sets_no_rules xs) p).1 in
-    let q_rest = (and_parts (sets_no_rules y) (list_all sets_no_rules ys) q).1 in
-    let same_rest : xs ≡ ys = by (λ next l r. refused_once xs ys us vs d e next before other rest p_rest q_rest l r f g) (apply c x) a (ap (λ z. then_all ys (apply c z)) first ∙ b) in
+    let same_rest : xs ≡ ys = by (λ next l r. refused_once xs ys us vs d e next before other rest p.1 q.1 l r f g) (apply c x) a (ap (λ z. then_all ys (apply c z)) first ∙ b) in
     cc
   where
     by : ((next : Cat) → apply_all next xs ≡ Ok before → apply_all next ys ≡ Ok other → xs ≡ ys)

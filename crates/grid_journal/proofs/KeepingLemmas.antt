@@ -1,7 +1,7 @@
 -- What main keeps for a journal, before a change and after it.
-use Rattle.std.proofs.Common.{◌≡◌, ◌⊎◌, inl, inr, ℕ, Bool, IsTrue, List, [], ◌∷◌, ◌++◌, take, Ok, sym, ap, subst, ◌∙◌, lit≤}
+use Rattle.std.proofs.Common.{◌≡◌, ◌⊎◌, inl, inr, ℕ, Bool, List, [], ◌∷◌, ◌++◌, take, Ok, sym, ap, subst, ◌∙◌, lit≤}
 use Rattle.std.specs.Prelude.{IsSome}
-use Rattle.std.specs.List.{list_all}
+use Rattle.std.specs.List.{AllByRecursion}
 use Rattle.frame_log.specs.Log.{IsLog, IsOldOrNew}
 use Rattle.frame_log.specs.Extent.{Extent, IsLogOf, placed}
 use Rattle.frame_log.proofs.Frames.{placed-push}
@@ -10,11 +10,11 @@ use Rattle.grid_model.specs.Rows.{Cat, empty_cat}
 use Rattle.grid_model.specs.Applying.{apply_all}
 use Rattle.grid_model.specs.Deltas.{SpellsDeltas}
 use Rattle.grid_model.specs.declared.deltas.Delta.{Delta}
-use Rattle.grid_model.proofs.Fronts.{list_all-both}
-use Rattle.grid_journal.specs.Journal.{Journal, Keeps, can_be_kept}
-use Rattle.grid_journal.specs.Stands.{HasHead, Replays, Stands, stands, StandsEither, sets_no_rules}
-use Rattle.grid_journal.proofs.DeltaLemmas.{apply_all_after, no_rules_of}
+use Rattle.grid_journal.specs.Journal.{Journal, Keeps, MayBeKept}
+use Rattle.grid_journal.specs.Stands.{HasHead, Replays, Stands, stands, StandsEither, SetsKeptRules}
+use Rattle.grid_journal.proofs.DeltaLemmas.{apply_all_after}
 use Rattle.grid_journal.proofs.HeadLemmas.{same_head}
+use Rattle.grid_journal.proofs.KeptDeltas.{all_both, rules_of}
 use Rattle.grid_journal.proofs.ReplayLemmas.{Replays-push}
 use Rattle.grid_journal.proofs.ZoneLemmas.{zone_stays}
 
@@ -40,14 +40,14 @@ keeps_staged kept old new main ds k applied staged log =
 
 -- a commit of more deltas, behind the staged ones
 module _ (kept after : Cat) (old : Journal) (main body : Text) (ds : List Delta) (k : Keeps kept old main)
-    (spells : SpellsDeltas body (old.staged ++ ds)) (none : IsTrue (list_all sets_no_rules (old.staged ++ ds))) (applied : apply_all old.cat ds ≡ Ok after) where
+    (spells : SpellsDeltas body (old.staged ++ ds)) (sets : AllByRecursion SetsKeptRules (old.staged ++ ds)) (applied : apply_all old.cat ds ≡ Ok after) where
   led : apply_all kept (old.staged ++ ds) ≡ Ok after
   led = apply_all_after old.staged ds kept old.cat k.staged ∙ applied
 
   replayed : Replays empty_cat (placed 16 (k.records ++ body ∷ [])) (Ok after)
   replayed =
       let P : List (ℕ × Text) → Type 0 = λ rs. Replays empty_cat rs (Ok after) in
-      subst P (sym (placed-push 16 k.records body)) (Replays-push _ body (old.staged ++ ds) after k.replays spells none led)
+      subst P (sym (placed-push 16 k.records body)) (Replays-push _ body (old.staged ++ ds) after k.replays spells sets led)
 
   has_zone : IsSome after.zone
   has_zone = zone_stays (old.staged ++ ds) kept after led k.zone
@@ -95,12 +95,12 @@ journal_of tables staged log sound = record { cat = tables; staged = staged; log
 -- the same of a store's fields, and of the bytes that were written
 module _ (kept after : Cat) (now : Journal) (tables : Cat) (staged : List Delta) (log : Extent) (sound : Bool) (view : journal_of tables staged log sound ≡ now)
     (main body written : Text) (ds : List Delta) (k : Keeps kept now main) (spells : SpellsDeltas body (staged ++ ds)) (is : written ≡ body)
-    (first : IsTrue (list_all can_be_kept staged)) (behind : IsTrue (list_all can_be_kept ds)) (applied : apply_all now.cat ds ≡ Ok after) where
+    (first : AllByRecursion MayBeKept staged) (behind : AllByRecursion MayBeKept ds) (applied : apply_all now.cat ds ≡ Ok after) where
   before : Keeps kept (journal_of tables staged log sound) main
   before = let P : Journal → Type 0 = λ j. Keeps kept j main in subst P (sym view) k
 
-  none : IsTrue (list_all sets_no_rules (staged ++ ds))
-  none = no_rules_of (staged ++ ds) (list_all-both can_be_kept staged ds first behind)
+  sets : AllByRecursion SetsKeptRules (staged ++ ds)
+  sets = rules_of (staged ++ ds) (all_both MayBeKept staged ds first behind)
 
   applied_here : apply_all tables ds ≡ Ok after
   applied_here = ap (λ (j : Journal). apply_all j.cat ds) view ∙ applied
@@ -113,11 +113,11 @@ module _ (kept after : Cat) (now : Journal) (tables : Cat) (staged : List Delta)
 
   pub stands_either : (image : Text) → IsOldOrNew log.base log_held.0 written main image → StandsEither kept after image
   unfolding log_held before
-  stands_either image = either kept after (journal_of tables staged log sound) main written ds before spelled none applied_here image
+  stands_either image = either kept after (journal_of tables staged log sound) main written ds before spelled sets applied_here image
 
   pub keeps_after : (new : Journal) (image : Text) → IsOldOrNew log.base log_held.0 written main image → IsLogOf new.log (log_held.0 ++ written ∷ []) image
       → new.log.base ≡ log.base → new.staged ≡ [] → new.cat ≡ after → Keeps new.cat new image
   unfolding log_held before
   keeps_after new image torn added base empty cat =
       let P : ℕ → Type 0 = λ n. take n image ≡ take n main in
-      committed kept after (journal_of tables staged log sound) main written ds before spelled none applied_here new image (subst P before.base torn.before) added base empty cat
+      committed kept after (journal_of tables staged log sound) main written ds before spelled sets applied_here new image (subst P before.base torn.before) added base empty cat

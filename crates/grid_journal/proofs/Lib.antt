@@ -2,6 +2,8 @@ pub mod DeltaLemmas
 pub mod ErrorLemmas
 pub mod HeadLemmas
 pub mod KeepingLemmas
+pub mod KeptDeltas
+pub mod KeptRules
 pub mod LoopLemmas
 pub mod OpenLemmas
 pub mod ReplayLemmas

@@ -62,7 +62,7 @@ fits_at rs i r places end lt is =
 -- ---- one record
 
 pub leads : (place : ℕ) (body : Text) (ds : List Delta) (old new : Cat) → SpellsDeltas body ds → TakesAll ds old new → Leads (place, body) old new
-leads place body ds old new spells t rest outcome more = taken ds spells t.no_rules t.applied more
+leads place body ds old new spells t rest outcome more = taken ds spells t.kept t.applied more
 
 pub at_next : (place count n : ℕ) (body : Text) (ds : List Delta) (c : Cat) → SpellsDeltas body ds → RefusesNext ds count c → n ≡ length (flat_map spelling (take count ds))
     → IsAtFault (place, body) c (place + n)
@@ -70,7 +70,7 @@ at_next place count n body ds c spells r is rest =
     let front : take count ds ≡ r.done = ap (λ k. take k ds) r.count_is ∙ ap (take (length r.done)) r.split ∙ take-append_seam r.done (r.next ∷ r.left) in
     let P : List Delta → Type 0 = λ l. SpellsDeltas body l in
     let Q : ℕ → Type 0 = λ k. Replays c ((place, body) ∷ rest) (Err (place + k)) in
-    subst Q (ap (λ l. length (flat_map spelling l)) (sym front) ∙ sym is) (refused r.done r.next r.left (subst P r.split spells) r.taken.no_rules r.taken.applied r.refused)
+    subst Q (ap (λ l. length (flat_map spelling l)) (sym front) ∙ sym is) (refused r.done r.next r.left (subst P r.split spells) r.taken.kept r.taken.applied r.refused)
 
 -- a part of a body has no more bytes
 pub part_within : (count n : ℕ) (body : Text) (ds : List Delta) → SpellsDeltas body ds → n ≡ length (flat_map spelling (take count ds)) → n ≤ length body

@@ -1,24 +1,23 @@
 -- What records make of a catalogue: one thing, and with one more record more.
-use Rattle.std.proofs.Common.{◌≡◌, ℕ, ◌+◌, IsTrue, List, [], ◌∷◌, ◌++◌, length, Result, Ok, Err, refl, sym, ap, subst, ◌∙◌}
-use Rattle.std.specs.List.{list_all, flat_map}
+use Rattle.std.proofs.Common.{◌≡◌, ℕ, ◌+◌, List, [], ◌∷◌, ◌++◌, length, Result, Ok, Err, refl, sym, ap, subst, ◌∙◌}
+use Rattle.std.specs.List.{AllByRecursion, flat_map}
 use Rattle.grid_model.specs.Names.{Text}
 use Rattle.grid_model.specs.Rows.{Cat}
 use Rattle.grid_model.specs.Applying.{apply_all}
 use Rattle.grid_model.specs.Deltas.{SpellsDeltas, spelling}
 use Rattle.grid_model.specs.declared.deltas.Delta.{Delta}
-use Rattle.grid_model.proofs.Fronts.{list_all-second}
 use Rattle.grid_model.proofs.Refusals.{IsRefusedAt-unique}
 use Rattle.row_codec.proofs.Spelled.{SpellsDeltas-unique}
-use Rattle.grid_journal.specs.Stands.{Replays, none_left, taken, unread, refused, IsRefused, sets_no_rules}
+use Rattle.grid_journal.specs.Stands.{Replays, none_left, taken, unread, refused, IsRefused, SetsKeptRules}
 use Rattle.grid_journal.proofs.DeltaLemmas.{ok_same, apply_all_after, not_taken, refused_once}
+use Rattle.grid_journal.proofs.KeptDeltas.{all_second}
 
 -- a body whose deltas are taken has no refused one
-apart : (c after before : Cat) (body : Text) (ds done left : List Delta) (d : Delta) → SpellsDeltas body ds → IsTrue (list_all sets_no_rules ds) → apply_all c ds ≡ Ok after
+apart : (c after before : Cat) (body : Text) (ds done left : List Delta) (d : Delta) → SpellsDeltas body ds → AllByRecursion SetsKeptRules ds → apply_all c ds ≡ Ok after
     → SpellsDeltas body (done ++ d ∷ left) → apply_all c done ≡ Ok before → IsRefused before d → ⊥
 apart c after before body ds done left d spells none applied other first not =
     let same = SpellsDeltas-unique body ds (done ++ d ∷ left) spells other in
-    let P : List Delta → Type 0 = λ l. IsTrue (list_all sets_no_rules l) in
-    let behind = list_all-second sets_no_rules done (d ∷ left) (subst P (sym same) none) in
+    let behind = all_second SetsKeptRules done (d ∷ left) (subst (AllByRecursion SetsKeptRules) (sym same) none) in
     not_taken before after d left not behind (sym (apply_all_after done (d ∷ left) c before first) ∙ ap (apply_all c) same ∙ applied)
 
 pub Replays-same : {c : Cat} {rs : List (ℕ × Text)} {one other : Result Cat ℕ} → Replays c rs one → Replays c rs other → other ≡ one
@@ -41,7 +40,7 @@ Replays-same (refused {c = c} {before = before} {place = place} {body = body} xs
 
 -- with one more record
 pub Replays-push : {c kept : Cat} {rs : List (ℕ × Text)} (place : ℕ) (body : Text) (ds : List Delta) (after : Cat) → Replays c rs (Ok kept)
-    → SpellsDeltas body ds → IsTrue (list_all sets_no_rules ds) → apply_all kept ds ≡ Ok after → Replays c (rs ++ (place, body) ∷ []) (Ok after)
+    → SpellsDeltas body ds → AllByRecursion SetsKeptRules ds → apply_all kept ds ≡ Ok after → Replays c (rs ++ (place, body) ∷ []) (Ok after)
 Replays-push place body ds after none_left p n a = taken ds p n a none_left
 Replays-push place body ds after (taken es q m b more) p n a = taken es q m b (Replays-push place body ds after more p n a)
 

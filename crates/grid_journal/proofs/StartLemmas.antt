@@ -19,8 +19,9 @@ use Rattle.grid_model.specs.declared.grid.UserKind.TheVariants.{Rodsadmin, Rodsg
 use Rattle.grid_model.proofs.NameSpelling.{IsName-from_test}
 use Rattle.grid_model.proofs.Comparing.{other_text}
 use Rattle.grid_journal.specs.Stands.{magic, HasHead, taken, none_left, Stands, stands}
-use Rattle.grid_journal.specs.Start.{start, start_users, start_collections, start_entries, start_deltas, main_with}
+use Rattle.grid_journal.specs.Start.{start, start_users, start_collections, start_deltas, main_with}
 use Rattle.grid_journal.proofs.DeltaLemmas.{then_all}
+use Rattle.grid_journal.proofs.KeptDeltas.{no_rules_kept}
 
 -- ---- names are texts of shown bytes
 
@@ -152,4 +153,4 @@ pub start_stands : (zone admin : Text) (stores : ℕ) (body other : Text) → Is
     → SpellsDeltas body (start_deltas zone admin stores) → length body ≤ 2 ^ 62 - 16 → Stands (main_with body) other (Ok (start zone admin stores))
 start_stands zone admin stores body other z a p some few spells short =
     stands (body ∷ []) (start zone admin stores) (has_head body) (has_log body (omega (arith, short)))
-    (taken (start_deltas zone admin stores) spells refl (start_applies zone admin stores z a p some few) none_left) refl
+    (taken (start_deltas zone admin stores) spells (no_rules_kept (start_deltas zone admin stores) refl) (start_applies zone admin stores z a p some few) none_left) refl

@@ -1,11 +1,11 @@
 -- What replaying records says on its way.
-use Rattle.std.specs.Prelude.{◌≡◌, ℕ, IsTrue, List, ◌∷◌, ◌++◌, length, None, IsSome, Result, Ok, Err}
-use Rattle.std.specs.List.{list_all}
+use Rattle.std.specs.Prelude.{◌≡◌, ℕ, List, ◌∷◌, ◌++◌, length, None, IsSome, Result, Ok, Err}
+use Rattle.std.specs.List.{AllByRecursion}
 use Rattle.grid_model.specs.Names.{Text}
 use Rattle.grid_model.specs.Rows.{Cat, empty_cat}
 use Rattle.grid_model.specs.Applying.{apply_all}
 use Rattle.grid_model.specs.declared.deltas.Delta.{Delta}
-use Rattle.grid_journal.specs.Stands.{Replays, IsRefused, sets_no_rules}
+use Rattle.grid_journal.specs.Stands.{Replays, IsRefused, SetsKeptRules}
 use Rattle.grid_model.specs.declared.grid.Side.TheVariants.{Main}
 use Rattle.grid_journal.specs.declared.error.JournalError.{JournalError}
 use Rattle.grid_journal.specs.declared.error.JournalError.TheVariants as error
@@ -27,7 +27,7 @@ IsAtFault r c at = (rest : List (ℕ × Text)) → Replays c (r ∷ rest) (Err a
 
 -- the deltas are taken, one after another
 pub record TakesAll (deltas : List Delta) (old new : Cat) : Type 0 where
-  pub no_rules : IsTrue (list_all sets_no_rules deltas)
+  pub kept : AllByRecursion SetsKeptRules deltas
   pub applied : apply_all old deltas ≡ Ok new
 
 -- so many deltas are taken, and the next is refused

@@ -1,19 +1,21 @@
 -- What the bytes of the two disks stand for: a catalogue, or none, with the side and the place where that shows. The format
 -- is this project's own.
-use Rattle.std.specs.Prelude.{◌≡◌, ◌≢◌, ◌⊎◌, ℕ, ◌+◌, ◌%◌, ◌<◌, Bool, true, false, not, IsTrue, List, [], ◌∷◌, ◌++◌, length, take, flat_map}
+use Rattle.std.specs.Prelude.{◌≡◌, ◌≢◌, ◌⊎◌, ℕ, ◌+◌, ◌%◌, ◌<◌, List, [], ◌∷◌, ◌++◌, length, take, flat_map}
 use Rattle.std.specs.Prelude.{slice_get, Some, None, IsSome, Result, Ok, Err, IsErr, codes}
-use Rattle.std.specs.List.{list_all}
+use Rattle.std.specs.List.{AllByRecursion}
 use Rattle.frame_log.specs.Log.{IsLog, IsBroken}
 use Rattle.frame_log.specs.Extent.{placed}
 use Rattle.grid_model.specs.Names.{Text}
 use Rattle.grid_model.specs.Places.{IsRefusedAt}
 use Rattle.grid_model.specs.Deltas.{SpellsDeltas, spelling}
+use Rattle.grid_model.specs.RuleText.{Rule}
 use Rattle.grid_model.specs.Rows.{Cat, empty_cat}
 use Rattle.grid_model.specs.Applying.{apply, apply_all}
 use Rattle.grid_model.specs.declared.deltas.Delta.{Delta}
 use Rattle.grid_model.specs.declared.deltas.Delta.TheVariants as delta
 use Rattle.grid_model.specs.declared.grid.Side.{Side}
 use Rattle.grid_model.specs.declared.grid.Side.TheVariants.{Main}
+use Rattle.rule_keep.specs.Kept.{IsKeptText}
 
 -- ---- the head in front of the log
 
@@ -37,18 +39,14 @@ pub data NoHead (main : Text) : ℕ → Type 0 where
 
 -- ---- the records behind it
 
--- Whether a delta sets rules. No catalogue has any yet, so such a one is refused.
-abbrev pub sets_rules : Delta → Bool
-sets_rules (delta.Rules text) = true
-sets_rules other = false
-
--- it sets none
-abbrev pub sets_no_rules : Delta → Bool
-sets_no_rules d = not (sets_rules d)
+-- the rules that a delta sets, if it sets some, are allowed and stand as they are printed
+abbrev pub SetsKeptRules : Delta → Type 0
+SetsKeptRules (delta.Rules text) = (rules : List Rule) × IsKeptText text rules
+SetsKeptRules other = Unit {0}
 
 -- the catalogue doesn't take this delta
 abbrev pub IsRefused : Cat → Delta → Type 0
-IsRefused c d = IsTrue (sets_rules d) ⊎ IsErr (apply c d)
+IsRefused c d = (¬ SetsKeptRules d) ⊎ IsErr (apply c d)
 
 -- What records, each the place of its body and the body, make of a catalogue, one after another: a catalogue, or the
 -- place of the first fault.
@@ -57,14 +55,14 @@ pub data Replays : Cat → List (ℕ × Text) → Result Cat ℕ → Type 0 wher
   none_left : {c : Cat} → Replays c [] (Ok c)
   -- the deltas of a record are taken, one after another
   taken : {c after : Cat} {place : ℕ} {body : Text} {rest : List (ℕ × Text)} {outcome : Result Cat ℕ} → (deltas : List Delta)
-      → SpellsDeltas body deltas → IsTrue (list_all sets_no_rules deltas) → apply_all c deltas ≡ Ok after → Replays after rest outcome
+      → SpellsDeltas body deltas → AllByRecursion SetsKeptRules deltas → apply_all c deltas ≡ Ok after → Replays after rest outcome
       → Replays c ((place, body) ∷ rest) outcome
   -- a body spells no deltas, from this place in it on
   unread : {c : Cat} {place : ℕ} {body : Text} {rest : List (ℕ × Text)} → (at : ℕ) → IsRefusedAt SpellsDeltas body at
       → Replays c ((place, body) ∷ rest) (Err (place + at))
   -- a delta is refused, which stands behind the spellings of those before it
   refused : {c before : Cat} {place : ℕ} {body : Text} {rest : List (ℕ × Text)} → (done : List Delta) (d : Delta) (left : List Delta)
-      → SpellsDeltas body (done ++ d ∷ left) → IsTrue (list_all sets_no_rules done) → apply_all c done ≡ Ok before → IsRefused before d
+      → SpellsDeltas body (done ++ d ∷ left) → AllByRecursion SetsKeptRules done → apply_all c done ≡ Ok before → IsRefused before d
       → Replays c ((place, body) ∷ rest) (Err (place + length (flat_map spelling done)))
 
 -- ---- both disks

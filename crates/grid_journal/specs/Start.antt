@@ -1,5 +1,5 @@
 -- The catalogue that a new grid has, which is this project's own.
-use Rattle.std.specs.Prelude.{ℕ, true, false, List, [], ◌∷◌, ◌++◌, None, Some, flat_map, replicate, codes}
+use Rattle.std.specs.Prelude.{ℕ, false, List, [], ◌∷◌, ◌++◌, None, Some, flat_map, replicate}
 use Rattle.frame_log.specs.Log.{frame}
 use Rattle.grid_model.specs.Names.{Text}
 use Rattle.grid_model.specs.Grid.{home, everybody}

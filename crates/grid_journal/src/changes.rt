@@ -1,8 +1,8 @@
-ghost use Rattle.std.specs.Prelude.{◌≡◌, ◌-◌, ◌^◌, ◌≤◌, ◌++◌, length, IsTrue, IfOk, OnOk, IsOk, Ok};
-ghost use Rattle.std.specs.List.{list_all};
+ghost use Rattle.std.specs.Prelude.{◌≡◌, ◌-◌, ◌^◌, ◌≤◌, ◌++◌, length, IfOk, OnOk, IsOk, Ok};
+ghost use Rattle.std.specs.List.{AllByRecursion};
 ghost use Rattle.grid_model.specs.Applying.{apply_all};
-ghost use Rattle.grid_model.specs.Deltas.{delta_fits, SpellsDeltas};
-ghost use Rattle.grid_journal.specs.Journal.{can_be_kept};
+ghost use Rattle.grid_model.specs.Deltas.{SpellsDeltas};
+ghost use Rattle.grid_journal.specs.Journal.{MayBeKept};
 
 use crate::replay::take_each;
 use grid_model::{Bytes, Deltas};
@@ -14,12 +14,16 @@ use std::alloc::{AllocError, Global};
 const LONGEST: usize = (1 << 62) - 16;
 
 /// Applies the deltas, one after another, of which none is refused. For want of memory a part of them may be applied.
-pub(crate) fn apply_each(tables: &mut Tables, deltas: Deltas) -> Result<(), AllocError>
+pub(crate) fn apply_each(
+    alloc: Global,
+    tables: &mut Tables,
+    deltas: Deltas,
+) -> Result<(), AllocError>
     requires apply { IsOk (apply_all tables.old deltas) }
-    requires kept { IsTrue (list_all can_be_kept deltas) }
+    requires kept { AllByRecursion MayBeKept deltas }
     ensures { OnOk result (apply_all tables.old deltas ≡ Ok tables.new) }
 {
-    match take_each(tables, deltas)? {
+    match take_each(alloc, tables, deltas)? {
         None => Ok(()),
         Some(_) => unreachable!(),
     }
@@ -27,7 +31,7 @@ pub(crate) fn apply_each(tables: &mut Tables, deltas: Deltas) -> Result<(), Allo
 
 /// The same deltas once more, read from their bytes.
 pub(crate) fn copy_of(alloc: Global, deltas: &Deltas) -> Result<Deltas, AllocError>
-    requires { IsTrue (list_all can_be_kept deltas.now) }
+    requires { AllByRecursion MayBeKept deltas.now }
     ensures { IfOk result (λ copy. copy ≡ deltas.now) }
 {
     let bytes = encode(alloc, deltas)?;
@@ -41,8 +45,8 @@ pub(crate) fn copy_of(alloc: Global, deltas: &Deltas) -> Result<Deltas, AllocErr
 /// The body of the record with the first deltas and then the others. Fails for want of memory alone, which is also
 /// the answer where it would have more than 2^62 - 16 bytes.
 pub(crate) fn record_of(alloc: Global, first: &Deltas, then: &Deltas) -> Result<Bytes, AllocError>
-    requires first { IsTrue (list_all can_be_kept first.now) }
-    requires then { IsTrue (list_all can_be_kept then.now) }
+    requires first { AllByRecursion MayBeKept first.now }
+    requires then { AllByRecursion MayBeKept then.now }
     ensures spells { IfOk result (λ bytes. SpellsDeltas bytes (first.now ++ then.now)) }
     ensures short { IfOk result (λ bytes. length bytes ≤ 2 ^ 62 - 16) }
 {

@@ -14,5 +14,5 @@ mod starting;
 mod store;
 
 pub use error::JournalError;
-pub use laws::{kept_stands, stands_for_one};
+pub use laws::{kept_stands, rules_are_kept, stands_for_one};
 pub use store::Store;

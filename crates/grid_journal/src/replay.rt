@@ -1,4 +1,4 @@
-ghost use Rattle.std.specs.Prelude.{◌≡◌, ◌+◌, ◌^◌, ◌<◌, ◌≤◌, ℕ, Ok, Err, List, length, map, take, flat_map, MatchOption, MatchResult, IfOk};
+ghost use Rattle.std.specs.Prelude.{◌≡◌, ◌+◌, ◌^◌, ◌<◌, ◌≤◌, ℕ, false, Ok, Err, List, length, map, take, flat_map, MatchOption, MatchResult, IfOk, IsTrue};
 ghost use Rattle.frame_log.specs.Extent.{placed, bodies};
 ghost use Rattle.frame_log.specs.Log.{frames};
 ghost use Rattle.frame_log.specs.Records.{placed_body};
@@ -6,13 +6,14 @@ ghost use Rattle.grid_model.specs.Deltas.{SpellsDeltas, spelling};
 ghost use Rattle.grid_model.specs.Rows.{empty_cat};
 ghost use Rattle.grid_model.specs.declared.deltas.Delta.{Delta as DeltaOf};
 ghost use Rattle.grid_journal.specs.Replaying.{ReplayStopsAt, Leads, IsAtFault, TakesAll, RefusesNext};
-ghost use Rattle.grid_journal.specs.Stands.{Replays, sets_rules};
+ghost use Rattle.grid_journal.specs.Stands.{Replays, SetsKeptRules};
 ghost use Rattle.grid_journal.specs.declared.replay.ReplayError.TheVariants.{Memory as NoMemory};
 
 use frame_log::Record;
 use grid_model::{Delta, Deltas};
 use grid_tables::{TableError, Tables};
 use row_codec::{CodecError, decode, encode};
+use rule_keep::kept_rules;
 use std::alloc::{AllocError, Global};
 
 /// Why records make no catalogue.
@@ -62,7 +63,7 @@ fn replay_record(alloc: Global, tables: &mut Tables, logged: &Record) -> Result<
         }
         Err(CodecError::Memory) => return Err(ReplayError::Memory),
     };
-    match take_each(tables, deltas)? {
+    match take_each(alloc, tables, deltas)? {
         None => Ok(()),
         Some(count) => {
             let before = length_of_first(alloc, body, count)?;
@@ -73,15 +74,21 @@ fn replay_record(alloc: Global, tables: &mut Tables, logged: &Record) -> Result<
     }
 }
 
-/// Applies deltas up to the first that is refused, and answers how many stand before that one. For want of memory a
-/// part of them may be applied.
-pub(crate) fn take_each(tables: &mut Tables, deltas: Deltas) -> Result<Option<usize>, AllocError>
+/// Applies deltas up to the first that is refused, and answers how many stand before that one. One that sets rules is
+/// refused where its text is not that of allowed rules as they are printed. For want of memory a part of them may be
+/// applied.
+pub(crate) fn take_each(
+    alloc: Global,
+    tables: &mut Tables,
+    deltas: Deltas,
+) -> Result<Option<usize>, AllocError>
     ensures { IfOk result (λ refused. MatchOption refused (TakesAll deltas tables.old tables.new)
         (λ count. RefusesNext deltas count tables.old)) }
 {
     let mut count = 0;
     for delta in deltas.into_vec() {
-        if is_of_rules(&delta) {
+        let is_kept = sets_kept_rules(alloc, &delta)?;
+        if !is_kept {
             return Ok(Some(count));
         }
         match tables.apply(delta) {
@@ -93,11 +100,15 @@ pub(crate) fn take_each(tables: &mut Tables, deltas: Deltas) -> Result<Option<us
     Ok(None)
 }
 
-// Whether a delta sets rules.
-fn is_of_rules(delta: &Delta) -> bool
-    ensures { result ≡ sets_rules delta.now }
+// Whether the rules that a delta sets, if it sets some, are allowed and stand as they are printed.
+fn sets_kept_rules(alloc: Global, delta: &Delta) -> Result<bool, AllocError>
+    ensures kept { IfOk result (λ is_kept. IsTrue is_kept → SetsKeptRules delta.now) }
+    ensures others { IfOk result (λ is_kept. is_kept ≡ false → ¬ SetsKeptRules delta.now) }
 {
-    matches!(delta, Delta::Rules { text: _ })
+    match delta {
+        Delta::Rules { text } => Ok(kept_rules(alloc, text)?.is_some()),
+        _ => Ok(true),
+    }
 }
 
 // How many bytes the first so many deltas have that a body spells.

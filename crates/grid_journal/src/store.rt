@@ -1,6 +1,6 @@
 ghost use Rattle.std.specs.Prelude.{◌≡◌, ◌≢◌, ◌↔◌, ◌⊎◌, ℕ, ◌+◌, ◌-◌, ◌*◌, ◌^◌, ◌<◌, ◌≤◌, List, [], ◌∷◌, ◌++◌, length, flat_map, true};
 ghost use Rattle.std.specs.Prelude.{false, IsTrue, Some, None, IfOk, OnOk, OnErr, IsOk, IsErrOf, MatchResult, Ok, Err};
-ghost use Rattle.std.specs.List.{list_all};
+ghost use Rattle.std.specs.List.{AllByRecursion};
 ghost use Rattle.frame_log.specs.Extent.{extent_of, placed, bodies, IsLogOf};
 ghost use Rattle.grid_outside.specs.Device.{Between, Leaves, Looks, IsSettled};
 ghost use Rattle.grid_outside.specs.Disk.{Torn};
@@ -13,7 +13,7 @@ ghost use Rattle.grid_model.specs.Rows.{Cat, empty_cat};
 ghost use Rattle.grid_model.specs.Applying.{apply_all};
 ghost use Rattle.grid_model.specs.declared.deltas.Delta.{Delta};
 ghost use Rattle.grid_model.specs.declared.grid.Side.{Side as SideOf};
-ghost use Rattle.grid_journal.specs.Journal.{Keeps, AreSpelled, IsSpelledPending, can_be_kept};
+ghost use Rattle.grid_journal.specs.Journal.{Keeps, AreSpelled, IsSpelledPending, MayBeKept};
 ghost use Rattle.grid_journal.specs.Stands.{Stands, StandsEither};
 ghost use Rattle.grid_journal.specs.Start.{start, start_main};
 ghost use Rattle.grid_journal.specs.Replaying.{HasCatalogue, IsUnread};
@@ -51,14 +51,14 @@ pub struct Store {
 
 impl Model for Store {
     ghost use Rattle.std.specs.Prelude.{IsTrue};
-    ghost use Rattle.std.specs.List.{list_all};
-    ghost use Rattle.grid_journal.specs.Journal.{Journal, HasSpelledRows, can_be_kept};
+    ghost use Rattle.std.specs.List.{AllByRecursion};
+    ghost use Rattle.grid_journal.specs.Journal.{Journal, HasSpelledRows, MayBeKept};
 
     ghost Value = { Journal };
 
     ghost view = { λ s. record { cat = s.tables; staged = s.staged; log = s.log; sound = s.sound } };
 
-    ghost invariant = { λ s. IsTrue (list_all can_be_kept s.staged) × (IsTrue s.sound → HasSpelledRows s.tables) };
+    ghost invariant = { λ s. AllByRecursion MayBeKept s.staged × (IsTrue s.sound → HasSpelledRows s.tables) };
 }
 
 impl Store {
@@ -220,19 +220,19 @@ impl Store {
 
     /// Applies the deltas to the rows and keeps them for the next commit. No disk is called.
     ///
-    /// The store is sound, none of the deltas is refused, one after another, each has a spelling, and none sets
-    /// rules. Fails for want of memory alone, and is then not sound.
+    /// The store is sound, none of the deltas is refused, one after another, each has a spelling, and rules that one
+    /// sets are allowed and stand as they are printed. Fails for want of memory alone, and is then not sound.
     pub fn stage(&mut self, alloc: Global, deltas: Deltas) -> Result<(), AllocError>
         requires sound { IsTrue self.old.sound }
         requires apply { IsOk (apply_all self.old.cat deltas) }
-        requires spelled { IsTrue (list_all can_be_kept deltas) }
+        requires spelled { AllByRecursion MayBeKept deltas }
         ensures staged { OnOk result (Stages deltas self.old self.new) }
         ensures keeps { OnOk result ((kept : Cat) (main : TextOf) → Keeps kept self.old main → Keeps kept self.new main) }
         ensures unsound { OnErr result (self.new.sound ≡ false) }
     {
         self.sound = false;
         let mut copy = copy_of(alloc, &deltas)?.into_vec();
-        apply_each(&mut self.tables, deltas)?;
+        apply_each(alloc, &mut self.tables, deltas)?;
         let mut staged = replace(&mut self.staged, Deltas::from_vec(Vec::new(alloc))).into_vec();
         staged.append(&mut copy)?;
         self.staged = Deltas::from_vec(staged);
@@ -259,7 +259,7 @@ impl Store {
         requires room { moments.old + 4 < 2 ^ 128 }
         requires sound { IsTrue self.old.sound }
         requires apply { IsOk (apply_all self.old.cat deltas) }
-        requires spelled { IsTrue (list_all can_be_kept deltas) }
+        requires spelled { AllByRecursion MayBeKept deltas }
         requires log { IsTrue (D.disk main.old).tells → (kept : Cat) × Keeps kept self.old (D.disk main.old).holds }
 
         // After Ok main has the catalogue of the rows, and nothing is staged or pending.
@@ -304,7 +304,7 @@ impl Store {
         }
         self.sound = false;
         let body = record_of(alloc, &self.staged, &deltas)?;
-        apply_each(&mut self.tables, deltas)?;
+        apply_each(alloc, &mut self.tables, deltas)?;
         self.log.append(alloc, main, moments, body.as_slice())?;
         self.staged = Deltas::from_vec(Vec::new(alloc));
         self.sound = true;

@@ -8,9 +8,10 @@ use Rattle.grid_model.specs.Inputs.{Asked}
 use Rattle.grid_model.specs.Rows.{Cat}
 use Rattle.grid_model.specs.Runs.{Request}
 use Rattle.grid_journal.specs.Stands.{Stands, stands as made_of, StandsFor}
+use Rattle.grid_headline.specs.Headline.{BeginsOn}
 use Rattle.grid_headline.specs.Reads.{MeansRequest, EndsInput}
 use Rattle.grid_headline.specs.Worlds.{World}
-use Rattle.run_laws.specs.Sofar.{BeginsPlainly, CallsGoOn, KeepsWhole, Sofar}
+use Rattle.run_laws.specs.Sofar.{CallsGoOn, KeepsWhole, Sofar}
 use Rattle.grid_model.specs.Working.{Done}
 use Rattle.run_laws.specs.Steps.{ComesAfter, NotesLine, RequestStep, kept, unseen}
 use Rattle.run_laws.proofs.RunLaws.{one_more}
@@ -74,12 +75,12 @@ pub uncalled_or_begun : {Uncalled : Type 0} {Begun : SourceState → Type 0} (so
 uncalled_or_begun source (inl same) = inl same
 uncalled_or_begun source (inr begun) = inr (begun source)
 
-module _ {B : Type 0} {old mid new : World B} {found : Cat} {before : Server} {asked : List Asked} {a : Asked} {request : Request} (after : Server) (plain : BeginsPlainly old found)
+module _ {B : Type 0} {old mid new : World B} {found : Cat} {before : Server} {asked : List Asked} {a : Asked} {request : Request} (after : Server) (begin : BeginsOn old found)
     (so : Sofar old mid found before.store.cat (state_of before) asked) (goes : CallsGoOn old.source.left mid new before.store.cat) (notes : NotesLine a.line mid new) (means : MeansRequest (state_of before) a request) where
   -- it was handled whole, and does not end the input
   pub answered_more : (done : ⊤) → Obeys mid new before (length asked + 1) request (Ok done) after → SweepLeavesFew mid new before request (Ok done) after → ¬ EndsInput a
       → Sofar old new found after.store.cat (state_of after) (asked ++ a ∷ [])
-  answered_more done (handled step ends) few not = one_more plain so goes notes means not step (few step.marks step.d step.does_so) ends.0
+  answered_more done (handled step ends) few not = one_more begin so goes notes means not step (few step.marks step.d step.does_so) ends.0
   answered_more done (quiet ending e q) few not = absurd (cc e)
 
 -- it fits, and the catalogue is of as many stores
@@ -89,5 +90,5 @@ fits_more old new before n request done after (handled step ends) = (ends.1, sto
   where
     stores_of : {d : Done} → ComesAfter before.store.cat n d after.store.cat → after.store.cat.stores ≡ before.store.cat.stores
     stores_of (kept its) = its.stores
-    stores_of (unseen like marks grid) = like.stores
+    stores_of (unseen like marks grid rules) = like.stores
 fits_more old new before n request done after (quiet ending e q) = absurd (cc e)

@@ -1,5 +1,5 @@
 -- What a request that was heard asks for.
-use Rattle.std.proofs.Common.{◌≡◌, ℕ, ◌<◌, Bool, true, false, List, [], ◌∷◌, arith, refl, sym, ap, ◌∙◌, subst}
+use Rattle.std.proofs.Common.{◌≡◌, ℕ, ◌<◌, ◌≤◌, length, Bool, true, false, List, [], ◌∷◌, arith, refl, sym, ap, ◌∙◌, subst}
 use Rattle.std.specs.Bool.{MatchBool}
 use Rattle.std.specs.Prelude.{nat_lt, Option, Some, None, Result, Ok, Err, IsTrue}
 use Rattle.std.proofs.lemmas.Bool.{ltb-true}
@@ -15,7 +15,7 @@ use Rattle.grid_model.specs.declared.refusal.Refusal.{Refusal}
 use Rattle.grid_model.specs.declared.refusal.Refusal.TheVariants as refusal
 use Rattle.cmd_read.specs.Reading.{Reads, as_session, session_of, ReadsBehind, ReadsIn}
 use Rattle.cmd_read.specs.Table.{number_of}
-use Rattle.cmd_read.specs.Orders.{refusal_of, asks_for as reads_so}
+use Rattle.cmd_read.specs.Orders.{refusal_of, promised, asks_for as reads_so}
 use Rattle.cmd_read.specs.declared.error.ReadError.{ReadError}
 use Rattle.cmd_read.specs.declared.error.ReadError.TheVariants as error
 use Rattle.grid_headline.specs.Reads.{texts, is_built, MeansRequest, EndsInput}
@@ -84,6 +84,17 @@ pub record Asks (at : State) (line body : Text) (asked : Result Request Refusal)
   pub asks : AsksForRequest at asked held request
   pub means : MeansRequest at (record { line = line; body = body }) request
 
+-- a body has as many bytes as were promised
+promised_there : (line body : Text) (asked : Result Request Refusal) → IsReadAs line body asked → (request : Request) → asked ≡ Ok request
+    → promised request.verb ≤ length body
+promised_there line body asked (a_request {words = words} own short spells reads all) request e =
+    let same : own ≡ request = cc in
+    subst (λ (r : Request). promised r.verb ≤ length body) same all
+promised_there line body asked (cut_short own short spells reads few) request e = absurd cc
+promised_there line body asked (wrong_words {r = r} why short spells reads is) request e = absurd cc
+promised_there line body asked (no_words short refused) request e = absurd cc
+promised_there line body asked (too_long long) request e = absurd cc
+
 -- all of a body, or nothing
 abbrev all_or_none : Text → Bool → Text
 all_or_none body b = elim b [ true ↦ body | false ↦ [] ]
@@ -96,7 +107,9 @@ module _ (at : State) (line body held : Text) where
   by_verb : (session : ℕ) (v : Verb) (built : Bool) → is_built v ≡ built → IsReadAs line body (Ok (record { session = session; verb = v }))
       → held ≡ held_of (Ok (record { session = session; verb = v })) body → Asks at line body (Ok (record { session = session; verb = v })) held
   by_verb session v true built read is =
-      let m = meant at v body held built (form_of line body (Ok (record { session = session; verb = v })) read).1 (λ small. sym (is ∙ ap (all_or_none body) small)) in
+      let asked : Result Request Refusal = Ok (record { session = session; verb = v }) in
+      let m = meant at v body held built (form_of line body asked read).1 (λ small. sym (is ∙ ap (all_or_none body) small))
+      (promised_there line body asked read (record { session = session; verb = v }) refl) in
       record {
         request = Ok (session, m.0);
         asks = subst (by_built session v (Ok (session, m.0))) (sym built) (m.0, refl, m.1);

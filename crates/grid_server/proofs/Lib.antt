@@ -1,5 +1,6 @@
 pub mod AnsweredLemmas
 pub mod AskLemmas
+pub mod BaseLemmas
 pub mod EndLemmas
 pub mod OpensLemmas
 pub mod RestLemmas

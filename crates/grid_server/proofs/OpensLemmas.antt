@@ -1,5 +1,5 @@
 -- A run that is opened, or not, over a catalogue that was read.
-use Rattle.std.proofs.Common.{◌≡◌, ◌⊎◌, inl, inr, ℕ, [], length, Some, Ok, refl, sym, ◌∙◌, subst, arith, IsTrue}
+use Rattle.std.proofs.Common.{◌≡◌, ◌⊎◌, inl, inr, ℕ, List, [], length, Some, Ok, refl, sym, ◌∙◌, subst, arith, IsTrue}
 use Rattle.grid_outside.specs.Disk.{DiskState}
 use Rattle.grid_outside.specs.Fault.{Rose}
 use Rattle.grid_outside.specs.declared.outside.Wear.{Wear}
@@ -7,16 +7,18 @@ use Rattle.grid_outside.specs.declared.outside.Wear.TheVariants as wear
 use Rattle.grid_model.specs.Beginning.{begins}
 use Rattle.grid_model.specs.Names.{Text}
 use Rattle.grid_model.specs.Rows.{Cat}
+use Rattle.grid_model.specs.RuleText.{Rule}
 use Rattle.grid_model.specs.declared.grid.Side.{Side}
 use Rattle.grid_journal.specs.Stands.{Stands}
+use Rattle.grid_journal.proofs.KeptRules.{standing_rules}
 use Rattle.grid_headline.specs.Ends.{RunEnd, no_memory, disk_failed, sink_failed, worn, HasRunOut, HasOneMore}
 use Rattle.grid_headline.specs.Files.{DisksAreSettled, IsKnown, WereWhole}
-use Rattle.grid_headline.specs.Headline.{Serves}
+use Rattle.grid_headline.specs.Headline.{BeginsOn, Serves}
+use Rattle.grid_headline.specs.Reads.{HasRules}
 use Rattle.grid_headline.specs.Worlds.{World}
 use Rattle.run_laws.specs.declared.around.Around.{Around}
 use Rattle.run_laws.specs.Ends.{StopsSo, IsGoodIfNoneFailed}
 use Rattle.run_laws.specs.Opening.{Opened, Opens}
-use Rattle.run_laws.specs.Sofar.{BeginsPlainly}
 use Rattle.run_laws.specs.Steps.{IsToldOf}
 use Rattle.run_laws.specs.Went.{AreInOrder, Rests}
 use Rattle.run_laws.proofs.Goings.{rests-settled, rests-then}
@@ -34,6 +36,12 @@ use Rattle.grid_server.specs.Wearing.{HasWorn}
 use Rattle.grid_server.specs.declared.status.Status.{Status}
 use Rattle.grid_server.specs.declared.status.Status.TheVariants as status
 use Rattle.grid_server.proofs.RestLemmas.{rests_where}
+
+-- ---- the rules
+
+-- the catalogue that was found has the text of some rules
+pub rules_found : {B : Type 0} (old : World B) (found : Cat) → BeginsOn old found → (rules : List Rule) × HasRules found rules
+rules_found old found begin = let k = standing_rules begin.stands in (k.0, sym k.1.printed)
 
 -- ---- behind a look at the disks
 
@@ -56,6 +64,7 @@ module _ {B : Type 0} (start : World B) (main spare : DiskState) (looked : Rests
 
     known-so : (slot : ℕ) → IsKnown first_world found slot → IsKnown start found slot
     known-so slot known = record {
+      main = subst IsTrue (sym looked.tells) main_tells;
       settled = settled-so known.settled;
       whole = whole-so known.whole;
       there = record { store = known.there.store; is = known.there.is; tells = known.there.tells };
@@ -69,18 +78,15 @@ module _ {B : Type 0} (start : World B) (main spare : DiskState) (looked : Rests
       stores_last = order.stores_last;
     }
 
-    plain-so : BeginsPlainly first_world found → BeginsPlainly start found
-    plain-so plain = record {
-      begin = record {
-        main_tells = subst IsTrue (sym looked.tells) main_tells;
-        spare_tells = subst IsTrue (sym spare_looked.tells) spare_tells;
-        source_tells = plain.begin.source_tells;
-        stands = (let S : Text → Type 0 = λ m. Stands m start.spare.holds (Ok found) in
-            let T : Text → Type 0 = λ s. Stands main.holds s (Ok found) in
-            subst S (sym (looked.holds main_tells)) (subst T (sym (spare_looked.holds spare_tells)) plain.begin.stands));
-        stores = plain.begin.stores;
-      };
-      rules = plain.rules;
+    begin-so : BeginsOn first_world found → BeginsOn start found
+    begin-so begin = record {
+      main_tells = subst IsTrue (sym looked.tells) main_tells;
+      spare_tells = subst IsTrue (sym spare_looked.tells) spare_tells;
+      source_tells = begin.source_tells;
+      stands = (let S : Text → Type 0 = λ m. Stands m start.spare.holds (Ok found) in
+          let T : Text → Type 0 = λ s. Stands main.holds s (Ok found) in
+          subst S (sym (looked.holds main_tells)) (subst T (sym (spare_looked.holds spare_tells)) begin.stands));
+      stores = begin.stores;
     }
 
     module _ (now : World B) where
@@ -161,9 +167,9 @@ open_out found main_old main_new spare error.Memory what place is told stops = a
 
 -- ---- how a run ends that was not opened
 
-module _ {B : Type 0} (old now : World B) (found : Cat) (plain : BeginsPlainly old found) (opens : Opens old now found) where
-  ends_so : (x : RunEnd) → StopsSo old now found (begins opens.undone.opened.grid []) [] x → IsGoodIfNoneFailed old now x → Serves old now found x
-  ends_so x stops good = ends_before plain opens stops good
+module _ {B : Type 0} (old now : World B) (found : Cat) (begin : BeginsOn old found) (opens : Opens old now found) where
+  ends_so : (x : RunEnd) → StopsSo old now found (begins opens.undone.opened.grid opens.undone.rules) [] x → IsGoodIfNoneFailed old now x → Serves old now found x
+  ends_so x stops good = ends_before begin opens stops good
 
   pub serves_unopened : (e : OpenError) (end : RunEnd) → run_end_of (unopened e) ≡ Some end → OpenStops found old.main now.main e
       → (e ≡ error.Disk → Rose old.main.faults now.main.faults) → (e ≡ error.Sink → Rose old.sink.faults now.sink.faults) → Serves old now found end
@@ -172,11 +178,11 @@ module _ {B : Type 0} (old now : World B) (found : Cat) (plain : BeginsPlainly o
       subst (λ (x : RunEnd). Serves old now found x) is (ends_so (worn wear.Runs place) (stops, refl) (λ none fits. tt))
   serves_unopened (error.Vaults place) end its stops cause sink_cause =
       let is : worn wear.Vaults place ≡ end = cc in
-      let out = open_out found old.main now.main now.spare.holds (error.Vaults place) wear.Vaults place refl plain.begin.main_tells stops in
+      let out = open_out found old.main now.main now.spare.holds (error.Vaults place) wear.Vaults place refl begin.main_tells stops in
       subst (λ (x : RunEnd). Serves old now found x) is (ends_so (worn wear.Vaults place) (out, inr stops.0) (λ none fits. tt))
   serves_unopened (error.Log place) end its stops cause sink_cause =
       let is : worn wear.Log place ≡ end = cc in
-      let out = open_out found old.main now.main now.spare.holds (error.Log place) wear.Log place refl plain.begin.main_tells stops in
+      let out = open_out found old.main now.main now.spare.holds (error.Log place) wear.Log place refl begin.main_tells stops in
       subst (λ (x : RunEnd). Serves old now found x) is (ends_so (worn wear.Log place) (out, tt) (λ none fits. tt))
   serves_unopened error.Disk end its stops cause sink_cause =
       let is : disk_failed ≡ end = cc in
@@ -206,30 +212,33 @@ not_disk side at s (inr (inr e)) is = cc (e, is)
 
 module _ {D S K A P : Type 0} (v : Views D S K A P) (start : Around D S K A P) where
   -- over the catalogue that was found
-  pub serves_held : (new : Around D S K A P) (held found : Cat) (end : RunEnd) → held ≡ found → BeginsPlainly (world_of v start) found
-      → (BeginsPlainly (world_of v start) held → Serves (world_of v start) (world_of v new) held end) → Serves (world_of v start) (world_of v new) found end
-  serves_held new held found end same plain serves =
-      let B : Cat → Type 0 = λ c. BeginsPlainly (world_of v start) c in
+  pub serves_held : (new : Around D S K A P) (held found : Cat) (end : RunEnd) → held ≡ found → BeginsOn (world_of v start) found
+      → (BeginsOn (world_of v start) held → Serves (world_of v start) (world_of v new) held end) → Serves (world_of v start) (world_of v new) found end
+  serves_held new held found end same begin serves =
+      let B : Cat → Type 0 = λ c. BeginsOn (world_of v start) c in
       let S : Cat → Type 0 = λ c. Serves (world_of v start) (world_of v new) c end in
-      subst S same (serves (subst B (sym same) plain))
+      subst S same (serves (subst B (sym same) begin))
 
   -- what was before the disks were looked at
   abbrev pub first : D → D → Around D S K A P
   first main spare = record start { outside = record start.outside { main = main; spare = spare } }
 
-  module _ (main spare : D) (found : Cat) (plain : BeginsPlainly (world_of v (first main spare)) found) (order : AreInOrder (world_of v (first main spare)))
+  module _ (main spare : D) (found : Cat) (begin : BeginsOn (world_of v (first main spare)) found) (order : AreInOrder (world_of v (first main spare)))
       (looked : Rests (v.disk main) (v.disk start.outside.main)) (spare_looked : Rests (v.disk spare) (v.disk start.outside.spare)) where
     pub order_now : AreInOrder (world_of v start)
-    order_now = order-so (world_of v start) (v.disk main) (v.disk spare) looked spare_looked plain.begin.main_tells plain.begin.spare_tells found order
+    order_now = order-so (world_of v start) (v.disk main) (v.disk spare) looked spare_looked begin.main_tells begin.spare_tells found order
 
-    pub plain_now : BeginsPlainly (world_of v start) found
-    plain_now = plain-so (world_of v start) (v.disk main) (v.disk spare) looked spare_looked plain.begin.main_tells plain.begin.spare_tells found plain
+    pub begin_now : BeginsOn (world_of v start) found
+    begin_now = begin-so (world_of v start) (v.disk main) (v.disk spare) looked spare_looked begin.main_tells begin.spare_tells found begin
 
     -- it was opened
-    pub opens_now : (now : Around D S K A P) (begun : Cat) → Opened (world_of v start) (world_of v now) found begun → WasOpened v (first main spare) now found begun
-    opens_now now begun o = record {
-      plain = plain;
-      opened = opened-before (world_of v start) (v.disk main) (v.disk spare) looked spare_looked plain.begin.main_tells plain.begin.spare_tells found (world_of v now) begun o;
+    pub opens_now : (now : Around D S K A P) (begun : Cat) (rules : List Rule) → (o : Opened (world_of v start) (world_of v now) found begun)
+        → o.opens.undone.rules ≡ rules → WasOpened v (first main spare) now found begun rules
+    unfolding opened-before opens-before
+    opens_now now begun rules o rules_are = record {
+      begin = begin;
+      opened = opened-before (world_of v start) (v.disk main) (v.disk spare) looked spare_looked begin.main_tells begin.spare_tells found (world_of v now) begun o;
+      rules_are = rules_are;
     }
 
     -- or not
@@ -237,8 +246,8 @@ module _ {D S K A P : Type 0} (v : Views D S K A P) (start : Around D S K A P) w
         → OpenStops found (v.disk start.outside.main) (v.disk now.outside.main) e → (e ≡ error.Disk → Rose (v.disk start.outside.main).faults (v.disk now.outside.main).faults)
         → (e ≡ error.Sink → Rose (v.sink start.sink).faults (v.sink now.sink).faults) → Serves (world_of v (first main spare)) (world_of v now) found end
     serves_not now e end o its stops cause sink_cause =
-        serves_unopened (world_of v (first main spare)) (world_of v now) found plain
-        (opens-before (world_of v start) (v.disk main) (v.disk spare) looked spare_looked plain.begin.main_tells plain.begin.spare_tells found (world_of v now) o)
+        serves_unopened (world_of v (first main spare)) (world_of v now) found begin
+        (opens-before (world_of v start) (v.disk main) (v.disk spare) looked spare_looked begin.main_tells begin.spare_tells found (world_of v now) o)
         e end its (stops_first e stops) (λ d. (let rose = cause d in omega (arith, rose, looked.faults))) sink_cause
       where
         stops_first : (x : OpenError) → OpenStops found (v.disk start.outside.main) (v.disk now.outside.main) x → OpenStops found (v.disk main) (v.disk now.outside.main) x
@@ -252,30 +261,32 @@ module _ {D S K A P : Type 0} (v : Views D S K A P) (start : Around D S K A P) w
     -- nothing was called
     pub serves_still : (end : RunEnd) → run_end_of status.Memory ≡ Some end → Serves (world_of v (first main spare)) (world_of v start) found end
     serves_still end its =
-        serves_not start error.Memory end (opens-still (world_of v start) found plain_now.begin order_now) its tt (λ e. cc e) (λ e. cc e)
+        let r = rules_found (world_of v start) found begin_now in
+        serves_not start error.Memory end (opens-still (world_of v start) found r.0 begin_now order_now r.1).0 its tt (λ e. cc e) (λ e. cc e)
 
   -- the disks were only looked at
-  module _ (found : Cat) (main spare : D) (plain : BeginsPlainly (world_of v start) found) (order : AreInOrder (world_of v start)) (looked : Rests (v.disk start.outside.main) (v.disk main)) (same : spare ≡ start.outside.spare) where
+  module _ (found : Cat) (main spare : D) (begin : BeginsOn (world_of v start) found) (order : AreInOrder (world_of v start)) (looked : Rests (v.disk start.outside.main) (v.disk main)) (same : spare ≡ start.outside.spare) where
     abbrev pub seen : Around D S K A P
     seen = record start { outside = record start.outside { main = main; spare = spare } }
 
     spare_looked : Rests (v.disk start.outside.spare) (v.disk spare)
     spare_looked = rests_where v.disk start.outside.spare spare same
 
-    seen_plain : BeginsPlainly (world_of v seen) found
-    seen_plain = plain-so (world_of v seen) (v.disk start.outside.main) (v.disk start.outside.spare) looked spare_looked plain.begin.main_tells plain.begin.spare_tells found plain
+    seen_begin : BeginsOn (world_of v seen) found
+    seen_begin = begin-so (world_of v seen) (v.disk start.outside.main) (v.disk start.outside.spare) looked spare_looked begin.main_tells begin.spare_tells found begin
 
     seen_order : AreInOrder (world_of v seen)
-    seen_order = order-so (world_of v seen) (v.disk start.outside.main) (v.disk start.outside.spare) looked spare_looked plain.begin.main_tells plain.begin.spare_tells found order
+    seen_order = order-so (world_of v seen) (v.disk start.outside.main) (v.disk start.outside.spare) looked spare_looked begin.main_tells begin.spare_tells found order
 
     opens_looked : Opens (world_of v start) (world_of v seen) found
     opens_looked =
-        opens-before (world_of v seen) (v.disk start.outside.main) (v.disk start.outside.spare) looked spare_looked plain.begin.main_tells plain.begin.spare_tells found (world_of v seen)
-        (opens-still (world_of v seen) found seen_plain.begin seen_order)
+        let r = rules_found (world_of v seen) found seen_begin in
+        opens-before (world_of v seen) (v.disk start.outside.main) (v.disk start.outside.spare) looked spare_looked begin.main_tells begin.spare_tells found (world_of v seen)
+        (opens-still (world_of v seen) found r.0 seen_begin seen_order r.1).0
 
     pub serves_looked_memory : (end : RunEnd) → run_end_of status.Memory ≡ Some end → Serves (world_of v start) (world_of v seen) found end
-    serves_looked_memory end its = serves_unopened (world_of v start) (world_of v seen) found plain opens_looked error.Memory end its tt (λ e. cc e) (λ e. cc e)
+    serves_looked_memory end its = serves_unopened (world_of v start) (world_of v seen) found begin opens_looked error.Memory end its tt (λ e. cc e) (λ e. cc e)
 
     pub serves_looked_fault : (end : RunEnd) → run_end_of status.DiskFault ≡ Some end → Rose (v.disk start.outside.main).faults (v.disk main).faults
         → Serves (world_of v start) (world_of v seen) found end
-    serves_looked_fault end its rose = serves_unopened (world_of v start) (world_of v seen) found plain opens_looked error.Disk end its tt (λ d. rose) (λ e. cc e)
+    serves_looked_fault end its rose = serves_unopened (world_of v start) (world_of v seen) found begin opens_looked error.Disk end its tt (λ d. rose) (λ e. cc e)

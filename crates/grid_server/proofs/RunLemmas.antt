@@ -84,20 +84,19 @@ inits_so z a y b stores main_old main_new spare sink_old sink_new s one two init
 
 -- ---- where nothing fails
 
-pub complete : (s : Status) → EndsServing s → (s ≡ status.DiskFault → ⊥) → (s ≡ status.SourceFault → ⊥) → (s ≡ status.SinkFault → ⊥) → (s ≡ status.NotPlain → ⊥) → ((taken : ℕ) → s ≡ status.Long taken → ⊥)
+pub complete : (s : Status) → EndsServing s → (s ≡ status.DiskFault → ⊥) → (s ≡ status.SourceFault → ⊥) → (s ≡ status.SinkFault → ⊥) → ((taken : ℕ) → s ≡ status.Long taken → ⊥)
     → ((side : Side) (place : ℕ) → s ≡ status.NotACatalogue side place → ⊥) → ((had given : ℕ) → s ≡ status.Stores had given → ⊥) → IsComplete s
-complete status.Done ends disk source sink built long catalogue stores = tt
-complete status.Usage ends disk source sink built long catalogue stores = absurd ends
-complete (status.NotACatalogue side place) ends disk source sink built long catalogue stores = absurd (catalogue side place refl)
-complete (status.NotEmpty side len) ends disk source sink built long catalogue stores = absurd ends
-complete (status.Stores had given) ends disk source sink built long catalogue stores = absurd (stores had given refl)
-complete status.NotPlain ends disk source sink built long catalogue stores = absurd (built refl)
-complete status.DiskFault ends disk source sink built long catalogue stores = absurd (disk refl)
-complete status.SourceFault ends disk source sink built long catalogue stores = absurd (source refl)
-complete status.SinkFault ends disk source sink built long catalogue stores = absurd (sink refl)
-complete status.Memory ends disk source sink built long catalogue stores = tt
-complete (status.Long taken) ends disk source sink built long catalogue stores = absurd (long taken refl)
-complete (status.Worn what place) ends disk source sink built long catalogue stores = tt
+complete status.Done ends disk source sink long catalogue stores = tt
+complete status.Usage ends disk source sink long catalogue stores = absurd ends
+complete (status.NotACatalogue side place) ends disk source sink long catalogue stores = absurd (catalogue side place refl)
+complete (status.NotEmpty side len) ends disk source sink long catalogue stores = absurd ends
+complete (status.Stores had given) ends disk source sink long catalogue stores = absurd (stores had given refl)
+complete status.DiskFault ends disk source sink long catalogue stores = absurd (disk refl)
+complete status.SourceFault ends disk source sink long catalogue stores = absurd (source refl)
+complete status.SinkFault ends disk source sink long catalogue stores = absurd (sink refl)
+complete status.Memory ends disk source sink long catalogue stores = tt
+complete (status.Long taken) ends disk source sink long catalogue stores = absurd (long taken refl)
+complete (status.Worn what place) ends disk source sink long catalogue stores = tt
 
 said : (line : Text) (wanted s : Status) (sink_old sink_new : SinkState) → (s ≡ status.SinkFault → ⊥) → SaysLine line wanted sink_old sink_new s → s ≡ wanted
 said line wanted s sink_old sink_new sink (inl ok) = ok.0

@@ -89,7 +89,7 @@ module _ {D S K A P : Type 0} (v : Views D S K A P) (from : Server) (start mid n
       so_read = read_on (v.source new.source) (ans.so e found began)
 
       main_told : IsTrue (v.disk mid.outside.main).tells
-      main_told = subst IsTrue (sym so_read.ran.went.main.tells) began.plain.begin.main_tells
+      main_told = subst IsTrue (sym so_read.ran.went.main.tells) began.begin.main_tells
 
       order_by : AreInOrder (world_of v by)
       order_by = let o = order_of v ⊥ ⊥ start mid so_far.passes order in record { main_last = o.main_last; spare_last = o.spare_last; sink_last = o.sink_last; stores_last = o.stores_last }
@@ -129,14 +129,14 @@ module _ {D S K A P : Type 0} (v : Views D S K A P) (from : Server) (start mid n
           → Sofar (world_of v (before v e start)) (world_of v new) found now.server.store.cat (state_of now.server) (asked ++ hears.asked ∷ [])
       sofar_more done is others =
           let O : Result ⊤ Ending → Type 0 = λ x. Obeys (world_of v by) (world_of v new) was.server (length asked + 1) asks.request x now.server in
-          answered_more now.server began.plain so_read goes_by notes_by asks.means done (subst O is obeyed_at) (few_by done is) (not_ending hears.asked.line hears.asked.body heard.asked hears.read others)
+          answered_more now.server began.begin so_read goes_by notes_by asks.means done (subst O is obeyed_at) (few_by done is) (not_ending hears.asked.line hears.asked.body heard.asked hears.read others)
 
       -- the run ends with it
       pub ends_last : (done : ⊤) → r ≡ Ok done → EndsAtEnd (asked ++ hears.asked ∷ []) (v.source start.source) (v.source new.source) ⊎ EndsInRequest (asked ++ hears.asked ∷ []) (v.source start.source) (v.source new.source)
           → Serves (world_of v (before v e start)) (world_of v new) found read_all
       ends_last done is reads =
           let O : Result ⊤ Ending → Type 0 = λ x. Obeys (world_of v by) (world_of v new) was.server (length asked + 1) asks.request x now.server in
-          last_answered now.server began.plain so_read goes_by notes_by asks.means begins_with done (subst O is obeyed_at) (few_by done is) reads
+          last_answered now.server began.begin so_read goes_by notes_by asks.means begins_with done (subst O is obeyed_at) (few_by done is) reads
 
       -- something ran out or failed in it
       pub ends_stopped : (x : Ending) → r ≡ Err x → result ≡ Some (status_of x)
@@ -154,7 +154,7 @@ module _ {D S K A P : Type 0} (v : Views D S K A P) (from : Server) (start mid n
           new_told = subst IsTrue (sym goes_by.went.main.tells) main_told
 
           others : (y : Ending) → r ≡ Err y → result ≡ Some (status_of y) → ((place : ℕ) → y ≡ ending.Worn wear.Vaults place → ⊥) → Serves (world_of v (before v e start)) (world_of v new) found (end_of y)
-          others y is status_is not_vaults = stops_in now.server began.plain so_read goes_by notes_by asks.means begins_with y (at_err y is) begins_short (worn_err y is) new_told not_vaults
+          others y is status_is not_vaults = stops_in now.server began.begin so_read goes_by notes_by asks.means begins_with y (at_err y is) begins_short (worn_err y is) new_told not_vaults
               (λ d. passes.frame.cause (status_is ∙ ap (λ z. Some (status_of z)) d)) (λ d. passes.sink_cause (status_is ∙ ap (λ z. Some (status_of z)) d))
 
           dried : (place : ℕ) → r ≡ Err (ending.Worn wear.Vaults place) → IsUncalledOrBegun v by new (command_of was heard)
@@ -163,10 +163,10 @@ module _ {D S K A P : Type 0} (v : Views D S K A P) (from : Server) (start mid n
               let M : Around D S K A P → Type 0 = λ a. IsWorn (world_of v a) was.server asks.request (Err (ending.Worn wear.Vaults place)) in
               let N : Around D S K A P → Type 0 = λ a. Serves (world_of v (before v e start)) (world_of v a) found (worn wear.Vaults place) in
               let equal : new ≡ by = λ i. record { outside = same.0 i; source = new.source; sink = same.1 i } in
-              subst N (sym equal) (stops_before was.server place began.plain so_read asks.means begins_with begins_short main_told (subst M equal (worn_err (ending.Worn wear.Vaults place) is)))
+              subst N (sym equal) (stops_before was.server place began.begin so_read asks.means begins_with begins_short main_told (subst M equal (worn_err (ending.Worn wear.Vaults place) is)))
           dried place is (inr begun) =
               let step = step_at (world_of v by) (world_of v new) was.server was.number (length asked) asks.request ans.many (begun asks.request asks.asks) in
-              stops_dry was.server place began.plain so_read goes_by notes_by asks.means begins_with step new_told (worn_err (ending.Worn wear.Vaults place) is)
+              stops_dry was.server place began.begin so_read goes_by notes_by asks.means begins_with step new_told (worn_err (ending.Worn wear.Vaults place) is)
 
           by_ending : (y : Ending) → r ≡ Err y → result ≡ Some (status_of y) → Serves (world_of v (before v e start)) (world_of v new) found (end_of y)
           by_ending (ending.Worn wear.Vaults place) is status_is = dried place is (dry place is)

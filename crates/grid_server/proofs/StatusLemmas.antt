@@ -75,7 +75,7 @@ module _ {D S K A P : Type 0} (v : Views D S K A P) (server : Server) (start : A
   ends_first e found end began its =
       let is : no_memory ≡ end = cc in
       let S : RunEnd → Type 0 = λ x. Serves (world_of v (before v e start)) (world_of v start) found x in
-      subst S is (ends_idle began.plain began.so (inl ((v.source start.source).left, none_taken)) tt (λ none fits. tt))
+      subst S is (ends_idle began.begin began.so (inl ((v.source start.source).left, none_taken)) tt (λ none fits. tt))
 
 -- ---- after the last turn
 
@@ -186,7 +186,7 @@ module _ {D S K A P : Type 0} (v : Views D S K A P) (from : Server) (start mid n
     ends_as t x eq tells done = subst is_served (end_is s t x end (some_is (sym is ∙ eq)) tells its) done
 
     told : IsTrue (v.source start.source).tells
-    told = began.plain.begin.source_tells
+    told = began.begin.source_tells
 
     told_was : IsTrue (v.source mid.source).tells
     told_was = subst IsTrue (sym so_far.source.tells) told
@@ -233,15 +233,15 @@ module _ {D S K A P : Type 0} (v : Views D S K A P) (from : Server) (start mid n
         by (handled heard r eq hears number cmd dry) = serves_handled heard r eq hears number cmd dry
         by (none_left eq none same) =
             let all = heard_none first_source in_was asked ans.heard in_now told_was told_now none in
-            ends_as status.Done read_all eq refl (ends_well began.plain (sofar_new same) (inr all.are) (inl (reads_end first_source (v.source new.source) asked all)) (λ no_fault fits. tt))
+            ends_as status.Done read_all eq refl (ends_well began.begin (sofar_new same) (inr all.are) (inl (reads_end first_source (v.source new.source) asked all)) (λ no_fault fits. tt))
         by (goes_past eq past same) =
             let most = heard_most first_source in_was asked ans.heard in_now told_was past in
             ends_as (status.Long (2 ^ 48 + 1)) (too_long (2 ^ 48 + 1)) eq refl
-            (ends_well began.plain (sofar_new same) first (reads_most first_source (v.source new.source) asked ans.none_end most, refl)
+            (ends_well began.begin (sofar_new same) first (reads_most first_source (v.source new.source) asked ans.none_end most, refl)
             (λ no_fault fits. absurd (omega (arith, fits, most.size, ap length most.split, length-append most.taken (v.source new.source).left))))
         by (broken_off eq broken same) =
             let part = heard_part first_source in_was asked ans.heard (v.source new.source) told_was broken in
             ends_as status.SourceFault source_failed eq refl
-            (ends_well began.plain (sofar_new same) first (reads_part first_source (v.source new.source) asked part)
+            (ends_well began.begin (sofar_new same) first (reads_part first_source (v.source new.source) asked part)
             (λ no_fault fits. absurd (no_fault.of_source (let rose = cause eq in omega (arith, rose, so_far.source.faults)))))
-        by (memory_gone eq stopped same) = ends_as status.Memory no_memory eq refl (ends_idle began.plain (sofar_new same) first tt (λ no_fault fits. tt))
+        by (memory_gone eq stopped same) = ends_as status.Memory no_memory eq refl (ends_idle began.begin (sofar_new same) first tt (λ no_fault fits. tt))

@@ -1,5 +1,5 @@
 -- The sweep behind the opening of a run, and how the run goes on from it.
-use Rattle.std.proofs.Common.{◌≡◌, ℕ, ◌+◌, ◌^◌, ◌<◌, [], ◌∷◌, suc, refl, sym, ap, ◌∙◌, subst, arith, IsTrue}
+use Rattle.std.proofs.Common.{◌≡◌, ℕ, ◌+◌, ◌^◌, ◌<◌, List, [], ◌∷◌, suc, refl, sym, ap, ◌∙◌, subst, arith, IsTrue}
 use Rattle.std.specs.Prelude.{Option, Some, None, vec_len}
 use Rattle.grid_outside.specs.Disk.{DiskState}
 use Rattle.grid_outside.specs.Fault.{Rose}
@@ -12,6 +12,7 @@ use Rattle.grid_model.specs.Grid.{Grid}
 use Rattle.grid_model.specs.Names.{Text}
 use Rattle.grid_model.specs.Rows.{Cat}
 use Rattle.grid_model.specs.RowGrids.{grid_of, user_name}
+use Rattle.grid_model.specs.RuleText.{Rule}
 use Rattle.grid_model.specs.Sessions.{State}
 use Rattle.sess.specs.Places.{Places, at, sessions_from, with_place}
 use Rattle.sess.specs.declared.sessions.Session.{Session}
@@ -26,6 +27,7 @@ use Rattle.run_laws.specs.Silent.{Sweeps}
 use Rattle.run_laws.specs.Sofar.{Sofar}
 use Rattle.run_laws.specs.Went.{AreInOrder}
 use Rattle.run_laws.proofs.RunLaws.{none_yet, ends_swept}
+use Rattle.chain_core.specs.Seen.{rules_of}
 use Rattle.cmd_run.specs.Fits.{state_by, state_of}
 use Rattle.cmd_run.specs.Sweeping.{LeavesLike, StandsAsBefore, orphan_files}
 use Rattle.cmd_run.proofs.SilentSweeps.{is_swept, sweeps}
@@ -46,10 +48,11 @@ sessions_none names n [] none = refl
 sessions_none names n (x ∷ xs) none =
     ap (λ (o : Option Session). with_place names n o (sessions_from names (n + 1) xs)) (none 0) ∙ sessions_none names (n + 1) xs (λ k. none (suc k))
 
-state_none : (c : Cat) (g : Grid) (places : Places) → grid_of c ≡ g → ((k : ℕ) → at places k ≡ None) → state_by c places ≡ begins g []
-state_none c g places grid none = λ i. record {
+state_none : (c : Cat) (g : Grid) (rules began_rules : List Rule) (places : Places) → grid_of c ≡ g → began_rules ≡ rules → ((k : ℕ) → at places k ≡ None)
+    → state_by c rules places ≡ begins g began_rules
+state_none c g rules began_rules places grid rules_are none = λ i. record {
   grid = grid i;
-  rules = [];
+  rules = sym rules_are i;
   sessions = sessions_none (user_name c) 0 places none i;
 }
 
@@ -120,12 +123,12 @@ module _ {D S K A P : Type 0} (v : Views D S K A P) (start : Around D S K A P) (
 
   module _ (whole : KeepWhole v.plugin start.outside.moments was.store.cat (v.disk start.outside.main) (v.disk swept.main) start.outside.stores.items swept.stores.items)
       (leaves : LeavesLike was.store.cat start.outside.moments (v.disk start.outside.main) (v.disk swept.main)) (none : was.store.cat.pending ≡ None) where
-    module _ (e : Around D S K A P) (found : Cat) (opened : WasOpened v (before v e start) start found was.store.cat) where
+    module _ (e : Around D S K A P) (found : Cat) (opened : WasOpened v (before v e start) start found was.store.cat (rules_of was.rules)) where
       abbrev old : Around D S K A P
       old = before v e start
 
       told : IsTrue (v.disk start.outside.main).tells
-      told = subst IsTrue (sym opened.opened.opens.went.main.tells) opened.plain.begin.main_tells
+      told = subst IsTrue (sym opened.opened.opens.went.main.tells) opened.begin.main_tells
 
       sweeps_begun : Sweeps (world_of v start) (world_of v behind) was.store.cat
       sweeps_begun = sweeps v.disk v.ambient v.plugin (v.sink start.sink) (v.source start.source) start.outside swept was.store.cat failed frame leaves order told none whole
@@ -137,11 +140,13 @@ module _ {D S K A P : Type 0} (v : Views D S K A P) (start : Around D S K A P) (
       begun_by now stands nobody slots fewer still =
           let done = is_swept v.disk v.ambient v.plugin (v.sink start.sink) (v.source start.source) start.outside swept failed frame was now stands slots fewer still in
           let grid = opened.opened.opens.undone.opened.grid in
-          let state : state_of now ≡ begins grid [] = stands.state ∙ state_none was.store.cat grid was.sessions opened.opened.begun.grid nobody in
+          let rules = opened.opened.opens.undone.rules in
+          let state : state_of now ≡ begins grid rules =
+          stands.state ∙ state_none was.store.cat grid (rules_of was.rules) rules was.sessions opened.opened.begun.grid opened.rules_are nobody in
           record {
-            plain = opened.plain;
+            begin = opened.begin;
             so = subst (λ (s : State). Sofar (world_of v old) (world_of v behind) found now.store.cat s []) (sym state)
-                (none_yet opened.plain opened.opened sweeps_begun done);
+                (none_yet opened.begin opened.opened sweeps_begun done);
           }
 
       -- something ran out or failed in it
@@ -153,11 +158,11 @@ module _ {D S K A P : Type 0} (v : Views D S K A P) (start : Around D S K A P) (
       serves_swept ending.Memory end its disk sink wears vaults =
           let is : no_memory ≡ end = cc in
           let S : RunEnd → Type 0 = λ y. Serves (world_of v old) (world_of v behind) found y in
-          subst S is (ends_swept opened.plain opened.opened sweeps_begun tt (λ none fits. tt))
+          subst S is (ends_swept opened.begin opened.opened sweeps_begun tt (λ none fits. tt))
       serves_swept ending.Disk end its disk sink wears vaults =
           let is : disk_failed ≡ end = cc in
           let S : RunEnd → Type 0 = λ y. Serves (world_of v old) (world_of v behind) found y in
-          subst S is (ends_swept opened.plain opened.opened sweeps_begun tt
+          subst S is (ends_swept opened.begin opened.opened sweeps_begun tt
           (λ none fits. absurd (none.of_main (let rose = disk refl in omega (arith, rose, opened.opened.opens.went.main.faults)))))
       serves_swept ending.Sink end its disk sink wears vaults = absurd (sink refl)
       serves_swept (ending.Worn wear.Runs place) end its disk sink wears vaults = absurd (wears wear.Runs place refl told)
@@ -166,5 +171,5 @@ module _ {D S K A P : Type 0} (v : Views D S K A P) (start : Around D S K A P) (
           let is : worn wear.Log place ≡ end = cc in
           let S : RunEnd → Type 0 = λ y. Serves (world_of v old) (world_of v behind) found y in
           let w = wears wear.Log place refl told in
-          subst S is (ends_swept opened.plain opened.opened sweeps_begun
+          subst S is (ends_swept opened.begin opened.opened sweeps_begun
           ((w.0, record { records = w.1.records; log = w.1.log; place_is = w.1.place_is }), tt) (λ none fits. tt))

@@ -49,14 +49,6 @@ unopened_sink error.Sink is = refl
 unopened_sink error.Memory is = absurd (cc is)
 
 -- it is no other status than these
-pub unopened_not_plain : (e : OpenError) → unopened e ≡ status.NotPlain → ⊥
-unopened_not_plain (error.Runs at) is = cc is
-unopened_not_plain (error.Vaults at) is = cc is
-unopened_not_plain (error.Log at) is = cc is
-unopened_not_plain error.Disk is = cc is
-unopened_not_plain error.Sink is = cc is
-unopened_not_plain error.Memory is = cc is
-
 pub unopened_not_source : (e : OpenError) → unopened e ≡ status.SourceFault → ⊥
 unopened_not_source (error.Runs at) is = cc is
 unopened_not_source (error.Vaults at) is = cc is

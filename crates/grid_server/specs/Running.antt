@@ -3,17 +3,12 @@ use Rattle.std.specs.Prelude.{◌≡◌, ◌≢◌, ◌⊎◌, ℕ, [], ◌++◌
 use Rattle.grid_outside.specs.Disk.{DiskState}
 use Rattle.grid_outside.specs.Sink.{SinkState, AddsPart}
 use Rattle.grid_model.specs.Names.{Text}
-use Rattle.grid_model.specs.Rows.{Cat}
 use Rattle.grid_model.specs.declared.grid.Side.{Side}
 use Rattle.grid_journal.specs.Store.{IsNotEmpty}
 use Rattle.grid_server.specs.declared.status.Status.{Status}
 use Rattle.grid_server.specs.declared.status.Status.TheVariants as status
 use Rattle.run_laws.specs.Went.{Rests}
 use Rattle.grid_server.specs.Starting.{Started, ok_line, not_empty_line, not_a_catalogue_line, stores_line}
-
--- there are no rules
-abbrev pub IsPlain : Cat → Type 0
-IsPlain c = c.rules ≡ []
 
 -- the device holds what it held, and this behind it
 abbrev pub AddsLine : Text → SinkState → SinkState → Type 0
@@ -67,15 +62,7 @@ EndsServing other = Unit {0}
 -- a run that could not begin, for want of a number, of room or of memory, or because a disk or the sink failed
 abbrev pub IsNotBegun : Status → Type 0
 IsNotBegun (status.Worn what place) = Unit {0}
-IsNotBegun status.NotPlain = Unit {0}
 IsNotBegun status.Memory = Unit {0}
 IsNotBegun status.DiskFault = Unit {0}
 IsNotBegun status.SinkFault = Unit {0}
 IsNotBegun other = ⊥
-
--- a run over a catalogue from which it may not go on, unless something fails before
-abbrev pub IsHeldBack : Status → Type 0
-IsHeldBack status.NotPlain = Unit {0}
-IsHeldBack status.Memory = Unit {0}
-IsHeldBack status.DiskFault = Unit {0}
-IsHeldBack other = ⊥

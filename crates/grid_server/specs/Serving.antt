@@ -7,10 +7,12 @@ use Rattle.grid_deed.specs.Frame.{Goes as DeviceGoes}
 use Rattle.grid_model.specs.Inputs.{Asked}
 use Rattle.grid_model.specs.Names.{Text}
 use Rattle.grid_model.specs.Rows.{Cat}
+use Rattle.grid_model.specs.RuleText.{Rule}
+use Rattle.grid_headline.specs.Headline.{BeginsOn}
 use Rattle.grid_headline.specs.Reads.{EndsInput}
 use Rattle.run_laws.specs.declared.around.Around.{Around}
 use Rattle.run_laws.specs.Opening.{Opened}
-use Rattle.run_laws.specs.Sofar.{BeginsPlainly, Sofar}
+use Rattle.run_laws.specs.Sofar.{Sofar}
 use Rattle.req_lines.specs.Progress.{HasHeard}
 use Rattle.cmd_run.specs.Fits.{state_of, FitsMain}
 use Rattle.cmd_run.specs.declared.server.Server.{Server}
@@ -49,14 +51,15 @@ module _ {D S K A P : Type 0} (v : Views D S K A P) where
   abbrev pub before : Around D S K A P → Around D S K A P → Around D S K A P
   before e a = record e { source = a.source }
 
-  -- the run was opened in between, over the first catalogue, with the second
-  pub record WasOpened (old now : Around D S K A P) (found begun : Cat) : Type 0 where
-    pub plain : BeginsPlainly (world_of v old) found
+  -- the run was opened in between, over the first catalogue, with the second, and these rules
+  pub record WasOpened (old now : Around D S K A P) (found begun : Cat) (rules : List Rule) : Type 0 where
+    pub begin : BeginsOn (world_of v old) found
     pub opened : Opened (world_of v old) (world_of v now) found begun
+    pub rules_are : opened.opens.undone.rules ≡ rules
 
   -- it was begun in between, over this catalogue: this is the server, and nothing was asked of it yet
   pub record IsBegun (old now : Around D S K A P) (found : Cat) (s : Server) : Type 0 where
-    pub plain : BeginsPlainly (world_of v old) found
+    pub begin : BeginsOn (world_of v old) found
     pub so : Sofar (world_of v old) (world_of v now) found s.store.cat (state_of s) []
 
   -- These requests were read and answered since the run was begun, and none of them ended the input.

@@ -1,4 +1,4 @@
-ghost use Rattle.std.specs.Prelude.{◌≡◌, ◌≢◌, ◌↔◌, ◌⊎◌, ◌+◌, ◌^◌, ◌<◌, ◌≤◌, ℕ, List, [], None, Some, length, IsTrue, IfOk, Ok, Err, vec_len};
+ghost use Rattle.std.specs.Prelude.{◌≡◌, ◌≢◌, ◌⊎◌, ◌+◌, ◌^◌, ◌<◌, ◌≤◌, ℕ, List, [], None, Some, length, map, IsTrue, IfOk, Ok, Err, vec_len};
 ghost use Rattle.grid_outside.specs.Device.{Looks, EachMember};
 ghost use Rattle.grid_outside.specs.Fault.{Rose};
 ghost use Rattle.grid_model.specs.Names.{is_name};
@@ -6,24 +6,27 @@ ghost use Rattle.grid_model.specs.Grid.{everybody};
 ghost use Rattle.grid_model.specs.Inputs.{Asked as AskedOf};
 ghost use Rattle.grid_model.specs.Rows.{Cat};
 ghost use Rattle.grid_model.specs.Applying.{IsMade};
+ghost use Rattle.grid_model.specs.Checks.{first_fault, rules_faults};
+ghost use Rattle.grid_model.specs.Parsed.{rule_of};
 ghost use Rattle.grid_journal.specs.Journal.{Keeps};
 ghost use Rattle.grid_journal.specs.Start.{start};
 ghost use Rattle.grid_journal.specs.Stands.{Stands};
 ghost use Rattle.grid_deed.specs.Frame.{AddsInRoom, StoresGo};
 ghost use Rattle.grid_deed.specs.Safe.{AreWhole};
 ghost use Rattle.grid_headline.specs.Ends.{HasRunOut, ReadsMost, RunEnd};
-ghost use Rattle.grid_headline.specs.Headline.{Serves};
+ghost use Rattle.grid_headline.specs.Headline.{BeginsOn, Serves};
+ghost use Rattle.grid_headline.specs.Reads.{HasRules};
 ghost use Rattle.grid_headline.specs.Seen.{seen};
-ghost use Rattle.run_laws.specs.Sofar.{BeginsPlainly};
 ghost use Rattle.run_laws.specs.Went.{AreInOrder, Rests};
 ghost use Rattle.run_laws.specs.Passes.{AreReady, CallsPass};
+ghost use Rattle.chain_core.specs.Seen.{rules_of};
 ghost use Rattle.grid_server.specs.Files.{HaveNoFiles};
 ghost use Rattle.run_open.specs.Preparing.{HasRoom};
 ghost use Rattle.grid_server.specs.RunEnds.{run_end_of, unopened};
 ghost use Rattle.grid_server.specs.Starting.{usage_line as usage_text, not_empty_line as not_empty_text};
 ghost use Rattle.grid_server.specs.Starting.{not_a_catalogue_line as not_a_catalogue_text, stores_line as stores_text};
 ghost use Rattle.grid_server.specs.Starting.{side_name as side_text};
-ghost use Rattle.grid_server.specs.Running.{SaysLine, HoldsStill, IsPlain, RefusesDisks, RefusesStores, Inits, IsComplete, EndsServing, IsNotBegun, IsHeldBack};
+ghost use Rattle.grid_server.specs.Running.{SaysLine, HoldsStill, RefusesDisks, RefusesStores, Inits, IsComplete, EndsServing, IsNotBegun};
 ghost use Rattle.grid_server.specs.Serving.{SinkWent, TookFew};
 ghost use Rattle.run_laws.specs.declared.around.Around.{Around};
 ghost use Rattle.grid_server.specs.Views.{Views, world_of};
@@ -33,11 +36,13 @@ ghost use Rattle.grid_server.specs.Tasks.{AsksForTask, AsksNothing};
 use crate::Status;
 use crate::sweeping::sweep_and_serve;
 use crate::words::{Asked, read_words};
+use chain_core::RuleBase;
 use cmd_run::Server;
 use grid_journal::{JournalError, Store};
 use grid_model::{Side, Text};
 use grid_outside::{Ambient, Disk, Moments, Outside, Plugin, Sink, Source, Wear};
 use grid_tables::Tables;
+use rule_keep::kept_rules;
 use run_open::{OpenError, open_run};
 use sess::Sessions;
 use std::alloc::{AllocError, Global};
@@ -84,16 +89,8 @@ pub fn run<D: Disk, S: Source, K: Sink, A: Ambient, P: Plugin>(
 
     // What was answered and shown, and what a stop at any moment leaves.
     ensures serve { AsksForTask words.now task.serve → (found : Cat) (end : RunEnd) →
-        let old = seen D.disk A.ambient S.source K.sink P.plugin outside.old source.old sink.old in BeginsPlainly old found → run_end_of result ≡ Some end →
+        let old = seen D.disk A.ambient S.source K.sink P.plugin outside.old source.old sink.old in BeginsOn old found → run_end_of result ≡ Some end →
         Serves old (seen D.disk A.ambient S.source K.sink P.plugin outside.new source.new sink.new) found end }
-
-    // The catalogue has rules.
-    ensures not_plain { (found : Cat) → AsksForTask words.now task.serve → IsTrue (D.disk outside.old.main).tells →
-        Stands (D.disk outside.old.main).holds (D.disk outside.old.spare).holds (Ok found) → found.stores ≡ vec_len outside.old.stores → ¬ IsPlain found →
-        IsHeldBack result × Rests (D.disk outside.old.main) (D.disk outside.new.main) × (source.new ≡ source.old) × (sink.new ≡ sink.old)
-        × (outside.new.stores ≡ outside.old.stores) }
-    ensures not_plain_only { (found : Cat) → result ≡ Status.NotPlain → IsTrue (D.disk outside.old.main).tells →
-        Stands (D.disk outside.old.main).holds (D.disk outside.old.spare).holds (Ok found) → ¬ IsPlain found }
 
     // How much of the source was taken.
     ensures took { IsTrue (S.source source.old).tells → TookFew (S.source source.old) (S.source source.new) }
@@ -145,7 +142,7 @@ pub fn run<D: Disk, S: Source, K: Sink, A: Ambient, P: Plugin>(
         ¬ Rose (D.disk outside.old.main).faults (D.disk outside.new.main).faults → ¬ Rose (D.disk outside.old.spare).faults (D.disk outside.new.spare).faults →
         ¬ Rose (K.sink sink.old).faults (K.sink sink.new).faults → (result ≡ Status.Done) ⊎ (result ≡ Status.Memory) }
     ensures serve_all { (found : Cat) → AsksForTask words.now task.serve → IsTrue (D.disk outside.old.main).tells → IsTrue (S.source source.old).tells →
-        Stands (D.disk outside.old.main).holds (D.disk outside.old.spare).holds (Ok found) → found.stores ≡ vec_len outside.old.stores → IsPlain found →
+        Stands (D.disk outside.old.main).holds (D.disk outside.old.spare).holds (Ok found) → found.stores ≡ vec_len outside.old.stores →
         length (S.source source.old).left ≤ 2 ^ 48 → ¬ Rose (D.disk outside.old.main).faults (D.disk outside.new.main).faults →
         ¬ Rose (D.disk outside.old.spare).faults (D.disk outside.new.spare).faults → ¬ Rose (S.source source.old).faults (S.source source.new).faults
         → ¬ Rose (K.sink sink.old).faults (K.sink sink.new).faults → IsComplete result }
@@ -201,14 +198,8 @@ fn serve<D: Disk, S: Source, K: Sink, A: Ambient, P: Plugin>(
     requires spare_last { (D.disk outside.old.spare).last ≤ outside.old.moments }
     requires stores { (0 < vec_len outside.old.stores) × (vec_len outside.old.stores ≤ 16) }
     ensures serve { (found : Cat) (end : RunEnd) →
-        let old = seen D.disk A.ambient S.source K.sink P.plugin outside.old source.old sink.old in BeginsPlainly old found → run_end_of result ≡ Some end →
+        let old = seen D.disk A.ambient S.source K.sink P.plugin outside.old source.old sink.old in BeginsOn old found → run_end_of result ≡ Some end →
         Serves old (seen D.disk A.ambient S.source K.sink P.plugin outside.new source.new sink.new) found end }
-    ensures not_plain { (found : Cat) → IsTrue (D.disk outside.old.main).tells →
-        Stands (D.disk outside.old.main).holds (D.disk outside.old.spare).holds (Ok found) → found.stores ≡ vec_len outside.old.stores → ¬ IsPlain found →
-        IsHeldBack result × Rests (D.disk outside.old.main) (D.disk outside.new.main) × (source.new ≡ source.old) × (sink.new ≡ sink.old)
-        × (outside.new.stores ≡ outside.old.stores) }
-    ensures not_plain_only { (found : Cat) → result ≡ Status.NotPlain → IsTrue (D.disk outside.old.main).tells →
-        Stands (D.disk outside.old.main).holds (D.disk outside.old.spare).holds (Ok found) → ¬ IsPlain found }
     ensures worn { (found : Cat) → IsTrue (D.disk outside.old.main).tells → Stands (D.disk outside.old.main).holds (D.disk outside.old.spare).holds (Ok found) →
         found.stores ≡ vec_len outside.old.stores → ¬ HasRoom found (D.disk outside.old.main) →
         IsNotBegun result × Rests (D.disk outside.old.main) (D.disk outside.new.main) × (source.new ≡ source.old)
@@ -269,12 +260,8 @@ fn serve_over<D: Disk, S: Source, K: Sink, A: Ambient, P: Plugin>(
     ensures serve { let v : Views D S K A P = record { disk = D.disk; source = S.source; sink = K.sink; ambient = A.ambient; plugin = P.plugin } in
         let start : Around D S K A P = record { outside = outside.old; source = source.old; sink = sink.old } in
         (main spare : D) (end : RunEnd) → let old = world_of v (record start { outside = record outside.old { main = main; spare = spare } }) in
-        BeginsPlainly old store.cat → AreInOrder old → Rests (D.disk main) (D.disk outside.old.main) → Rests (D.disk spare) (D.disk outside.old.spare) →
+        BeginsOn old store.cat → AreInOrder old → Rests (D.disk main) (D.disk outside.old.main) → Rests (D.disk spare) (D.disk outside.old.spare) →
         run_end_of result ≡ Some end → Serves old (world_of v (record { outside = outside.new; source = source.new; sink = sink.new })) store.cat end }
-    ensures not_plain { store.cat.stores ≡ vec_len outside.old.stores → ¬ IsPlain store.cat →
-        IsHeldBack result × Rests (D.disk outside.old.main) (D.disk outside.new.main) × (source.new ≡ source.old) × (sink.new ≡ sink.old)
-        × (outside.new.stores ≡ outside.old.stores) }
-    ensures not_plain_only { result ≡ Status.NotPlain → ¬ IsPlain store.cat }
     ensures worn { store.cat.stores ≡ vec_len outside.old.stores → ¬ HasRoom store.cat (D.disk outside.old.main) →
         IsNotBegun result × Rests (D.disk outside.old.main) (D.disk outside.new.main) × (source.new ≡ source.old)
         × (sink.new ≡ sink.old) × (outside.new.stores ≡ outside.old.stores) }
@@ -294,20 +281,31 @@ fn serve_over<D: Disk, S: Source, K: Sink, A: Ambient, P: Plugin>(
     ensures ends { EndsServing result }
     ensures drawn { outside.new.moments ≤ outside.old.moments + (2 ^ 127 + 2 ^ 126) }
 {
-    let kept = store.tables().stores();
+    let rows = store.tables();
+    let kept = rows.stores();
     let given = outside.stores.len() as u8;
     if kept != given {
         return refuse_stores(alloc, &mut outside.moments, sink, kept, given);
     }
-    if !can_be_served(store.tables()) {
-        return Status::NotPlain;
-    }
+    let Ok(rules) = base_of(alloc, rows) else {
+        return Status::Memory;
+    };
     let Ok(sessions) = Sessions::new(alloc) else {
         return Status::Memory;
     };
     let mut store = store;
     match open_run(alloc, &mut store, outside, sink) {
-        Ok(()) => sweep_and_serve(alloc, Server { store, sessions }, outside, source, sink),
+        Ok(()) => sweep_and_serve(
+            alloc,
+            Server {
+                store,
+                sessions,
+                rules,
+            },
+            outside,
+            source,
+            sink,
+        ),
         Err(error) => unopened(error),
     }
 }
@@ -335,11 +333,15 @@ fn unopened(error: OpenError) -> Status
     }
 }
 
-// Whether the catalogue has no rules.
-fn can_be_served(tables: &Tables) -> bool
-    ensures { IsTrue result ↔ IsPlain tables.now }
+// The rules of the catalogue, as they are run. Fails for want of memory alone: what an opened log has for rules can be read.
+fn base_of(alloc: Global, tables: &Tables) -> Result<RuleBase, AllocError>
+    ensures has { IfOk result (λ base. HasRules tables.now (rules_of base)) }
+    ensures checked { IfOk result (λ base. first_fault (rules_faults (map rule_of base.rules)) ≡ None) }
 {
-    tables.rules().as_slice().is_empty()
+    match kept_rules(alloc, tables.rules())? {
+        Some(rules) => RuleBase::new(alloc, rules),
+        None => Err(AllocError),
+    }
 }
 
 // Says that the disks hold no catalogue, which shows at this place.
@@ -409,8 +411,7 @@ fn init<D: Disk, K: Sink, A: Ambient, P: Plugin>(
     ensures source { (result ≡ Status.SourceFault) → ⊥ }
     ensures catalogue { (side : Side) (place : ℕ) → ¬ (result ≡ Status.NotACatalogue side place) }
     ensures no_stores { (had given : ℕ) → ¬ (result ≡ Status.Stores had given) }
-    ensures no_run { (result ≢ Status.NotPlain) × ((taken : ℕ) → ¬ (result ≡ Status.Long taken))
-        × ((what : Wear) (place : ℕ) → ¬ (result ≡ Status.Worn what place)) }
+    ensures no_run { ((taken : ℕ) → ¬ (result ≡ Status.Long taken)) × ((what : Wear) (place : ℕ) → ¬ (result ≡ Status.Worn what place)) }
     ensures other_stores { outside.new.stores ≡ outside.old.stores }
     ensures ambient { outside.new.ambient ≡ outside.old.ambient }
     ensures main_last { (D.disk outside.new.main).last ≤ outside.new.moments }

@@ -14,8 +14,6 @@ pub enum Status {
     NotEmpty { side: Side, len: u64 },
     /// The catalogue is of a grid with `kept` stores, and `given` were handed in.
     Stores { kept: u8, given: u8 },
-    /// The catalogue has rules. What goes on from these is not built yet.
-    NotPlain,
     /// A disk failed.
     DiskFault,
     /// The source failed.

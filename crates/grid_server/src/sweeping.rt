@@ -5,6 +5,7 @@ ghost use Rattle.grid_model.specs.Rows.{Cat};
 ghost use Rattle.sess.specs.Places.{at};
 ghost use Rattle.grid_headline.specs.Ends.{ReadsMost, RunEnd};
 ghost use Rattle.grid_headline.specs.Headline.{Serves};
+ghost use Rattle.chain_core.specs.Seen.{rules_of};
 ghost use Rattle.cmd_run.specs.Fits.{FitsMain};
 ghost use Rattle.run_laws.specs.Passes.{AreReady, CallsPass};
 ghost use Rattle.grid_server.specs.RunEnds.{run_end_of};
@@ -37,7 +38,7 @@ pub(crate) fn sweep_and_serve<D: Disk, S: Source, K: Sink, A: Ambient, P: Plugin
     requires ready { AreReady D.disk P.plugin K.sink (2 ^ 127 + 2 ^ 81) (record { outside = outside.old; sink = sink.old }) }
     ensures serves { let v : Views D S K A P = record { disk = D.disk; source = S.source; sink = K.sink; ambient = A.ambient; plugin = P.plugin } in
         let start : Around D S K A P = record { outside = outside.old; source = source.old; sink = sink.old } in
-        (e : Around D S K A P) (found : Cat) (end : RunEnd) → WasOpened v (before v e start) start found server.store.cat →
+        (e : Around D S K A P) (found : Cat) (end : RunEnd) → WasOpened v (before v e start) start found server.store.cat (rules_of server.rules) →
         run_end_of result ≡ Some end → Serves (world_of v (before v e start))
         (world_of v (record { outside = outside.new; source = source.new; sink = sink.new })) found end }
     ensures ends { EndsBegun result }

@@ -11,7 +11,6 @@ pub fn exit_status(status: Status) -> u8
     ensures no_catalogue { (side : Side) (at : ℕ) → status ≡ Status.NotACatalogue side at → result ≡ 3 }
     ensures not_empty { (side : Side) (len : ℕ) → status ≡ Status.NotEmpty side len → result ≡ 3 }
     ensures other_stores { (kept given : ℕ) → status ≡ Status.Stores kept given → result ≡ 3 }
-    ensures not_plain { status ≡ Status.NotPlain → result ≡ 3 }
     ensures disk { status ≡ Status.DiskFault → result ≡ 4 }
     ensures source { status ≡ Status.SourceFault → result ≡ 5 }
     ensures sink { status ≡ Status.SinkFault → result ≡ 6 }
@@ -24,8 +23,7 @@ pub fn exit_status(status: Status) -> u8
         Status::Usage => 2,
         Status::NotACatalogue { side: _, at: _ }
         | Status::NotEmpty { side: _, len: _ }
-        | Status::Stores { kept: _, given: _ }
-        | Status::NotPlain => 3,
+        | Status::Stores { kept: _, given: _ } => 3,
         Status::DiskFault => 4,
         Status::SourceFault => 5,
         Status::SinkFault => 6,

@@ -58,7 +58,6 @@ pub fn complaint(
         Status::Stores { kept, given } => {
             format!(in alloc; "{main}: made for {kept} stores, and there are {given}")?
         }
-        Status::NotPlain => format!(in alloc; "{main}: it has rules, which are not run yet")?,
         Status::DiskFault => disk_failure(alloc, failures)?,
         Status::SourceFault => failure(alloc, "standard input", failures.source)?,
         Status::SinkFault => failure(alloc, "standard output", failures.sink)?,

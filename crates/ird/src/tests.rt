@@ -89,11 +89,6 @@ fn each_end_is_told(rt: HostRuntime) -> Result<(), Fail> {
             3,
             "catalogue.a: made for 1 stores, and there are 8",
         ),
-        told(
-            Status::NotPlain,
-            3,
-            "catalogue.a: it has rules, which are not run yet",
-        ),
         told(Status::DiskFault, 4, "catalogue.b: Input/output error"),
         told(Status::SourceFault, 5, "standard input: Is a directory"),
         told(Status::SinkFault, 6, "standard output: Broken pipe"),

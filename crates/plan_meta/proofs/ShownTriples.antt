@@ -28,8 +28,7 @@ use Rattle.grid_model.specs.declared.deltas.TripleRow.{TripleRow}
 use Rattle.grid_model.specs.declared.refusal.Refusal.{Refusal}
 use Rattle.grid_model.proofs.Comparing.{path_cmp_total}
 use Rattle.grid_model.proofs.MapLemmas.{entries-put}
-use Rattle.grid_journal.specs.Journal.{AreSpelled, can_be_kept}
-use Rattle.grid_journal.specs.Stands.{sets_no_rules}
+use Rattle.grid_journal.specs.Journal.{AreSpelled, can_be_kept, sets_no_rules}
 use Rattle.tables_laws.proofs.Rows.{IsIn, in_from_all, all_from_in, all_kept, in_from_filter}
 use Rattle.tables_laws.proofs.Numbered.{equal_number}
 use Rattle.tables_laws.proofs.TableMaps.{entries_of, tied_so}

@@ -1,6 +1,6 @@
 ghost use Rattle.point_laws.specs.Names.{NamesAreStopped, NamesHalt, NamesTakeInOrder};
-ghost use Rattle.point_laws.specs.Works.{AfterWorkEnds, PreEnds, WorkEnds};
-ghost use Rattle.point_laws.specs.Works.{WorksEndByRows, WorksSendNothing, WorksTakeInOrder};
+ghost use Rattle.point_laws.specs.Works.{AfterWorkEnds, AfterWorkSends, PreEnds, WorkEnds};
+ghost use Rattle.point_laws.specs.Works.{WorksEndByRows, WorksSendBehind, WorksTakeInOrder};
 
 /// The rules of a name take their marks in their order, from the first one on.
 pub fn names_take_in_order()
@@ -27,9 +27,14 @@ pub fn works_end_by_rows()
     ensures { WorksEndByRows }
 {}
 
-/// An operation that sends no bytes sends none with its points.
-pub fn works_send_nothing()
-    ensures { WorksSendNothing }
+/// An operation with its points sends behind all marks that the rules before it took, and in front of one.
+pub fn works_send_behind()
+    ensures { WorksSendBehind }
+{}
+
+/// From behind the operation, its request sends what that sent.
+pub fn after_work_sends()
+    ensures { AfterWorkSends }
 {}
 
 /// An operation with its points can be brought to an end from behind the operation.

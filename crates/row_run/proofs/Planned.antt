@@ -1,5 +1,5 @@
 -- What a plan of a verb's operation does as a call of a command.
-use Rattle.std.proofs.Common.{◌≡◌, ℕ, List, [], Option, Some, None, Result, Ok, Err, refl, sym, ap, ◌∙◌, subst, arith, eqb-true, false, ◌++◌, inl, inr}
+use Rattle.std.proofs.Common.{◌≡◌, ℕ, List, [], Option, Result, Ok, Err, refl, sym, ap, ◌∙◌, subst, arith, eqb-true, false, ◌++◌, inl, inr}
 use Rattle.std.specs.Prelude.{⊤, IfOk, true, ◌==◌, length, ◌∷◌}
 use Rattle.grid_outside.specs.Source.{SourceState}
 use Rattle.grid_outside.specs.Disk.{DiskState}
@@ -8,7 +8,6 @@ use Rattle.grid_model.specs.Grid.{Grid}
 use Rattle.grid_model.specs.Rows.{Cat}
 use Rattle.grid_model.specs.RowGrids.{grid_of, user_name}
 use Rattle.grid_model.specs.Refusing.{Or}
-use Rattle.grid_model.specs.Applying.{apply_all}
 use Rattle.grid_model.specs.Deeds.{Act}
 use Rattle.grid_model.specs.Operations.Table.{Operation, row}
 use Rattle.grid_model.specs.Meanings.{Meaning, gives, waits, unfit}
@@ -31,7 +30,7 @@ use Rattle.service_run.specs.declared.command.Command.{Command}
 use Rattle.service_run.specs.declared.ending.Ending.{Ending}
 use Rattle.service_run.specs.Changes.{LeadOn, MakesGridOf}
 use Rattle.service_run.specs.Commands.{place_by}
-use Rattle.service_run.specs.Steps.{IsStep, IsStepDone, StepEnds}
+use Rattle.service_run.specs.Steps.{IsStep, IsStepDone}
 use Rattle.row_run.specs.Planned.{PlansBy, PlansVerb}
 use Rattle.row_run.specs.Verbs.{IsRowsVerb}
 

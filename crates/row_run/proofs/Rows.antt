@@ -1,4 +1,4 @@
--- Operations of verbs say and send nothing, but for what a chksum says.
+-- Operations that change rows alone say and send nothing.
 use Rattle.std.proofs.Common.{◌≡◌, [], Option, Some, None, refl, sym, subst}
 use Rattle.grid_model.specs.Names.{Text}
 use Rattle.grid_model.specs.Grid.{Grid}
@@ -7,7 +7,7 @@ use Rattle.grid_model.specs.Operations.Table.{Operation}
 use Rattle.grid_model.specs.Working.{words_of, sent_by}
 use Rattle.grid_model.specs.declared.requests.Verb.{Verb}
 use Rattle.grid_model.specs.declared.requests.Verb.TheVariants as verb
-use Rattle.row_run.specs.Verbs.{IsRowsVerb, WorksBy, operation_by}
+use Rattle.row_run.specs.Verbs.{IsRowsVerb, operation_by}
 
 module _ (user : Text) where
   -- it says nothing, on whatever grid, and sends nothing
@@ -42,10 +42,3 @@ module _ (user : Text) where
   rows_silent (verb.AddMeta kind name attribute value unit) op its = subst IsSilent (sym its.2) (λ g. refl, λ s. refl)
   rows_silent (verb.RmMeta kind name attribute value unit) op its = subst IsSilent (sym its.2) (λ g. refl, λ s. refl)
   rows_silent other op is = subst IsSilentBy is (silent_by other)
-
-  -- nor does any other send bytes that is done by such a verb
-  pub works_silent : (v : Verb) (body : Text) (op : Operation) → WorksBy v body op → (s : Course) → sent_by s user op ≡ None
-  works_silent (verb.Put path resource mode count) body op is s = let S : Operation → Type 0 = λ o. sent_by s user o ≡ None in subst S (sym is) refl
-  works_silent (verb.Repl path resource) body op is s = let S : Operation → Type 0 = λ o. sent_by s user o ≡ None in subst S (sym is) refl
-  works_silent (verb.ChkSum path) body op is s = let S : Operation → Type 0 = λ o. sent_by s user o ≡ None in subst S (sym is) refl
-  works_silent other body op its s = (rows_silent other op its).1 s

@@ -3,7 +3,7 @@ use Rattle.std.specs.Prelude.{◌≡◌, true, false, Option, Some, None, IsTrue
 use Rattle.grid_model.specs.Names.{Text, is_name}
 use Rattle.grid_model.specs.Grid.{Thing}
 use Rattle.grid_model.specs.Operations.Table.{Operation, mkuser, mkgroup, mkdir, rmdir, mv, chmod, inherit, addmember, rmmember}
-use Rattle.grid_model.specs.Operations.Table.{mkresc, addchild, modresc, trim, rm, addmeta, rmmeta, put, repl, chksum}
+use Rattle.grid_model.specs.Operations.Table.{mkresc, addchild, modresc, trim, rm, addmeta, rmmeta, put, get as fetch, repl, chksum}
 use Rattle.grid_model.specs.Writable.{is_word}
 use Rattle.grid_model.specs.declared.grid.ItemKind.{ItemKind}
 use Rattle.grid_model.specs.declared.grid.ResourceKind.TheVariants.{Storage}
@@ -39,9 +39,10 @@ IsRowsVerb (verb.RmMeta kind name attribute value unit) op =
     (thing : Thing) × NamesThing kind name thing × (op ≡ rmmeta (record { of = thing; attribute = attribute; value = value; unit = unit }))
 IsRowsVerb other op = operation_by other ≡ Some op
 
--- The verb, with this body, does this operation, which sends no bytes.
+-- the verb, with this body, does this operation
 abbrev pub WorksBy : Verb → Text → Operation → Type 0
 WorksBy (verb.Put path resource mode count) body op = op ≡ put path resource mode body
+WorksBy (verb.Get path resource) body op = op ≡ fetch path resource
 WorksBy (verb.Repl path resource) body op = op ≡ repl path resource
 WorksBy (verb.ChkSum path) body op = op ≡ chksum path
 WorksBy other body op = IsRowsVerb other op
@@ -50,6 +51,11 @@ WorksBy other body op = IsRowsVerb other op
 abbrev pub NamesSome : ItemKind → Text → Type 0
 NamesSome kind name = (thing : Thing) × NamesThing kind name thing
 
+-- the resource, if one is told, is a word
+abbrev pub IsWordIfAny : Option Text → Type 0
+IsWordIfAny None = Unit {0}
+IsWordIfAny (Some resource) = IsTrue (is_word resource)
+
 -- A new name is a name, the resource of a deed is a word, a thing is told by its path or its name, and what is to be said of it are words.
 abbrev pub HasGoodWords : Verb → Type 0
 HasGoodWords (verb.MkUser name kind) = IsTrue (is_name name)
@@ -57,6 +63,7 @@ HasGoodWords (verb.MkGroup name) = IsTrue (is_name name)
 HasGoodWords (verb.MkStorage name slot) = IsTrue (is_name name)
 HasGoodWords (verb.MkCoordinating name kind) = IsTrue (is_name name)
 HasGoodWords (verb.Put path resource mode count) = IsTrue (is_word resource)
+HasGoodWords (verb.Get path resource) = IsWordIfAny resource
 HasGoodWords (verb.Repl path resource) = IsTrue (is_word resource)
 HasGoodWords (verb.AddMeta kind name attribute value unit) =
     NamesSome kind name × IsTrue (is_word attribute) × IsTrue (is_word value) × IsTrue (is_word unit)

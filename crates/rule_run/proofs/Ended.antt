@@ -20,11 +20,13 @@ use Rattle.grid_journal.specs.Journal.{Journal}
 use Rattle.grid_deed.specs.Held.{IsHeld}
 use Rattle.grid_deed.specs.Safe.{KeepBothWhole}
 use Rattle.grid_deed.proofs.Frames.{frame_as}
+use Rattle.grid_headline.specs.Files.{IsKnown}
 use Rattle.run_laws.specs.Passes.{AreReady, CallsPass, Seen}
+use Rattle.service_run.specs.Steps.{lines_of}
 use Rattle.service_run.specs.declared.command.Command.{Command}
 use Rattle.service_run.specs.declared.ending.Ending.{Ending}
 use Rattle.service_run.specs.declared.ending.Ending.TheVariants as ending
-use Rattle.call_laws.specs.Amid.{IsAmid}
+use Rattle.call_laws.specs.Amid.{IsAmid, world}
 use Rattle.call_laws.specs.OneCall.{AreKeepable}
 use Rattle.call_laws.proofs.Beginning.{amid_begun}
 use Rattle.rule_run.specs.Asked.{IsAsked, asked_setting, not_noted}
@@ -79,21 +81,24 @@ passes_err {T} {U} disk plugin sink e a b passes = record {
   sink_cause = λ f. passes.sink_cause (err_as e ending.Sink f);
 }
 
--- ---- the calls and their end
+-- ---- before any call
 
 module _ {D A P K : Type 0} (disk : D → DiskState) (ambient : A → AmbientState) (plugin : P → StoreState) (sink : K → SinkState) (source : SourceState)
     (at : State) (request : Request) (before : Cat) (x : Command) (asked : IsAsked at request before x) (from : Seen D A P K) where
   -- before any call
   pub amid_first : (rows : Journal) → IsHeld before (disk from.outside.main) rows → rows.cat ≡ before → (more : ℕ) → AreReady disk plugin sink more from
-      → IsAmid disk ambient plugin sink source (asked_setting at request before x) from from x rows []
+      → IsAmid disk ambient plugin sink source (asked_setting at request before x (lines_of x.number)) from from x rows []
   amid_first rows held same more ready =
-      amid_begun disk ambient plugin sink source (asked_setting at request before x) from (is_setting at request before x asked) (not_noted refl refl) rows held
-      same more ready
+      amid_begun disk ambient plugin sink source (asked_setting at request before x (lines_of x.number)) from
+      (is_setting at request before x asked (lines_of x.number)) (not_noted refl refl) rows held same more ready refl (λ marks. refl)
 
-  -- ---- ended
+-- ---- ended
 
+module _ {D A P K : Type 0} (disk : D → DiskState) (ambient : A → AmbientState) (plugin : P → StoreState) (sink : K → SinkState) (source : SourceState)
+    (at : State) (request : Request) (before : Cat) (x : Command) (asked : IsAsked at request before x) (text_of : List Mark → Text)
+    (from : Seen D A P K) where
   module _ (mid : Seen D A P K) (y : Command) (rows : Journal) (taken : List Mark)
-      (amid : IsAmid disk ambient plugin sink source (asked_setting at request before x) from mid y rows taken)
+      (amid : IsAmid disk ambient plugin sink source (asked_setting at request before x text_of) from mid y rows taken)
       (main_last : (disk mid.outside.main).last ≤ mid.outside.moments) (shown_rows : List (List Text)) (e : End)
       (new : Seen D A P K) (r : Result ⊤ Ending) (after : Journal) (failed sink_failed : Type 0)
       (passes : CallsPass disk plugin sink failed sink_failed mid new) (same : new.outside.ambient ≡ mid.outside.ambient)
@@ -104,12 +109,13 @@ module _ {D A P K : Type 0} (disk : D → DiskState) (ambient : A → AmbientSta
       → KeepBothWhole plugin mid.outside.moments kept rows.cat (disk mid.outside.main) (disk new.outside.main) mid.outside.stores.items
       new.outside.stores.items) where
     -- `executes` of Handling over the clauses of `finish`, which was called behind the calls with these rows and this end.
-    pub ended_so : (w : IsWholeEnd at request taken) → w.d.reply ≡ reply_of taken y.passed shown_rows e
-        → w.d.state ≡ record at { grid = grid_of rows.cat } → StaysSo request before taken w.d (disk from.outside.main) (disk new.outside.main)
+    pub ended_so : (w : IsWholeEnd x.number text_of at request (IsKnown (world disk ambient plugin sink source from) before) taken)
+        → w.d.reply ≡ reply_of taken y.passed shown_rows e
+        → w.d.state ≡ record at { grid = grid_of rows.cat } → StaysSo at request before taken w.d (disk from.outside.main) (disk new.outside.main)
         → Executes disk ambient plugin sink source at request before x from new r after
     ended_so w reply state still =
         let F : ℕ → Type 0 = λ n. Finishes (disk mid.outside.main) (disk new.outside.main) (sink mid.sink) (sink new.sink) amid.holds.cat mid.outside.moments
         n rows y (y.untold ++ rest_text n y.passed shown_rows e) r after in
-        executes disk ambient plugin sink source at request before x asked from mid y rows taken amid main_last shown_rows e w reply state new r after
+        executes disk ambient plugin sink source at request before x asked text_of from mid y rows taken amid main_last shown_rows e w reply state new r after
         (subst F (ap (λ (z : Command). z.number) amid.command) (finishes amid.holds.cat amid.holds.held)) failed sink_failed passes same
         (wholes amid.holds.cat amid.holds.held) still

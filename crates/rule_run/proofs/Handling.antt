@@ -1,10 +1,10 @@
 -- A request whose calls were made, once its last commit and the rest of its reply were tried, or where it was cut short.
-use Rattle.std.proofs.Common.{◌≡◌, ◌⊎◌, inl, inr, ℕ, ◌<◌, ◌≤◌, List, [], ◌++◌, length, Option, None, Some, Result, Ok, Err, IsTrue}
-use Rattle.std.proofs.Common.{refl, sym, ap, ◌∙◌, subst, append_assoc, arith}
+use Rattle.std.proofs.Common.{◌≡◌, ◌⊎◌, inl, inr, ℕ, ◌+◌, ◌<◌, ◌≤◌, List, [], ◌++◌, length, Option, None, Some, Result, Ok, Err, IsTrue}
+use Rattle.std.proofs.Common.{◌∷◌, take, drop, refl, sym, ap, ◌∙◌, subst, append_assoc, take-append-drop, arith}
 use Rattle.std.specs.Prelude.{⊤}
 use Rattle.std.specs.List.{AllByRecursion}
 use Rattle.std.proofs.lemmas.Bool.{cases_lt}
-use Rattle.std.proofs.lemmas.List.{length-map}
+use Rattle.std.proofs.lemmas.List.{append-nil, length-map, length-take-le}
 use Rattle.grid_outside.specs.Ambient.{AmbientState}
 use Rattle.grid_outside.specs.Device.{IsSettled}
 use Rattle.grid_outside.specs.Disk.{DiskState}
@@ -18,8 +18,9 @@ use Rattle.grid_model.specs.Rows.{Cat}
 use Rattle.grid_model.specs.RowGrids.{grid_of}
 use Rattle.grid_model.specs.Applying.{apply_all}
 use Rattle.grid_model.specs.Meanings.{gives}
-use Rattle.grid_model.specs.Replies.{mark_line}
-use Rattle.grid_model.specs.ReplyTexts.{ArePieces, reply_text}
+use Rattle.grid_model.specs.DataLines.{data_lines}
+use Rattle.grid_model.specs.Replies.{mark_line, rest_lines}
+use Rattle.grid_model.specs.ReplyTexts.{ArePieces, SendsBytes, reply_text}
 use Rattle.grid_model.specs.Completing.{AreClean, EndsByRows}
 use Rattle.grid_model.specs.Sessions.{State}
 use Rattle.grid_model.specs.Working.{Done, Sent}
@@ -33,14 +34,16 @@ use Rattle.grid_deed.specs.Held.{IsHeld}
 use Rattle.grid_deed.specs.Safe.{AreWhole, KeepBothWhole, KeepWhole}
 use Rattle.grid_deed.proofs.Keeping.{held_stands}
 use Rattle.grid_deed.proofs.Wholes.{one_cat, whole_before}
+use Rattle.grid_headline.specs.Causes.{AreCaused}
 use Rattle.grid_headline.specs.Files.{IsKnown}
+use Rattle.grid_headline.specs.Reads.{HasRules}
+use Rattle.grid_headline.specs.Served.{IsSure, cut, joined_texts, whole}
 use Rattle.grid_headline.specs.Stops.{AreFirst}
 use Rattle.grid_headline.specs.Worlds.{World}
 use Rattle.run_laws.specs.Passes.{CallsPass, Seen}
-use Rattle.run_laws.specs.Steps.{CallsNoRules, ComesAfter, Gave, IsHandledWhole, IsLeftBehind, IsLike, IsToldOf, OneOf, RequestStep, ShowsFew}
+use Rattle.run_laws.specs.Steps.{CallsNoRules, ComesAfter, Gave, IsHandledWhole, IsLeftBehind, IsLike, IsToldOf, OneOf, RequestStep, ShowsFew, SureTexts}
 use Rattle.run_laws.specs.Steps.{kept, kept_so, unseen as nothing_seen}
 use Rattle.run_laws.proofs.Causes.{caused-on}
-use Rattle.run_laws.proofs.Images.{keeps-then}
 use Rattle.run_laws.proofs.Known.{told-less}
 use Rattle.run_laws.proofs.Lists.{all-map}
 use Rattle.run_laws.proofs.Texts.{whole-most}
@@ -50,44 +53,214 @@ use Rattle.service_run.specs.Steps.{IsKnownBy, lines_of}
 use Rattle.service_run.specs.declared.command.Command.{Command}
 use Rattle.service_run.specs.declared.ending.Ending.{Ending}
 use Rattle.service_run.specs.declared.ending.Ending.TheVariants as ending
-use Rattle.call_laws.specs.Amid.{AreRan, HoldsSo, IsAmid, IsCutShort, WereAllWhole, world}
+use Rattle.call_laws.specs.Amid.{AreRan, HoldsSo, IsAmid, IsCutShort, Setting, WereAllWhole, world}
 use Rattle.call_laws.proofs.Joined.{went_of}
 use Rattle.call_laws.proofs.Ran.{caused_on, told_on}
 use Rattle.call_laws.proofs.Rows.{first_all, named_then}
-use Rattle.call_laws.proofs.Told.{adds_all, adds_behind, lines-append}
-use Rattle.rule_run.specs.Asked.{EndOf, IsAsked, IsOnMain, IsOnWay, asked_setting, mark_lines, not_noted, noted as noted_there}
+use Rattle.call_laws.proofs.Told.{adds_all, adds_behind}
+use Rattle.rule_run.specs.Asked.{EndOf, IsAsked, IsFrontOfReply, IsOnMain, IsOnWay, asked_setting, mark_lines, not_noted, noted as noted_there, text_with}
 use Rattle.rule_run.specs.Executing.{ExecuteEnds, Executes, HasRunOut, IsRested}
 use Rattle.rule_run.specs.Finishing.{FinishEnds, Finishes, HasNothing, IsDone, IsLeft, ended, reply_of, rest_text}
-use Rattle.rule_run.proofs.Leaving.{grid_ended, keeps_ended, named_ended, users_ended}
-use Rattle.rule_run.proofs.Replies.{few_told, part_of, pieces_are, text_is}
+use Rattle.rule_run.proofs.Leaving.{grid_ended, keeps_ended, keeps_then, named_ended, users_ended}
+use Rattle.rule_run.proofs.Replies.{joined_lines, lines_first, part_of_sure}
+use Rattle.rule_run.proofs.SentReplies.{pieces_before, pieces_many, pieces_plain, pieces_sent, sent_front, sent_pieces, sent_text}
 use Rattle.rule_run.proofs.Settings.{like_self, on_way, one_image}
 
--- What the request does with all of its marks: it sends no bytes, and with clean marks it ends by the rows.
-pub record IsWholeEnd (at : State) (request : Request) (marks : List Mark) : Type 0 where
+-- What the request does with all of these marks: with clean marks it ends by the rows.
+pub record DoesAll (at : State) (request : Request) (marks : List Mark) : Type 0 where
   pub d : Done
   pub does_so : does at request marks ≡ gives d
   pub all : d.left ≡ []
   pub marks_are : d.reply.marks ≡ marks
-  pub sent : d.sent ≡ None
   pub by_rows : AreClean marks → EndsByRows d.reply.end
 
+-- The same with the texts of its marks, of which those of the first ones are told so.
+pub record IsWholeEnd (n : ℕ) (text_of : List Mark → Text) (at : State) (request : Request) (known : ℕ → Type 0) (marks : List Mark) : Type 0 where
+  pub d : Done
+  pub does_so : does at request marks ≡ gives d
+  pub all : d.left ≡ []
+  pub marks_are : d.reply.marks ≡ marks
+  pub by_rows : AreClean marks → EndsByRows d.reply.end
+  pub pieces : List Text
+  pub pieces_are : ArePieces known n d.sent 0 d.reply.marks pieces
+  pub text_is : joined_texts pieces ≡ text_of marks
+  pub fronts : (told : List Mark) → AreFirst told marks
+      → IsFrontOfReply n d (record { pieces = pieces; sure = reply_text n d.reply pieces }) told (text_of told)
+
+-- The same of a request that was cut short behind the first of these marks, with what is sure of its reply: of that the text of any first marks
+-- up to some is a front.
+pub record IsCutEnd (n : ℕ) (text_of : List Mark → Text) (at : State) (request : Request) (known : ℕ → Type 0) (taken marks : List Mark) : Type 0 where
+  pub d : Done
+  pub does_so : does at request marks ≡ gives d
+  pub all : d.left ≡ []
+  pub marks_are : d.reply.marks ≡ marks
+  pub by_rows : AreClean marks → EndsByRows d.reply.end
+  pub texts : SureTexts
+  pub are_sure : IsSure known n d texts.pieces texts.sure
+  pub reach : List Mark
+  pub reach_first : AreFirst reach marks
+  pub taken_first : AreFirst taken reach
+  pub fronts : (told : List Mark) → AreFirst told reach → IsFrontOfReply n d texts told (text_of told)
+
 -- where the request calls no rules, took no mark and left the grid as it was, main is as it was
-abbrev pub StaysSo : Request → Cat → List Mark → Done → DiskState → DiskState → Type 0
-StaysSo request before taken d old new = CallsNoRules request → taken ≡ [] → d.state.grid ≡ grid_of before → IsTrue old.tells → new.holds ≡ old.holds
+abbrev pub StaysSo : State → Request → Cat → List Mark → Done → DiskState → DiskState → Type 0
+StaysSo at request before taken d old new =
+    CallsNoRules at request → taken ≡ [] → d.state.grid ≡ grid_of before → IsTrue old.tells → new.holds ≡ old.holds
 
-abbrev pub end_of_all : {at : State} {request : Request} {marks : List Mark} → IsWholeEnd at request marks → EndOf at request
-end_of_all {marks = marks} w = record { marks = marks; d = w.d; does_so = w.does_so; all = w.all; marks_are = w.marks_are }
+-- ---- what it comes to
 
--- the pieces of its reply are the lines of its marks
-pub its_pieces : (known : ℕ → Type 0) (n : ℕ) (at : State) (request : Request) (marks : List Mark) (w : IsWholeEnd at request marks)
-    → ArePieces known n w.d.sent 0 w.d.reply.marks (mark_lines n marks)
-its_pieces known n at request marks w =
-    let F : Option Sent → Type 0 = λ o. ArePieces known n o 0 w.d.reply.marks (mark_lines n marks) in
-    let G : List Mark → Type 0 = λ ms. ArePieces known n None 0 ms (mark_lines n marks) in
-    subst F (sym w.sent) (subst G (sym w.marks_are) (pieces_are known n 0 marks))
+module _ {n : ℕ} {text_of : List Mark → Text} {at : State} {request : Request} {known : ℕ → Type 0} where
+  -- the texts of all marks, and all of the reply
+  abbrev pub texts_of_all : {marks : List Mark} → IsWholeEnd n text_of at request known marks → SureTexts
+  texts_of_all w = record { pieces = w.pieces; sure = reply_text n w.d.reply w.pieces }
+
+  abbrev pub end_of_all : {marks : List Mark} → IsWholeEnd n text_of at request known marks → EndOf n text_of at request
+  end_of_all {marks} w = record {
+    marks = marks;
+    d = w.d;
+    does_so = w.does_so;
+    all = w.all;
+    marks_are = w.marks_are;
+    texts = texts_of_all w;
+    reach = marks;
+    reach_first = first_all marks;
+    fronts = w.fronts;
+  }
+
+  abbrev pub end_of_cut : {taken marks : List Mark} → IsCutEnd n text_of at request known taken marks → EndOf n text_of at request
+  end_of_cut {marks = marks} w = record {
+    marks = marks;
+    d = w.d;
+    does_so = w.does_so;
+    all = w.all;
+    marks_are = w.marks_are;
+    texts = w.texts;
+    reach = w.reach;
+    reach_first = w.reach_first;
+    fronts = w.fronts;
+  }
+
+  -- all of it is sure
+  abbrev pub cut_of_whole : (taken marks : List Mark) → IsWholeEnd n text_of at request known marks → AreFirst taken marks
+      → IsCutEnd n text_of at request known taken marks
+  cut_of_whole taken marks w first = record {
+    d = w.d;
+    does_so = w.does_so;
+    all = w.all;
+    marks_are = w.marks_are;
+    by_rows = w.by_rows;
+    texts = texts_of_all w;
+    are_sure = whole w.pieces_are refl;
+    reach = marks;
+    reach_first = first_all marks;
+    taken_first = first;
+    fronts = w.fronts;
+  }
+
+module _ (n : ℕ) (at : State) (request : Request) (known : ℕ → Type 0) where
+  -- ---- by lines alone
+
+  pub plain_pieces : (marks : List Mark) (w : DoesAll at request marks) → w.d.sent ≡ None → ArePieces known n w.d.sent 0 w.d.reply.marks (mark_lines n marks)
+  plain_pieces marks w none =
+      let F : Option Sent → Type 0 = λ o. ArePieces known n o 0 w.d.reply.marks (mark_lines n marks) in
+      let G : List Mark → Type 0 = λ ms. ArePieces known n None 0 ms (mark_lines n marks) in
+      subst F (sym none) (subst G (sym w.marks_are) (pieces_plain known n 0 marks))
+
+  -- It sends nothing: the texts are the lines of its marks.
+  abbrev pub plain_end : (marks : List Mark) (w : DoesAll at request marks) → w.d.sent ≡ None → IsWholeEnd n (lines_of n) at request known marks
+  plain_end marks w none = record {
+    d = w.d;
+    does_so = w.does_so;
+    all = w.all;
+    marks_are = w.marks_are;
+    by_rows = w.by_rows;
+    pieces = mark_lines n marks;
+    pieces_are = plain_pieces marks w none;
+    text_is = joined_lines n marks;
+    fronts = λ told first.
+        lines_first n w.d (record { pieces = mark_lines n marks; sure = reply_text n w.d.reply (mark_lines n marks) }) told marks (rest_lines n w.d.reply)
+        first refl refl;
+  }
+
+  abbrev pub plain_cut : (taken marks : List Mark) (w : DoesAll at request marks) → w.d.sent ≡ None → AreFirst taken marks
+      → IsCutEnd n (lines_of n) at request known taken marks
+  plain_cut taken marks w none first = cut_of_whole taken marks (plain_end marks w none) first
+
+  pub sure_before : (marks : List Mark) (w : DoesAll at request marks) (s : Sent) → w.d.sent ≡ Some s → s.before < length marks
+      → IsSure known n w.d (mark_lines n (take s.before marks)) (joined_texts (mark_lines n (take s.before marks)))
+  sure_before marks w s sent less =
+      let lines : List Text = mark_lines n (take s.before marks) in
+      let many : length lines ≡ s.before = length-map (take s.before marks) (mark_line n) ∙ length-take-le s.before marks (omega (arith, less)) in
+      let F : Option Sent → Type 0 = λ o. ArePieces known n o 0 (take (length lines) w.d.reply.marks) lines in
+      let G : List Mark → Type 0 = λ ms. ArePieces known n (Some s) 0 ms lines in
+      let same : take (length lines) w.d.reply.marks ≡ take s.before marks = ap (λ (k : ℕ). take k w.d.reply.marks) many ∙ ap (take s.before) w.marks_are in
+      let within : 0 + length (take s.before marks) ≤ s.before = omega (arith, length-take-le s.before marks (omega (arith, less))) in
+      cut (omega (arith, many, less, ap (λ (ms : List Mark). length ms) w.marks_are))
+      (subst F (sym sent) (subst G (sym same) (pieces_before known n s 0 (take s.before marks) within))) refl
+
+  -- It was cut short in front of the mark that sends bytes: no more is sure of its reply than the lines of the marks before that one.
+  abbrev pub cut_before_data : (taken marks : List Mark) (w : DoesAll at request marks) (s : Sent) → w.d.sent ≡ Some s
+      → AreFirst taken (take s.before marks) → s.before < length marks → IsCutEnd n (lines_of n) at request known taken marks
+  cut_before_data taken marks w s sent first less = record {
+    d = w.d;
+    does_so = w.does_so;
+    all = w.all;
+    marks_are = w.marks_are;
+    by_rows = w.by_rows;
+    texts = record { pieces = mark_lines n (take s.before marks); sure = joined_texts (mark_lines n (take s.before marks)) };
+    are_sure = sure_before marks w s sent less;
+    reach = take s.before marks;
+    reach_first = record { rest = drop s.before marks; are = sym (take-append-drop s.before marks) };
+    taken_first = first;
+    fronts = λ told its.
+        let lines : List Text = mark_lines n (take s.before marks) in
+        lines_first n w.d (record { pieces = lines; sure = joined_texts lines }) told (take s.before marks) [] its refl (sym (append-nil (joined_texts lines)));
+  }
+
+  -- ---- with bytes that are sent
+
+  module _ (front : List Mark) (m : Mark) (back : List Mark) (bytes : Text) (w : DoesAll at request (front ++ m ∷ back)) (s : Sent)
+      (sent : w.d.sent ≡ Some s) (many : length front ≡ s.before) (sends : SendsBytes known s m bytes) where
+    pub sent_pieces_are : ArePieces known n w.d.sent 0 w.d.reply.marks (sent_pieces n front m back bytes)
+    sent_pieces_are =
+        let F : Option Sent → Type 0 = λ o. ArePieces known n o 0 w.d.reply.marks (sent_pieces n front m back bytes) in
+        let G : List Mark → Type 0 = λ ms. ArePieces known n (Some s) 0 ms (sent_pieces n front m back bytes) in
+        subst F (sym sent) (subst G (sym w.marks_are) (pieces_sent known n s m back bytes sends 0 front (omega (arith, many))))
+
+    -- The bytes are sent in front of this mark.
+    abbrev pub sent_end : IsWholeEnd n (text_with n s.before (data_lines n bytes)) at request known (front ++ m ∷ back)
+    sent_end = record {
+      d = w.d;
+      does_so = w.does_so;
+      all = w.all;
+      marks_are = w.marks_are;
+      by_rows = w.by_rows;
+      pieces = sent_pieces n front m back bytes;
+      pieces_are = sent_pieces_are;
+      text_is = sent_text n s.before front m back bytes many;
+      fronts = λ told first.
+          let pieces : List Text = sent_pieces n front m back bytes in
+          sent_front n w.d (record { pieces = pieces; sure = reply_text n w.d.reply pieces }) front m back bytes s.before many refl refl told first;
+    }
+
+    abbrev pub sent_cut : (taken : List Mark) → AreFirst taken (front ++ m ∷ back)
+        → IsCutEnd n (text_with n s.before (data_lines n bytes)) at request known taken (front ++ m ∷ back)
+    sent_cut taken first = cut_of_whole taken (front ++ m ∷ back) sent_end first
+
+-- files that are known to be whole are so by the catalogue
+pub known_by : {B : Type 0} (w : World B) (c : Cat) (slot : ℕ) → IsKnown w c slot → IsKnownBy w c slot
+known_by w c slot known = record {
+  settled = known.settled.of_main;
+  whole = λ t late. (let was = known.whole t late in record {
+    rows = was.rows;
+    files = λ slot store image is tells left. was.files slot image (record { store = store; is = is; tells = tells; of_store = left });
+  });
+  there = known.there;
+}
 
 module _ {D A P K : Type 0} (disk : D → DiskState) (ambient : A → AmbientState) (plugin : P → StoreState) (sink : K → SinkState) (source : SourceState)
-    (at : State) (request : Request) (before : Cat) (x : Command) (asked : IsAsked at request before x) (from : Seen D A P K) where
+    (at : State) (request : Request) (before : Cat) (x : Command) (asked : IsAsked at request before x) (text_of : List Mark → Text)
+    (from : Seen D A P K) where
   abbrev n : ℕ
   n = x.number
 
@@ -97,79 +270,76 @@ module _ {D A P K : Type 0} (disk : D → DiskState) (ambient : A → AmbientSta
   abbrev stores : ℕ
   stores = length from.outside.stores.items
 
-  -- the files that are known to be whole are so by the catalogue before it
-  known_by : (slot : ℕ) → IsKnown at_old before slot → IsKnownBy at_old before slot
-  known_by slot known = record {
-    settled = known.settled.of_main;
-    whole = λ t late. (let was = known.whole t late in record {
-      rows = was.rows;
-      files = λ slot store image is tells left. was.files slot image (record { store = store; is = is; tells = tells; of_store = left });
-    });
-    there = known.there;
-  }
-
   pub told_by : (marks : List Mark) → AllByRecursion (IsToldOf (IsKnownBy at_old before) stores) marks
       → AllByRecursion (IsToldOf (IsKnown at_old before) stores) marks
   told_by marks all =
       all-map (IsToldOf (IsKnownBy at_old before) stores) (IsToldOf (IsKnown at_old before) stores)
-      (told-less (IsKnownBy at_old before) (IsKnown at_old before) known_by stores) marks all
+      (told-less (IsKnownBy at_old before) (IsKnown at_old before) (known_by at_old before) stores) marks all
 
   -- ---- cut short
 
-  module _ (new : Seen D A P K) (taken : List Mark) (short : IsCutShort disk ambient plugin sink source (asked_setting at request before x) from new taken)
-      (count : length new.outside.stores.items ≡ stores) (rest : List Mark) (ran : AreRan rest) (w : IsWholeEnd at request (taken ++ rest)) where
+  module _ (new : Seen D A P K) (taken : List Mark)
+      (short : IsCutShort disk ambient plugin sink source (asked_setting at request before x text_of) from new taken) where
     abbrev at_cut : World P
     at_cut = world disk ambient plugin sink source new
 
-    abbrev front : AreFirst taken (taken ++ rest)
-    front = record { rest = rest; are = refl }
+    module _ (rest : List Mark) (told_of : IsTrue at_old.main.tells → AllByRecursion (IsToldOf (IsKnownBy at_old before) stores) (taken ++ rest))
+        (caused : AreCaused at_old at_cut (taken ++ rest)) (w : IsCutEnd n text_of at request (IsKnown at_old before) taken (taken ++ rest)) where
+      shown_cut : IsTrue at_old.sink.tells → ShowsFew w.texts.pieces w.texts.sure (length taken) at_old.sink.holds at_cut.sink.holds
+      shown_cut told =
+          let part = short.shown told in
+          let front : IsFrontOfReply n w.d w.texts taken (text_of taken) = w.fronts taken w.taken_first in
+          record {
+            part = part_of_sure n w.d w.texts taken (text_of taken) front at_old.sink.holds at_cut.sink.holds part;
+            few = front.few part.count part.within;
+          }
 
-    shown_cut : IsTrue at_old.sink.tells
-        → ShowsFew (mark_lines n (taken ++ rest)) (reply_text n w.d.reply (mark_lines n (taken ++ rest))) (length taken) at_old.sink.holds at_cut.sink.holds
-    shown_cut told =
-        let part = short.shown told in
-        record {
-          part = part_of n w.d.reply taken (taken ++ rest) front at_old.sink.holds at_cut.sink.holds part;
-          few = few_told n w.d.reply taken (taken ++ rest) front part.count part.within;
-        }
+      pub cut_step : RequestStep at_old at_cut at before n request
+      cut_step = record {
+        marks = taken ++ rest;
+        d = w.d;
+        does_so = w.does_so;
+        all = w.all;
+        marks_are = w.marks_are;
+        taken = taken;
+        first = record { rest = rest; are = refl };
+        told_of = λ told. told_by (taken ++ rest) (told_of told);
+        by_rows = w.by_rows;
+        texts = w.texts;
+        are_sure = w.are_sure;
+        shown = shown_cut;
+        caused = caused;
+        gave = short.marks.gave;
+        images = short.safe.images (end_of_cut w) w.taken_first;
+      }
 
-    pub cut_step : RequestStep at_old at_cut at before n request
-    cut_step = record {
-      marks = taken ++ rest;
-      d = w.d;
-      does_so = w.does_so;
-      all = w.all;
-      marks_are = w.marks_are;
-      taken = taken;
-      first = front;
-      told_of = λ told. told_by (taken ++ rest)
-          (told_on disk ambient plugin sink source (asked_setting at request before x) from new taken rest short.marks ran told);
-      by_rows = w.by_rows;
-      pieces = mark_lines n (taken ++ rest);
-      pieces_are = its_pieces (IsKnown at_old before) n at request (taken ++ rest) w;
-      shown = shown_cut;
-      caused = caused_on disk ambient plugin sink source (asked_setting at request before x) from new taken rest short.marks ran count;
-      gave = short.marks.gave;
-      images = short.safe.images (end_of_all w) front;
-    }
+      -- What a command leaves that was cut short behind these marks: with the others, of which the same is true, it would have come to an end.
+      pub cut_executes_with : (e : Ending) → HasRunOut disk ambient plugin sink source at request before x from new e → (after : Journal)
+          → Executes disk ambient plugin sink source at request before x from new (Err e) after
+      cut_executes_with e out after = record {
+        step = cut_step;
+        ends = out;
+        way = short.safe.main;
+        whole = λ told settled were. short.safe.whole were told settled;
+      }
 
-    -- What a command leaves that was cut short behind these marks: with the others, each of which says that a deed ran, it would have come to an
-    -- end.
-    pub cut_executes : (e : Ending) → HasRunOut disk ambient plugin sink source at request before x from new e → (after : Journal)
+    -- The same where each of the others says that a deed ran.
+    pub cut_executes : length new.outside.stores.items ≡ stores → (rest : List Mark) → AreRan rest
+        → IsCutEnd n text_of at request (IsKnown at_old before) taken (taken ++ rest)
+        → (e : Ending) → HasRunOut disk ambient plugin sink source at request before x from new e → (after : Journal)
         → Executes disk ambient plugin sink source at request before x from new (Err e) after
-    cut_executes e out after = record {
-      step = cut_step;
-      ends = out;
-      way = short.safe.main;
-      whole = λ told settled were. short.safe.whole were told settled;
-    }
+    cut_executes count rest ran w e out after =
+        let s : Setting (EndOf x.number text_of at request) = asked_setting at request before x text_of in
+        cut_executes_with rest (told_on disk ambient plugin sink source s from new taken rest short.marks ran)
+        (caused_on disk ambient plugin sink source s from new taken rest short.marks ran count) w e out after
 
   -- ---- ended
 
   module _ (mid : Seen D A P K) (y : Command) (rows : Journal) (taken : List Mark)
-      (amid : IsAmid disk ambient plugin sink source (asked_setting at request before x) from mid y rows taken)
+      (amid : IsAmid disk ambient plugin sink source (asked_setting at request before x text_of) from mid y rows taken)
       (main_last : (disk mid.outside.main).last ≤ mid.outside.moments)
-      (shown_rows : List (List Text)) (e : End) (w : IsWholeEnd at request taken) (reply_is : w.d.reply ≡ reply_of taken y.passed shown_rows e)
+      (shown_rows : List (List Text)) (e : End) (w : IsWholeEnd n text_of at request (IsKnown at_old before) taken)
+      (reply_is : w.d.reply ≡ reply_of taken y.passed shown_rows e)
       (state_is : w.d.state ≡ record at { grid = grid_of rows.cat }) (new : Seen D A P K) (result : Result ⊤ Ending) (after : Journal) where
     abbrev at_mid : World P
     at_mid = world disk ambient plugin sink source mid
@@ -177,7 +347,7 @@ module _ {D A P K : Type 0} (disk : D → DiskState) (ambient : A → AmbientSta
     abbrev at_new : World P
     at_new = world disk ambient plugin sink source new
 
-    abbrev holds : HoldsSo disk ambient plugin sink source (asked_setting at request before x) from mid y.untold rows taken
+    abbrev holds : HoldsSo disk ambient plugin sink source (asked_setting at request before x text_of) from mid y.untold rows taken
     holds = amid.holds
 
     abbrev rest : Text
@@ -186,8 +356,8 @@ module _ {D A P K : Type 0} (disk : D → DiskState) (ambient : A → AmbientSta
     abbrev text : Text
     text = y.untold ++ rest
 
-    abbrev pieces : List Text
-    pieces = mark_lines n taken
+    abbrev texts : SureTexts
+    texts = texts_of_all w
 
     main_told : IsTrue at_old.main.tells → IsTrue at_mid.main.tells
     main_told told = subst IsTrue (sym amid.passes.frame.main.tells) told
@@ -205,15 +375,19 @@ module _ {D A P K : Type 0} (disk : D → DiskState) (ambient : A → AmbientSta
 
     -- ---- what was left
 
+    -- the rules that there were are those behind it
+    rules_before : HasRules before w.d.state.rules
+    rules_before = subst (HasRules before) (sym (ap (λ (s : State). s.rules) state_is)) asked.rules
+
     left_behind : IsLeftBehind before n w.d (ended n rows.cat)
     left_behind = record {
       grid = grid_ended n rows.cat ∙ sym (ap (λ (s : State). s.grid) state_is);
       run = amid.beside.run;
       last = refl;
-      rules = amid.beside.rules;
+      rules = amid.beside.rules ∙ rules_before;
       stores = amid.beside.stores;
       pending = sym asked.none;
-      keeps = keeps-then before rows.cat (ended n rows.cat) amid.beside.keeps (keeps_ended n rows.cat);
+      keeps = keeps_then before rows.cat (ended n rows.cat) amid.beside.keeps (keeps_ended n rows.cat);
     }
 
     marks_are : y.marks ≡ taken
@@ -248,7 +422,7 @@ module _ {D A P K : Type 0} (disk : D → DiskState) (ambient : A → AmbientSta
       comes_by (inr (nothing, is)) =
           let same = is ∙ rows_before nothing in
           nothing_seen (subst (IsLike before) (sym same) (like_self before)) (w.marks_are ∙ none_taken nothing)
-          (ap (λ (s : State). s.grid) state_is ∙ ap grid_of (rows_before nothing))
+          (ap (λ (s : State). s.grid) state_is ∙ ap grid_of (rows_before nothing)) rules_before
 
       comes : ComesAfter before n w.d left
       comes = comes_by finishes.is_left
@@ -289,24 +463,24 @@ module _ {D A P K : Type 0} (disk : D → DiskState) (ambient : A → AmbientSta
 
       -- ---- what was told
 
-      text_all : lines_of n holds.told ++ text ≡ reply_text n w.d.reply pieces
+      text_all : text_of holds.told ++ text ≡ texts.sure
       text_all =
-          ap (λ (u : Text). lines_of n holds.told ++ (u ++ rest)) holds.untold_is
-          ∙ sym (append_assoc (lines_of n holds.told) (lines_of n holds.fresh) rest)
-          ∙ ap (λ (t : Text). t ++ rest) (sym (ap (lines_of n) holds.taken_are ∙ lines-append n holds.told holds.fresh))
-          ∙ sym (text_is n (reply_of taken y.passed shown_rows e) taken)
-          ∙ ap (λ (r : Reply). reply_text n r pieces) (sym reply_is)
+          ap (λ (u : Text). text_of holds.told ++ (u ++ rest)) holds.untold_is
+          ∙ sym (append_assoc (text_of holds.told) (lines_of n holds.fresh) rest)
+          ∙ ap (λ (t : Text). t ++ rest) (sym (ap text_of holds.taken_are ∙ holds.plain holds.fresh))
+          ∙ ap (λ (t : Text). t ++ rest) (sym w.text_is)
+          ∙ ap (λ (r : Reply). reply_text n r w.pieces) (sym reply_is)
 
-      part_all : IsTrue at_old.sink.tells → (shown : Text) → AddsPart text at_mid.sink.holds shown
-          → AddsPart (reply_text n w.d.reply pieces) at_old.sink.holds shown
+      part_all : IsTrue at_old.sink.tells → (shown : Text) → AddsPart text at_mid.sink.holds shown → AddsPart texts.sure at_old.sink.holds shown
       part_all told shown part =
           subst (λ (t : Text). AddsPart t at_old.sink.holds shown) text_all
-          (adds_behind (lines_of n holds.told) text at_old.sink.holds at_mid.sink.holds shown (holds.shown told) part)
+          (adds_behind (text_of holds.told) text at_old.sink.holds at_mid.sink.holds shown (holds.shown told) part)
 
-      pub shown_all : IsTrue at_old.sink.tells → ShowsFew pieces (reply_text n w.d.reply pieces) (length taken) at_old.sink.holds at_new.sink.holds
+      pub shown_all : IsTrue at_old.sink.tells → ShowsFew w.pieces texts.sure (length taken) at_old.sink.holds at_new.sink.holds
       shown_all told =
           let part = part_all told at_new.sink.holds (finishes.leaves.shown (sink_told told)) in
-          record { part = part; few = omega (arith, whole-most pieces part.count, length-map taken (mark_line n)) }
+          let many = pieces_many (IsKnown at_old before) n 0 w.d.sent w.d.reply.marks w.pieces w.pieces_are in
+          record { part = part; few = omega (arith, whole-most w.pieces part.count, many, ap (λ (ms : List Mark). length ms) w.marks_are) }
 
       -- ---- what a stop leaves
 
@@ -314,10 +488,10 @@ module _ {D A P K : Type 0} (disk : D → DiskState) (ambient : A → AmbientSta
       first_told = record { rest = holds.fresh; are = holds.taken_are }
 
       image_now : IsTrue at_old.sink.tells → (main shown : Text) → OneOfNote holds.cat left text at_mid.sink.holds main shown
-          → OneOf at before n request w.d pieces at_old.sink.holds main shown
+          → OneOf at before n request w.d texts at_old.sink.holds main shown
       image_now told main shown (unnoted stands still) =
-          one_image at request before x asked (end_of_all w) holds.told first_told holds.cat holds.on_main at_old.sink.holds main shown stands
-          (adds_all (lines_of n holds.told) at_old.sink.holds shown (still ∙ holds.shown told))
+          one_image at request before x asked text_of (end_of_all w) holds.told first_told holds.cat holds.on_main at_old.sink.holds main shown stands
+          (adds_all (text_of holds.told) at_old.sink.holds shown (still ∙ holds.shown told))
       image_now told main shown (noted stands part) = kept_so left comes stands (part_all told shown part)
 
       way_now : (main : Text) (c : Cat) → StandsFor main holds.cat ⊎ StandsFor main left → StandsFor main c → IsOnWay before x.line c
@@ -327,7 +501,7 @@ module _ {D A P K : Type 0} (disk : D → DiskState) (ambient : A → AmbientSta
 
       module _ (failed sink_failed : Type 0) (passes : CallsPass disk plugin sink failed sink_failed mid new)
           (same : new.outside.ambient ≡ mid.outside.ambient)
-          (whole : KeepBothWhole plugin mid.outside.moments holds.cat rows.cat at_mid.main at_new.main mid.outside.stores.items new.outside.stores.items) where
+          (keeps : KeepBothWhole plugin mid.outside.moments holds.cat rows.cat at_mid.main at_new.main mid.outside.stores.items new.outside.stores.items) where
         pub gave_all : IsTrue (ambient new.outside.ambient).tells → Gave taken (ambient from.outside.ambient) (ambient new.outside.ambient)
         gave_all =
             let G : A → Type 0 = λ a. IsTrue (ambient a).tells → Gave taken (ambient from.outside.ambient) (ambient a) in
@@ -335,7 +509,7 @@ module _ {D A P K : Type 0} (disk : D → DiskState) (ambient : A → AmbientSta
 
         pub images_all : IsTrue at_old.main.tells → IsTrue at_old.sink.tells → IsSettled at_old.main → IsSettled at_old.sink → (t : ℕ) (main shown : Text)
             → from.outside.moments < t → at_new.main.left t main → at_new.sink.left t shown
-            → OneOf at before n request w.d pieces at_old.sink.holds main shown
+            → OneOf at before n request w.d texts at_old.sink.holds main shown
         images_all told s_told settled s_settled t main shown late l s_left = elim (cases_lt mid.outside.moments t) [
           | inl now ↦ image_now s_told main shown
               (finishes.leaves.images (main_told told) (sink_told s_told) (holds.settled told settled) (holds.sink_settled s_told s_settled) t main shown now l
@@ -355,8 +529,8 @@ module _ {D A P K : Type 0} (disk : D → DiskState) (ambient : A → AmbientSta
           first = first_all taken;
           told_of = λ told. told_by taken (amid.marks.told_of told);
           by_rows = w.by_rows;
-          pieces = pieces;
-          pieces_are = its_pieces (IsKnown at_old before) n at request taken w;
+          texts = texts;
+          are_sure = whole w.pieces_are refl;
           shown = shown_all;
           caused = caused-on at_old at_mid at_new taken (went_of disk plugin sink failed sink_failed ambient source mid new passes) amid.marks.caused;
           gave = gave_all;
@@ -372,7 +546,7 @@ module _ {D A P K : Type 0} (disk : D → DiskState) (ambient : A → AmbientSta
 
         whole_all : KeepWhole plugin from.outside.moments before at_old.main at_new.main from.outside.stores.items new.outside.stores.items
         whole_all told settled were t main c late l stands = elim (cases_lt mid.outside.moments t) [
-          | inl now ↦ whole (amid.whole_now were told settled) (main_told told) (holds.settled told settled) (whole_kept were told settled) t main c
+          | inl now ↦ keeps (amid.whole_now were told settled) (main_told told) (holds.settled told settled) (whole_kept were told settled) t main c
               now l stands
           | inr early ↦ whole_before plugin t mid.outside.moments c mid.outside.stores.items new.outside.stores.items early passes.frame.stores
               (amid.safe.whole were told settled t main c late (passes.frame.main.earlier t main early l) stands)
@@ -380,7 +554,7 @@ module _ {D A P K : Type 0} (disk : D → DiskState) (ambient : A → AmbientSta
 
         -- ---- how it ended
 
-        module _ (still : StaysSo request before taken w.d at_old.main at_new.main)
+        module _ (still : StaysSo at request before taken w.d at_old.main at_new.main)
             (done : IsDone at_mid.main at_new.main at_mid.sink at_new.sink left text after) where
           abbrev IsWhole : Cat → Type 0
           IsWhole c = IsHandledWhole at_old at_new at before n request done_step c (record at { grid = grid_of c })
@@ -390,14 +564,15 @@ module _ {D A P K : Type 0} (disk : D → DiskState) (ambient : A → AmbientSta
             state = state_is ∙ ap (λ (g : Grid). record at { grid = g }) (sym (grid_by finishes.is_left));
             grid = refl;
             all_taken = refl;
+            pieces_are = w.pieces_are;
             follows = comes;
             stands = λ told. held_stands left at_new.main after done.held (subst IsTrue (sym passes.frame.main.tells) (main_told told));
             text = λ told.
                 done.sink (sink_told told)
                 ∙ ap (λ (h : Text). h ++ text) (holds.shown told)
-                ∙ append_assoc at_old.sink.holds (lines_of n holds.told) text
+                ∙ append_assoc at_old.sink.holds (text_of holds.told) text
                 ∙ ap (λ (t : Text). at_old.sink.holds ++ t) text_all;
-            still = λ no_sweep. still;
+            still = λ no_sweep none_called none grid no_rules. still none_called none grid;
             main_settled = λ told settled. done.settled (main_told told) (holds.settled told settled);
             sink_settled = λ told settled. done.sink_settled (sink_told told) (holds.sink_settled told settled);
           }
@@ -424,13 +599,13 @@ module _ {D A P K : Type 0} (disk : D → DiskState) (ambient : A → AmbientSta
         out_of (ending.Worn wear.Vaults place) out = let no = out.0 in absurd (cc no)
         out_of (ending.Worn wear.Log place) out = (out.1, λ told. out.2 (main_told told))
 
-        ends_so : StaysSo request before taken w.d at_old.main at_new.main → (r : Result ⊤ Ending)
+        ends_so : StaysSo at request before taken w.d at_old.main at_new.main → (r : Result ⊤ Ending)
             → FinishEnds at_mid.main at_new.main at_mid.sink at_new.sink left text r after
             → ExecuteEnds disk ambient plugin sink source at request before x from new done_step r after
         ends_so still (Ok done) ends = (handled_whole still ends, rested still ends)
         ends_so still (Err e) ends = out_of e ends
 
         -- What a command leaves whose calls took all of its marks, once the last commit and the rest of its reply, with these rows, were tried.
-        pub executes : StaysSo request before taken w.d at_old.main at_new.main
+        pub executes : StaysSo at request before taken w.d at_old.main at_new.main
             → Executes disk ambient plugin sink source at request before x from new result after
         executes still = record { step = done_step; ends = ends_so still result finishes.ends; way = way_all; whole = whole_all }

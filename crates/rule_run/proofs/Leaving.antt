@@ -19,6 +19,15 @@ use Rattle.run_laws.proofs.Users.{KeepsUsers, users_same}
 use Rattle.tables_laws.proofs.Grids.{grid-same}
 use Rattle.rule_run.specs.Finishing.{end_deltas, ended}
 
+-- numbers of files, over two changes of the rows
+pub keeps_then : (a b c : Cat) → KeepsNumbers a b → KeepsNumbers b c → KeepsNumbers a c
+keeps_then a b c one two = record {
+  rises = omega (arith, one.rises, two.rises);
+  names = λ slot name row low its.
+      let was = two.names slot name row (omega (arith, low, one.rises)) its in
+      one.names slot name was.0 low was.1;
+}
+
 module _ (n : ℕ) (c : Cat) where
   -- ---- what they stand for
 

@@ -15,6 +15,8 @@ pub mod Ready
 pub mod Replies
 pub mod RunEnds
 pub mod RunMade
+pub mod Sending
+pub mod SentReplies
 pub mod Settings
 pub mod Sizes
 pub mod Spelled

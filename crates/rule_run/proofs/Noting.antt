@@ -1,5 +1,6 @@
 -- A call of a request that is noted: main has the request pending there, where it waits.
 use Rattle.std.proofs.Common.{◌≡◌, List, ◌++◌, Ok, refl, sym, ap, ◌∙◌, subst}
+use Rattle.grid_model.specs.Names.{Text}
 use Rattle.grid_model.specs.Rows.{Cat}
 use Rattle.grid_model.specs.RowGrids.{user_name}
 use Rattle.grid_model.specs.Meanings.{Meaning, waits}
@@ -17,8 +18,9 @@ use Rattle.call_laws.specs.Amid.{MayCall}
 use Rattle.call_laws.proofs.Rows.{beside_then}
 use Rattle.rule_run.specs.Asked.{IsAsked, IsOnMain, IsOnWay, asked_setting, noted}
 
-module _ (at : State) (request : Request) (before : Cat) (x : Command) (asked : IsAsked at request before x) (rows : Cat) (y : Command) (taken : List Mark)
-    (call : Call) (undo : List Call) (command : y ≡ record x { marks = x.marks ++ taken; passed = y.passed; untold = y.untold })
+module _ (at : State) (request : Request) (before : Cat) (x : Command) (asked : IsAsked at request before x)
+    (text_of : List Mark → Text) (rows : Cat) (y : Command) (taken : List Mark) (call : Call)
+    (undo : List Call) (command : y ≡ record x { marks = x.marks ++ taken; passed = y.passed; untold = y.untold })
     (beside : KeepsBeside before rows) where
   -- it has the marks of its calls alone
   marks_are : y.marks ≡ taken
@@ -80,5 +82,5 @@ module _ (at : State) (request : Request) (before : Cat) (x : Command) (asked : 
   -- The call, which does this, may be made: where it waits, the request does, with all that a stop there has done.
   pub may_call : (doing : Course → Meaning Did)
       → (WaitsAt doing (place_by rows y) call → does at request taken ≡ waits (record (waiting_at (place_by rows y) call) { undo = undo }))
-      → MayCall (asked_setting at request before x) rows y taken doing call undo
+      → MayCall (asked_setting at request before x text_of) rows y taken doing call undo
   may_call doing waits_so = record { on_noted = λ c is_noted its. on_noted c is_noted (waits_so its); way_noted = way_noted }

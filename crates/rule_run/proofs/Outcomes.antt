@@ -35,7 +35,7 @@ use Rattle.rule_run.specs.Asked.{IsAsked}
 use Rattle.rule_run.specs.Executing.{DoesCall, end_by}
 use Rattle.rule_run.specs.Finishing.{reply_of}
 use Rattle.rule_run.specs.Running.{WaitsWith}
-use Rattle.rule_run.proofs.Handling.{IsWholeEnd}
+use Rattle.rule_run.proofs.Handling.{DoesAll}
 
 -- ---- ends
 
@@ -169,5 +169,5 @@ module _ (at : State) (request : Request) (before : Cat) (x : Command) (asked : 
     by_rows clean =
         subst EndsByRows (sym end_is) (ends_by_rows k.outcome (ends rules env call vs (course_from (place_by before x) marks) k clean refl is))
 
-    abbrev pub whole_end : IsWholeEnd at request marks
-    whole_end = record { d = its_done; does_so = does_so; all = all; marks_are = taken_are; sent = refl; by_rows = by_rows }
+    abbrev pub whole_end : DoesAll at request marks
+    whole_end = record { d = its_done; does_so = does_so; all = all; marks_are = taken_are; by_rows = by_rows }

@@ -64,9 +64,9 @@ due_waits rules env whole from x due its =
 
 module _ {D A P K : Type 0} (disk : D → DiskState) (ambient : A → AmbientState) (plugin : P → StoreState) (sink : K → SinkState) (source : SourceState)
     (at : State) (request : Request) (before : Cat) (x : Command) (asked : IsAsked at request before x)
-    (setting : IsSetting (asked_setting at request before x))
+    (text_of : List Mark → Text) (setting : IsSetting (asked_setting at request before x text_of))
     (from : Seen D A P K) (taken : List Mark) (start : Spot D A P K)
-    (begun : IsAmid disk ambient plugin sink source (asked_setting at request before x) from start.seen start.command start.rows taken)
+    (begun : IsAmid disk ambient plugin sink source (asked_setting at request before x text_of) from start.seen start.command start.rows taken)
     (main_last : (disk start.seen.outside.main).last ≤ start.seen.outside.moments)
     (rules : List Rule) (env : Env) (whole : List Mark → Meaning Named) (name : user_name start.rows.cat start.command.user ≡ env.user)
   where
@@ -77,7 +77,7 @@ module _ {D A P K : Type 0} (disk : D → DiskState) (ambient : A → AmbientSta
     Due = IsDue rules env whole entry
 
     abbrev Amid : Spot D A P K → List Mark → Type 0
-    Amid = AmidAt disk ambient plugin sink source (asked_setting at request before x) setting from
+    Amid = AmidAt disk ambient plugin sink source (asked_setting at request before x text_of) setting from
 
     -- ---- marks
 
@@ -108,9 +108,9 @@ module _ {D A P K : Type 0} (disk : D → DiskState) (ambient : A → AmbientSta
     module _ (waits_with : WaitsWith at request whole taken) where
       -- a call that is due may be made
       may : (b : Spot D A P K) (c : Made Ending) (marks : List Mark) → Amid b (taken ++ marks) → c.place ≡ place_by b.rows.cat b.command → Due c
-          → MayCall (asked_setting at request before x) b.rows.cat b.command (taken ++ marks) (does_there b c) c.call c.undo
+          → MayCall (asked_setting at request before x text_of) b.rows.cat b.command (taken ++ marks) (does_there b c) c.call c.undo
       may b c marks amid place due =
-          may_call at request before x asked b.rows.cat b.command (taken ++ marks) c.call c.undo amid.command amid.beside (does_there b c)
+          may_call at request before x asked text_of b.rows.cat b.command (taken ++ marks) c.call c.undo amid.command amid.beside (does_there b c)
           (λ its. waits_there its)
         where
           at_place : WaitsAt (do_call (user_name b.rows.cat b.command.user) c.call) (place_by b.rows.cat b.command) c.call
@@ -129,16 +129,16 @@ module _ {D A P K : Type 0} (disk : D → DiskState) (ambient : A → AmbientSta
 
       module _ (calls : List (Made Ending)) (b : Spot D A P K) (chain : Chain disk ambient plugin sink start calls b) (due : All Due calls) where
         abbrev WalkedTo : Spot D A P K → Type 0
-        WalkedTo = Walked disk ambient plugin sink start source (asked_setting at request before x) setting from taken Due may begun main_last
+        WalkedTo = Walked disk ambient plugin sink start source (asked_setting at request before x text_of) setting from taken Due may begun main_last
 
         -- ---- to its end
 
         pub ends_well : OnlyLastStops None calls → (outcome : told.Outcome) (m : Frames)
             → ReachesEnd whole entry outcome m (place_by b.rows.cat b.command)
-            → RunEnds disk ambient plugin sink source at request before x from b.seen whole taken m (Ok outcome) b.command b.rows
+            → RunEnds disk ambient plugin sink source at request before x text_of from b.seen whole taken m (Ok outcome) b.command b.rows
         ends_well on outcome m ends =
-            let w = walked disk ambient plugin sink start source (asked_setting at request before x) setting from taken Due may begun main_last calls b chain
-            due on in
+            let w = walked disk ambient plugin sink start source (asked_setting at request before x text_of) setting from taken Due may begun main_last calls b
+            chain due on in
             let same : w.marks ≡ ends.marks = same_marks b w.marks ends.marks w.amid ends.taken in
             record {
               more = w.marks;
@@ -149,20 +149,20 @@ module _ {D A P K : Type 0} (disk : D → DiskState) (ambient : A → AmbientSta
         -- ---- cut short
 
         abbrev Short : Type 0
-        Short = IsRunShort disk ambient plugin sink source at request before x from b.seen whole taken
+        Short = IsRunShort disk ambient plugin sink source at request before x text_of from b.seen whole taken
 
         abbrev Dry : Ending → Type 0
-        Dry = HasRunDry disk ambient plugin sink source at request before x from b.seen whole taken
+        Dry = HasRunDry disk ambient plugin sink source at request before x text_of from b.seen whole taken
 
         module _ (machines : MachinesComplete) (completes : Completes whole) where
-          short_by : Leaves disk ambient plugin sink start source (asked_setting at request before x) setting from taken Due may begun main_last calls b
+          short_by : Leaves disk ambient plugin sink start source (asked_setting at request before x text_of) setting from taken Due may begun main_last calls b
               → Short
           short_by (left_begun same is) =
-              let S : Spot D A P K → Type 0 = λ at_b. IsRunShort disk ambient plugin sink source at request before x from at_b.seen whole taken in
+              let S : Spot D A P K → Type 0 = λ at_b. IsRunShort disk ambient plugin sink source at request before x text_of from at_b.seen whole taken in
               subst S (sym same) (record {
                 more = [];
-                cut = short_amid disk ambient plugin sink source (asked_setting at request before x) from start.seen start.command start.rows (taken ++ [])
-                    (subst (Amid start) (sym (append-nil taken)) begun);
+                cut = short_amid disk ambient plugin sink source (asked_setting at request before x text_of) from start.seen start.command start.rows
+                    (taken ++ []) (subst (Amid start) (sym (append-nil taken)) begun);
                 rest = completes.rest;
                 ran = completes.ran;
                 end = completes.end;
@@ -228,21 +228,22 @@ module _ {D A P K : Type 0} (disk : D → DiskState) (ambient : A → AmbientSta
                 cut_dry f (ran_out ran left step) = tt
 
           dry_left : (e : Ending) → OnlyLastStops (Some e) calls
-              → Leaves disk ambient plugin sink start source (asked_setting at request before x) setting from taken Due may begun main_last calls b → Dry e
+              → Leaves disk ambient plugin sink start source (asked_setting at request before x text_of) setting from taken Due may begun main_last calls b
+              → Dry e
           dry_left e stops (left_begun same is) = absurd (some_stopped e calls stops is)
           dry_left e stops (left_behind front mid c is w its called cut_there) = dry_by mid w c e (last_stops e calls stops front c is) called.did
 
           left : FrontGoesOn calls
-              → Leaves disk ambient plugin sink start source (asked_setting at request before x) setting from taken Due may begun main_last calls b
-          left front = leaves disk ambient plugin sink start source (asked_setting at request before x) setting from taken Due may begun main_last calls b
-              chain due front
+              → Leaves disk ambient plugin sink start source (asked_setting at request before x text_of) setting from taken Due may begun main_last calls b
+          left front = leaves disk ambient plugin sink start source (asked_setting at request before x text_of) setting from taken Due may begun main_last calls
+              b chain due front
 
           -- a call was stopped
           pub ends_stopped : (e : Ending) → OnlyLastStops (Some e) calls → (m : Frames) (y : Command)
-              → RunEnds disk ambient plugin sink source at request before x from b.seen whole taken m (Err e) y b.rows
+              → RunEnds disk ambient plugin sink source at request before x text_of from b.seen whole taken m (Err e) y b.rows
           ends_stopped e stops m y = (short_by (left (front_goes_on (Some e) calls stops)), dry_left e stops (left (front_goes_on (Some e) calls stops)))
 
           -- there was no memory to go on
           pub ends_without_memory : OnlyLastStops None calls → (m : Frames) (y : Command)
-              → RunEnds disk ambient plugin sink source at request before x from b.seen whole taken m (Err ending.Memory) y b.rows
+              → RunEnds disk ambient plugin sink source at request before x text_of from b.seen whole taken m (Err ending.Memory) y b.rows
           ends_without_memory on m y = (short_by (left (front_goes_on None calls on)), tt)

@@ -9,6 +9,7 @@ use Rattle.grid_outside.specs.Files.{StoreState}
 use Rattle.grid_outside.specs.Sink.{SinkState}
 use Rattle.grid_outside.specs.Source.{SourceState}
 use Rattle.grid_model.specs.Applying.{is_user}
+use Rattle.grid_model.specs.Names.{Text}
 use Rattle.grid_model.specs.Rows.{Cat}
 use Rattle.grid_model.specs.RowGrids.{user_name}
 use Rattle.grid_model.specs.RuleText.{Rule}
@@ -135,27 +136,27 @@ module _ {D A P K : Type 0} (disk : D → DiskState) (ambient : A → AmbientSta
       abbrev pub Shows : Frames → Result told.Outcome Ending → Type 0
       Shows m result =
           user_name start.rows.cat start.command.user ≡ env.user → (disk start.seen.outside.main).last ≤ start.seen.outside.moments
-          → (source : SourceState) (at : State) (request : Request) (before : Cat) (x : Command) (from : Seen D A P K) (taken : List Mark)
-          → IsSetting (asked_setting at request before x)
-          → IsAmid disk ambient plugin sink source (asked_setting at request before x) from start.seen start.command start.rows taken
+          → (source : SourceState) (at : State) (request : Request) (before : Cat) (x : Command) (text_of : List Mark → Text)
+          (from : Seen D A P K) (taken : List Mark) → IsSetting (asked_setting at request before x text_of)
+          → IsAmid disk ambient plugin sink source (asked_setting at request before x text_of) from start.seen start.command start.rows taken
           → WaitsWith at request (whole (place_at start)) taken → IsAsked at request before x
-          → RunEnds disk ambient plugin sink source at request before x from end.seen (whole (place_at start)) taken m result end.command end.rows
+          → RunEnds disk ambient plugin sink source at request before x text_of from end.seen (whole (place_at start)) taken m result end.command end.rows
 
       shows_well : (outcome : told.Outcome) (m : Frames) → RanWell outcome m start end → Shows m (Ok outcome)
-      shows_well outcome m it name last source at request before x from taken setting amid waits asked =
-          ends_well disk ambient plugin sink source at request before x asked setting from taken start amid last rules env (whole (place_at start)) name waits
-          it.made.calls end it.made.chain it.made.due it.made.stops outcome m it.ends
+      shows_well outcome m it name last source at request before x text_of from taken setting amid waits asked =
+          ends_well disk ambient plugin sink source at request before x asked text_of setting from taken start amid last rules env (whole (place_at start))
+          name waits it.made.calls end it.made.chain it.made.due it.made.stops outcome m it.ends
 
       shows_short : MachinesComplete → Completes (whole (place_at start)) → (e : Ending) (m : Frames) → RanShort e start end → Shows m (Err e)
-      shows_short machines completes e m (inl it) name last source at request before x from taken setting amid waits asked =
-          ends_stopped disk ambient plugin sink source at request before x asked setting from taken start amid last rules env (whole (place_at start)) name
-          waits it.calls end it.chain it.due machines completes e it.stops m end.command
-      shows_short machines completes e m (inr it) name last source at request before x from taken setting amid waits asked =
+      shows_short machines completes e m (inl it) name last source at request before x text_of from taken setting amid waits asked =
+          ends_stopped disk ambient plugin sink source at request before x asked text_of setting from taken start amid last rules env (whole (place_at start))
+          name waits it.calls end it.chain it.due machines completes e it.stops m end.command
+      shows_short machines completes e m (inr it) name last source at request before x text_of from taken setting amid waits asked =
           let R : Ending → Type 0 = λ f.
-          RunEnds disk ambient plugin sink source at request before x from end.seen (whole (place_at start)) taken m (Err f) end.command end.rows in
+          RunEnds disk ambient plugin sink source at request before x text_of from end.seen (whole (place_at start)) taken m (Err f) end.command end.rows in
           subst R (sym it.1)
-          (ends_without_memory disk ambient plugin sink source at request before x asked setting from taken start amid last rules env (whole (place_at start))
-          name waits it.0.calls end it.0.chain it.0.due machines completes it.0.stops m end.command)
+          (ends_without_memory disk ambient plugin sink source at request before x asked text_of setting from taken start amid last rules env
+          (whole (place_at start)) name waits it.0.calls end it.0.chain it.0.due machines completes it.0.stops m end.command)
 
       pub shows : MachinesComplete → Completes (whole (place_at start)) → (result : Result told.Outcome Ending) (m : Frames) → Ran result m start end
           → Shows m result

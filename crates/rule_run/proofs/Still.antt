@@ -7,6 +7,7 @@ use Rattle.grid_outside.specs.Disk.{DiskState}
 use Rattle.grid_outside.specs.Files.{StoreState}
 use Rattle.grid_outside.specs.Sink.{SinkState}
 use Rattle.grid_outside.specs.Source.{SourceState}
+use Rattle.grid_model.specs.Names.{Text}
 use Rattle.grid_model.specs.Rows.{Cat}
 use Rattle.grid_model.specs.Meanings.{Meaning, gives, waits}
 use Rattle.grid_model.specs.Doing.{Course, Did}
@@ -70,8 +71,9 @@ module _ {B : Type 0} (old new : World B) (kept : Cat) (rows : Journal) (x : Com
 -- ---- the command
 
 module _ {D A P K : Type 0} (disk : D → DiskState) (ambient : A → AmbientState) (plugin : P → StoreState) (sink : K → SinkState) (source : SourceState)
-    (at : State) (request : Request) (before : Cat) (x : Command) (asked : IsAsked at request before x) (from mid new : Seen D A P K) (y : Command)
-    (rows : Journal) (taken : List Mark) (amid : IsAmid disk ambient plugin sink source (asked_setting at request before x) from mid y rows taken)
+    (at : State) (request : Request) (before : Cat) (x : Command) (asked : IsAsked at request before x) (text_of : List Mark → Text)
+    (from mid new : Seen D A P K) (y : Command) (rows : Journal) (taken : List Mark)
+    (amid : IsAmid disk ambient plugin sink source (asked_setting at request before x text_of) from mid y rows taken)
     (idle : HasNothing rows y → new.outside.main ≡ mid.outside.main) where
   -- nothing is to be kept of a command that took no mark
   pub has_nothing : rows.staged ≡ [] → rows.cat.pending ≡ None → taken ≡ [] → HasNothing rows y

@@ -1,5 +1,5 @@
 -- A request whose calls are made one after another: what main may have of it, and what a stop leaves.
-use Rattle.std.specs.Prelude.{◌≡◌, ℕ, List, [], Some, None, Ok, IsTrue, map}
+use Rattle.std.specs.Prelude.{◌≡◌, ℕ, ◌<◌, ◌≤◌, true, false, List, [], ◌++◌, Some, None, Ok, IsTrue, drop, length, map, nat_le, take}
 use Rattle.grid_model.specs.Applying.{is_user}
 use Rattle.grid_model.specs.Maps.{get}
 use Rattle.grid_model.specs.Names.{Text}
@@ -7,6 +7,7 @@ use Rattle.grid_model.specs.Rows.{Cat}
 use Rattle.grid_model.specs.RowGrids.{grid_of, user_name}
 use Rattle.grid_model.specs.Meanings.{gives}
 use Rattle.grid_model.specs.Replies.{mark_line}
+use Rattle.grid_model.specs.ReplyTexts.{reply_text}
 use Rattle.grid_model.specs.Sessions.{Session, State}
 use Rattle.grid_model.specs.Working.{Done}
 use Rattle.grid_model.specs.Orders.{Order}
@@ -15,7 +16,10 @@ use Rattle.grid_model.specs.declared.deltas.Pending.{Pending}
 use Rattle.grid_model.specs.declared.marks.Mark.{Mark}
 use Rattle.grid_headline.specs.Files.{KeepsNamed, NamesCall}
 use Rattle.grid_headline.specs.Stops.{AreFirst}
-use Rattle.run_laws.specs.Steps.{HasLine, IsAmid as IsAmidCommand, OneOf, WaitsInDeed}
+use Rattle.grid_headline.specs.Reads.{HasRules}
+use Rattle.grid_headline.specs.Served.{whole_in}
+use Rattle.run_laws.specs.Steps.{HasLine, IsAmid as IsAmidCommand, IsUntold, OneOf, SureTexts, WaitsInDeed}
+use Rattle.service_run.specs.Steps.{lines_of}
 use Rattle.service_run.specs.declared.command.Command.{Command}
 use Rattle.call_laws.specs.Amid.{Setting}
 
@@ -29,17 +33,32 @@ pub record IsAsked (at : State) (request : Request) (before : Cat) (x : Command)
   pub user : IsTrue (is_user before x.user)
   pub name : user_name before x.user ≡ of.user
   pub grid : grid_of before ≡ at.grid
+  pub rules : HasRules before at.rules
   pub run : x.run ≡ before.numbers.run
   pub begun : x ≡ record x { marks = []; passed = []; untold = [] }
   pub none : before.pending ≡ None
 
--- what the request may come to: all its marks, and what it did with them, which sends no bytes
-pub record EndOf (at : State) (request : Request) : Type 0 where
+-- The text is a front of what is sure of the reply to the request of this number, it tells at most these marks, and the reply does not end in it.
+pub record IsFrontOfReply (n : ℕ) (d : Done) (texts : SureTexts) (told : List Mark) (text : Text) : Type 0 where
+  pub rest : Text
+  pub sure_is : texts.sure ≡ text ++ rest
+  pub few : (count : ℕ) → count ≤ length text → whole_in texts.pieces count ≤ length told
+  pub cut : (count : ℕ) → count ≤ length text → count < length (reply_text n d.reply texts.pieces)
+  pub untold : told ≡ [] → (count : ℕ) → count ≤ length text → IsUntold texts.pieces count
+
+-- What the request of this number may come to: all its marks, what it did with them, and texts of its reply, of which what tells the first marks
+-- so is a front.
+pub record EndOf (n : ℕ) (text_of : List Mark → Text) (at : State) (request : Request) : Type 0 where
   pub marks : List Mark
   pub d : Done
   pub does_so : does at request marks ≡ gives d
   pub all : d.left ≡ []
   pub marks_are : d.reply.marks ≡ marks
+  pub texts : SureTexts
+  -- those of its marks that are told so
+  pub reach : List Mark
+  pub reach_first : AreFirst reach marks
+  pub fronts : (told : List Mark) → AreFirst told reach → IsFrontOfReply n d texts told (text_of told)
 
 -- main has what it had before and no mark is told, or the request is pending with the marks that are told
 pub data IsOnMain (at : State) (request : Request) (before : Cat) (x : Command) (c : Cat) (told : List Mark) : Type 0 where
@@ -57,13 +76,21 @@ pub record IsOnWay (before : Cat) (line : Text) (c : Cat) : Type 0 where
 abbrev pub mark_lines : ℕ → List Mark → List Text
 mark_lines n marks = map (mark_line n) marks
 
--- the request as a setting of calls
-abbrev pub asked_setting : (at : State) (request : Request) → Cat → Command → Setting (EndOf at request)
-asked_setting at request before x = record {
+-- the text that tells these marks, where behind the first so many of them that data were sent
+abbrev pub text_with : ℕ → ℕ → Text → List Mark → Text
+text_with n count sent marks = elim (nat_le count (length marks)) [
+  | true ↦ lines_of n (take count marks) ++ (sent ++ lines_of n (drop count marks))
+  | false ↦ lines_of n marks
+]
+
+-- the request as a setting of calls, with the text that tells marks
+abbrev pub asked_setting : (at : State) (request : Request) → Cat → (x : Command) → (text_of : List Mark → Text) → Setting (EndOf x.number text_of at request)
+asked_setting at request before x text_of = record {
   found = before;
   start = x;
+  text_of = text_of;
   OnMain = IsOnMain at request before x;
   OnWay = IsOnWay before x.line;
-  marks_of = λ e. e.marks;
-  OneOf = λ e shown main sink. OneOf at before x.number request e.d (mark_lines x.number e.marks) shown main sink;
+  marks_of = λ e. e.reach;
+  OneOf = λ e shown main sink. OneOf at before x.number request e.d e.texts shown main sink;
 }

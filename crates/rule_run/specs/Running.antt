@@ -54,18 +54,19 @@ abbrev pub WaitsWith : State → Request → (List Mark → Meaning Named) → L
 WaitsWith at request whole taken = (more : List Mark) (w : Waiting) → whole more ≡ waits w → does at request (taken ++ more) ≡ waits w
 
 module _ {D A P K : Type 0} (disk : D → DiskState) (ambient : A → AmbientState) (plugin : P → StoreState) (sink : K → SinkState) (source : SourceState)
-    (at : State) (request : Request) (before : Cat) (x : Command) (from new : Seen D A P K) (whole : List Mark → Meaning Named) (taken : List Mark) where
+    (at : State) (request : Request) (before : Cat) (x : Command) (text_of : List Mark → Text) (from new : Seen D A P K)
+    (whole : List Mark → Meaning Named) (taken : List Mark) where
   -- It was run to its end, with these marks more, and the machine counts so from then on.
   pub record RunsOn (m : Frames) (outcome : told.Outcome) (y : Command) (rows : Journal) : Type 0 where
     pub more : List Mark
-    pub amid : IsAmid disk ambient plugin sink source (asked_setting at request before x) from new y rows (taken ++ more)
+    pub amid : IsAmid disk ambient plugin sink source (asked_setting at request before x text_of) from new y rows (taken ++ more)
     pub gives_so : (later : List Mark) → whole (more ++ later)
         ≡ gives (record { state = course m (course_from (place_by rows.cat y) later); outcome = outcome_of outcome })
 
   -- It was cut short behind these marks more, and with others behind them it would have come to an end.
   pub record IsRunShort : Type 0 where
     pub more : List Mark
-    pub cut : IsCutShort disk ambient plugin sink source (asked_setting at request before x) from new (taken ++ more)
+    pub cut : IsCutShort disk ambient plugin sink source (asked_setting at request before x text_of) from new (taken ++ more)
     pub rest : List Mark
     pub ran : AreRan rest
     pub end : Named

@@ -3,6 +3,7 @@ ghost use Rattle.std.specs.Prelude.{◌≡◌, ◌+◌, ◌*◌, ◌^◌, ◌≤
 ghost use Rattle.grid_outside.specs.Source.{SourceState};
 ghost use Rattle.grid_model.specs.Applying.{is_user};
 ghost use Rattle.grid_model.specs.Checks.{first_fault, rules_faults};
+ghost use Rattle.grid_model.specs.Names.{Text as TextOf};
 ghost use Rattle.grid_model.specs.Parsed.{rule_of};
 ghost use Rattle.grid_model.specs.RowGrids.{user_name};
 ghost use Rattle.grid_model.specs.Rows.{Cat};
@@ -57,13 +58,14 @@ pub fn run_point<D: Disk, K: Sink, A: Ambient, P: Plugin>(
     requires kept { AreKeepable command.old [] }
     requires checked { first_fault (rules_faults (map rule_of rules.now.rules)) ≡ None }
     requires ready { AreReady D.disk P.plugin K.sink (left.old * 2 ^ 65) (record { outside = outside.old; sink = sink.old }) }
-    ensures runs { (source : SourceState) (at : State) (request : Request) (before : Cat) (x : Command) (from : Seen D A P K) (taken : List Mark)
-        → IsSetting (asked_setting at request before x)
-        → IsAmid D.disk A.ambient P.plugin K.sink source (asked_setting at request before x) from
+    ensures runs { (source : SourceState) (at : State) (request : Request) (before : Cat) (x : Command) (text_of : List Mark → TextOf)
+        (from : Seen D A P K) (taken : List Mark)
+        → IsSetting (asked_setting at request before x text_of)
+        → IsAmid D.disk A.ambient P.plugin K.sink source (asked_setting at request before x text_of) from
         (record { outside = outside.old; sink = sink.old }) command.old store.old taken
         → WaitsWith at request (point_from (rules_of rules.now) (env_of env.now) name frames.old (place_by store.old.cat command.old)) taken
         → IsAsked at request before x
-        → RunEnds D.disk A.ambient P.plugin K.sink source at request before x from (record { outside = outside.new; sink = sink.new })
+        → RunEnds D.disk A.ambient P.plugin K.sink source at request before x text_of from (record { outside = outside.new; sink = sink.new })
         (point_from (rules_of rules.now) (env_of env.now) name frames.old (place_by store.old.cat command.old)) taken frames.new result command.new store.new }
     ensures held { IfOk result (λ outcome. (kept : Cat) × IsHeld kept (D.disk outside.new.main) store.new) }
     ensures kept { IfOk result (λ outcome. IsTrue (is_user store.new.cat command.new.user) × IsKeepable command.new × AreKeepable command.new []
@@ -106,14 +108,15 @@ pub(crate) fn run_alone<D: Disk, K: Sink, A: Ambient, P: Plugin>(
     requires values { (vs : List Value) × HasValues call vs }
     requires checked { first_fault (rules_faults (map rule_of rules.now.rules)) ≡ None }
     requires ready { AreReady D.disk P.plugin K.sink (2 ^ 78) (record { outside = outside.old; sink = sink.old }) }
-    ensures runs { (source : SourceState) (at : State) (request : Request) (before : Cat) (x : Command) (from : Seen D A P K) (taken : List Mark)
-        (vs : List Value) → IsSetting (asked_setting at request before x)
-        → IsAmid D.disk A.ambient P.plugin K.sink source (asked_setting at request before x) from
+    ensures runs { (source : SourceState) (at : State) (request : Request) (before : Cat) (x : Command) (text_of : List Mark → TextOf)
+        (from : Seen D A P K) (taken : List Mark)
+        (vs : List Value) → IsSetting (asked_setting at request before x text_of)
+        → IsAmid D.disk A.ambient P.plugin K.sink source (asked_setting at request before x text_of) from
         (record { outside = outside.old; sink = sink.old }) command.old store.old taken
         → HasValues call vs
         → WaitsWith at request (alone_from (rules_of rules.now) (env_of env.now) call vs (place_by store.old.cat command.old)) taken
         → IsAsked at request before x
-        → (m : FramesOf) × RunEnds D.disk A.ambient P.plugin K.sink source at request before x from (record { outside = outside.new; sink = sink.new })
+        → (m : FramesOf) × RunEnds D.disk A.ambient P.plugin K.sink source at request before x text_of from (record { outside = outside.new; sink = sink.new })
         (alone_from (rules_of rules.now) (env_of env.now) call vs (place_by store.old.cat command.old)) taken m result command.new store.new }
     ensures held { IfOk result (λ outcome. (kept : Cat) × IsHeld kept (D.disk outside.new.main) store.new) }
     ensures passes { CallsPass D.disk P.plugin K.sink (IsErrOf result Ending.Disk) (IsErrOf result Ending.Sink)

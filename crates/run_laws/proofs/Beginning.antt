@@ -48,7 +48,7 @@ module _ (rows : Cat) (n : ℕ) where
   grid-begun = grid-same rows (run_begun rows n) refl (grid_of rows) refl
 
 -- With what recoveries left, where they lost track of no file, the run is begun.
-pub begun-with : (found : Cat) (u : Undone found) (rows : Cat) → rows.rules ≡ [] → rows.stores ≡ found.stores → grid_of rows ≡ u.opened.grid
+pub begun-with : (found : Cat) (u : Undone found) (rows : Cat) → rows.rules ≡ found.rules → rows.stores ≡ found.stores → grid_of rows ≡ u.opened.grid
     → KeepsNumbers found rows
     → KeepsNamed found rows
     → (¬ HasRecovery found.pending → (slot name : ℕ) (r : ReplicaRow) → Names found slot name (by_replica r) → Names rows slot name (by_replica r))
@@ -56,9 +56,10 @@ pub begun-with : (found : Cat) (u : Undone found) (rows : Cat) → rows.rules �
 begun-with found u rows rules stores grid keeps named replicas =
     let n = found.numbers.run + 1 in
     record {
-      of_run = record { number = refl; rules = rules; none = refl; keeps = keeps-then found rows (run_begun rows n) keeps (keeps_begun rows n); stores = stores };
+      of_run = record { number = refl; none = refl; keeps = keeps-then found rows (run_begun rows n) keeps (keeps_begun rows n); stores = stores };
       last = refl;
       grid = grid-begun rows n ∙ grid;
+      rules = rules ∙ u.rules_are;
       named = λ slot name one. named_begun rows n slot name (named slot name one);
       replicas = λ free slot name r its. names_begun rows n slot name (by_replica r) (replicas free slot name r its);
     }

@@ -1,5 +1,5 @@
 -- A request in its first deed.
-use Rattle.std.proofs.Common.{◌≡◌, ℕ, List, [], refl, sym, ◌∙◌, arith}
+use Rattle.std.proofs.Common.{◌≡◌, ℕ, [], refl, sym, ◌∙◌, arith}
 use Rattle.std.proofs.lemmas.List.{append-nil}
 use Rattle.grid_model.specs.Names.{Text}
 use Rattle.grid_model.specs.Rows.{Cat}
@@ -11,11 +11,11 @@ use Rattle.grid_model.specs.Whole.{Names, Naming, by_replica, by_orphan}
 use Rattle.grid_model.specs.declared.calls.Call.{Call}
 use Rattle.grid_journal.specs.Stands.{StandsFor}
 use Rattle.tables_laws.proofs.Grids.{grid-same}
-use Rattle.run_laws.specs.Steps.{IsLike, IsAmid, WaitsIn, WaitsInDeed, OneOf, in_deed_so, in_deed, with_deed}
+use Rattle.run_laws.specs.Steps.{IsLike, IsAmid, SureTexts, WaitsIn, WaitsInDeed, OneOf, in_deed_so, in_deed, with_deed}
 use Rattle.run_laws.proofs.Images.{reply_has}
 use Rattle.run_laws.proofs.Texts.{HaveBytes, whole-none}
 
-module _ (at : State) (before : Cat) (n : ℕ) (request : Request) (d : Done) (pieces : List Text) (shown main sink : Text) (rows : Cat) (user : ℕ) (line : Text) (call : Call) (like : IsLike before rows) (waits : WaitsIn at request rows user call) (grid : grid_of before ≡ at.grid) where
+module _ (at : State) (before : Cat) (n : ℕ) (request : Request) (d : Done) (texts : SureTexts) (shown main sink : Text) (rows : Cat) (user : ℕ) (line : Text) (call : Call) (like : IsLike before rows) (waits : WaitsIn at request rows user call) (grid : grid_of before ≡ at.grid) where
   abbrev c : Cat
   c = with_deed rows n user line call
 
@@ -54,8 +54,8 @@ module _ (at : State) (before : Cat) (n : ℕ) (request : Request) (d : Done) (p
   }
 
   -- it has told no mark, and nothing is shown of it
-  pub in_first_deed : HaveBytes pieces → StandsFor main c → sink ≡ shown → OneOf at before n request d pieces shown main sink
+  pub in_first_deed : HaveBytes texts.pieces → StandsFor main c → sink ≡ shown → OneOf at before n request d texts shown main sink
   in_first_deed have stands is =
-      let none = whole-none pieces have in
+      let none = whole-none texts.pieces have in
       in_deed_so c (in_deed rows.numbers.run n user line call) amid waits_so stands (record { count = 0; within = omega arith; is = is ∙ sym (append-nil shown) })
-      (record { cut = reply_has n d.reply pieces; few = omega (arith, none) })
+      (record { cut = reply_has n d.reply texts.pieces; few = omega (arith, none) })

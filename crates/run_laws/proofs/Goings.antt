@@ -88,6 +88,7 @@ module _ {B : Type 0} (old mid : World B) (first : Went old mid) where
     pub known-now : (found c : Cat) → (IsSettled old.main → IsSettled mid.main) → StandsFor mid.main.holds c
         → (DisksAreSettled old → WereWhole old old.moments found → AllStayWhole mid old.moments) → (slot : ℕ) → IsKnown old found slot → IsKnown mid c slot
     known-now found c main stands stay slot known = record {
+      main = subst IsTrue (sym first.main.tells) main_tells;
       settled = disks-settled spare_tells main known.settled;
       whole = whole-now c old.moments first.drawn stands (stay known.settled known.whole);
       there = tells-after slot known.there;

@@ -24,13 +24,13 @@ use Rattle.grid_journal.specs.Stands.{StandsFor}
 use Rattle.grid_headline.specs.Draws.{with_marks}
 use Rattle.grid_headline.specs.Served.{joined_texts, marks_of, whole_in}
 use Rattle.grid_headline.specs.Numbers.{KeepsNumbers}
-use Rattle.grid_headline.specs.Reads.{MeansRequest}
+use Rattle.grid_headline.specs.Reads.{HasRules, MeansRequest}
 use Rattle.grid_headline.specs.Stops.{AreFirst}
 use Rattle.run_laws.specs.Handled.{Handled, with_one, replies_of, marks_within, marks_shown, told_within, reached_by, state_behind, IsAmidRun, IsAmidSome, IsOfRun, IsBehindSome, OneOfRun, not_begun, in_run, in_deed_of_run, ShowsMost}
 use Rattle.run_laws.specs.Undone.{Undone, whole_report}
-use Rattle.run_laws.specs.Steps.{IsLike, IsLeftBehind, IsAmid, ComesAfter, kept, unseen, WaitsInDeed, HasLine, IsUntold, TellsFew, OneOf, not_kept, in_deed_so, kept_so}
+use Rattle.run_laws.specs.Steps.{IsLike, IsLeftBehind, IsAmid, ComesAfter, kept, unseen, SureTexts, WaitsInDeed, HasLine, IsUntold, TellsFew, OneOf, not_kept, in_deed_so, kept_so}
 use Rattle.run_laws.proofs.Lists.{get-front, get-last, marks-push, state-more, state-last}
-use Rattle.run_laws.proofs.Texts.{HaveBytes, joined-push, whole-none, whole-behind, whole-more, whole-most, whole-all, whole-less}
+use Rattle.run_laws.proofs.Texts.{HaveBytes, whole-none, whole-behind, whole-more, whole-most, whole-all, whole-less}
 
 pub keeps-then : (a b c : Cat) → KeepsNumbers a b → KeepsNumbers b c → KeepsNumbers a c
 keeps-then a b c first then = record {
@@ -54,7 +54,6 @@ first-none (Some m) (Some ts) n none = ap (λ k. take k m.marks) (none ts refl)
 pub like-of : (found c e : Cat) → IsOfRun found c → IsLike c e → IsOfRun found e
 like-of found c e its like = record {
   number = like.run ∙ its.number;
-  rules = like.rules ∙ its.rules;
   none = like.pending ∙ its.none;
   keeps = keeps-then found c e its.keeps like.keeps;
   stores = like.stores ∙ its.stores;
@@ -63,7 +62,6 @@ like-of found c e its like = record {
 pub amid-of : (found c e : Cat) → IsOfRun found c → IsAmid c e → IsAmidRun found e
 amid-of found c e its amid = record {
   number = amid.run ∙ its.number;
-  rules = amid.rules ∙ its.rules;
   keeps = keeps-then found c e its.keeps amid.keeps;
   stores = amid.stores ∙ its.stores;
 }
@@ -78,24 +76,27 @@ first-kept all some k first few = record {
 pub behind-of : (found c : Cat) (n : ℕ) (d : Done) (e : Cat) → IsOfRun found c → IsLeftBehind c n d e → IsOfRun found e
 behind-of found c n d e its behind = record {
   number = behind.run ∙ its.number;
-  rules = behind.rules ∙ its.rules;
   none = behind.pending ∙ its.none;
   keeps = keeps-then found c e its.keeps behind.keeps;
   stores = behind.stores ∙ its.stores;
 }
 
--- one request more than those that were handled, with this text and these texts of its marks
-pub record IsOneMore (h : Handled) (m : Marked) (d : Done) (ts : List Text) (t : Text) : Type 0 where
+-- one request more than those that were handled, with this text, these texts of its marks, and what is sure of it
+pub record IsOneMore (h : Handled) (m : Marked) (d : Done) (ts : SureTexts) (t : Text) : Type 0 where
   pub texts_are : replies_of (with_one h m d ts) ≡ replies_of h ++ t ∷ []
   pub begun_length : length h.begun ≡ length (replies_of h)
   pub done_length : length h.done ≡ length (replies_of h)
   pub pieces_length : length h.pieces ≡ length (replies_of h)
   pub has_bytes : 0 < length t
-  pub pieces_have : HaveBytes ts
+  pub pieces_have : HaveBytes ts.pieces
   pub rest : Text
-  pub pieces_first : t ≡ joined_texts ts ++ rest
+  pub pieces_first : t ≡ joined_texts ts.pieces ++ rest
+  pub unsure : Text
+  pub sure_first : t ≡ ts.sure ++ unsure
+  -- all before it is sure
+  pub all_sure : h.sure ≡ joined_texts (replies_of h)
 
-module _ (found : Cat) (u : Undone found) (h : Handled) (m : Marked) (d : Done) (ts : List Text) (t : Text) (one : IsOneMore h m d ts t) where
+module _ (found : Cat) (u : Undone found) (h : Handled) (m : Marked) (d : Done) (ts : SureTexts) (t : Text) (one : IsOneMore h m d ts t) where
   abbrev size : ℕ
   size = length (replies_of h)
 
@@ -117,7 +118,7 @@ module _ (found : Cat) (u : Undone found) (h : Handled) (m : Marked) (d : Done) 
     told_less : (n : ℕ) → n < size → told_within more n count ≡ told_within h n count
     told_less n less =
         let b : slice_get more.begun n ≡ slice_get h.begun n = get-front h.begun (m ∷ []) n (omega (arith, less, one.begun_length)) in
-        let p : slice_get more.pieces n ≡ slice_get h.pieces n = get-front h.pieces (ts ∷ []) n (omega (arith, less, one.pieces_length)) in
+        let p : slice_get more.pieces n ≡ slice_get h.pieces n = get-front h.pieces (ts.pieces ∷ []) n (omega (arith, less, one.pieces_length)) in
         let f : take n (replies_of more) ≡ take n (replies_of h) = ap (take n) one.texts_are ∙ take-append-le n (replies_of h) (t ∷ []) (omega (arith, less)) in
         ap (λ (x : Option Marked). marks_within x (slice_get more.pieces n) (count - length (joined_texts (take n (replies_of more))))) b
         ∙ ap (λ (x : Option (List Text)). marks_within (slice_get h.begun n) x (count - length (joined_texts (take n (replies_of more))))) p
@@ -132,21 +133,21 @@ module _ (found : Cat) (u : Undone found) (h : Handled) (m : Marked) (d : Done) 
             let e : size ≡ n = omega (arith, same, most) in
             let f : take n (replies_of more) ≡ replies_of h = ap (take n) one.texts_are ∙ take_at (replies_of h) (t ∷ []) n e in
             let none : count - length (joined_texts (take n (replies_of more))) ≡ 0 = ap (λ (l : List Text). count - length (joined_texts l)) f ∙ omega (arith, within) in
-            let last : slice_get more.pieces n ≡ Some ts = ap (slice_get more.pieces) (sym (one.pieces_length ∙ e)) ∙ get-last h.pieces ts in
+            let last : slice_get more.pieces n ≡ Some ts.pieces = ap (slice_get more.pieces) (sym (one.pieces_length ∙ e)) ∙ get-last h.pieces ts.pieces in
             first-none (slice_get more.begun n) (slice_get more.pieces n) (count - length (joined_texts (take n (replies_of more)))) (λ us is.
-            let same_texts : us ≡ ts = same_Some us ts (sym is ∙ last) in
+            let same_texts : us ≡ ts.pieces = same_Some us ts.pieces (sym is ∙ last) in
             ap (whole_in us) none ∙ whole-none us (subst HaveBytes (sym same_texts) one.pieces_have))
 
     behind-more : (c : Cat) → IsBehindSome found u h c count → IsBehindSome found u more c count
     behind-more c b =
         let r : reached_by found u more c count ≡ reached_by found u h c count = ap (λ k. max k c.numbers.last) same_whole in
         let s : state_behind found u more (reached_by found u more c count) ≡ state_behind found u h (reached_by found u h c count) =
-        ap (state_behind found u more) r ∙ state-more (begins u.opened.grid []) h.done d (reached_by found u h c count) (omega (arith, b.within, one.begun_length, one.done_length)) in
+        ap (state_behind found u more) r ∙ state-more (begins u.opened.grid u.rules) h.done d (reached_by found u h c count) (omega (arith, b.within, one.begun_length, one.done_length)) in
         record {
           of_run = b.of_run;
           within = omega (arith, b.within, r, length-append h.begun (m ∷ []));
           near = omega (arith, b.near, same_whole);
-          no_rules = ap (λ (x : State). x.rules) s ∙ b.no_rules;
+          rules = subst (λ (x : State). HasRules c x.rules) (sym s) b.rules;
           grid = b.grid ∙ ap (λ (x : State). x.grid) (sym s);
           untold = λ less. ap (λ k. told_within more k count) same_whole
               ∙ no_more_told (whole_in (replies_of h) count) (whole-most (replies_of h) count) (b.untold (omega (arith, less, same_whole)));
@@ -158,13 +159,13 @@ module _ (found : Cat) (u : Undone found) (h : Handled) (m : Marked) (d : Done) 
         let w = a.waits_behind in
         let less : n < length h.begun = slice_get_within h.begun n w.next w.is_next in
         let same : state_behind found u h n ≡ state_behind found u more n =
-        sym (state-more (begins u.opened.grid []) h.done d n (omega (arith, less, one.begun_length, one.done_length))) in
+        sym (state-more (begins u.opened.grid u.rules) h.done d n (omega (arith, less, one.begun_length, one.done_length))) in
         let reached : reached_by found u more c count ≡ n = ap (λ k. max k c.numbers.last) same_whole ∙ a.reached in
         record {
           of_run = a.of_run;
           reached = reached;
           near = omega (arith, a.near, same_whole);
-          no_rules = ap (λ (x : State). x.rules) (sym same) ∙ a.no_rules;
+          rules = subst (λ (x : State). HasRules c x.rules) same a.rules;
           waits_behind = record {
             next = w.next;
             is_next = get-front h.begun (m ∷ []) n less ∙ w.is_next;
@@ -179,23 +180,22 @@ module _ (found : Cat) (u : Undone found) (h : Handled) (m : Marked) (d : Done) 
               subst (λ (x : List Mark). AreFirst x p.marks) told_same a.told;
         }
 
-  -- a front of what was to be written is a front of what is now
-  split-more : (part left : Text) → report ++ joined_texts (replies_of h) ≡ part ++ left → report ++ joined_texts (replies_of more) ≡ part ++ (left ++ t)
-  split-more part left split =
-      ap (λ (u : Text). report ++ u) (ap joined_texts one.texts_are ∙ joined-push (replies_of h) t) ∙ sym (append_assoc report (joined_texts (replies_of h)) t)
-      ∙ ap (λ (u : Text). u ++ t) split ∙ append_assoc part left t
+  -- a front of what was sure is a front of what is now
+  split-more : (part left : Text) → report ++ h.sure ≡ part ++ left → report ++ more.sure ≡ part ++ (left ++ ts.sure)
+  split-more part left split = sym (append_assoc report h.sure ts.sure) ∙ ap (λ (u : Text). u ++ ts.sure) split ∙ append_assoc part left ts.sure
 
   -- so many bytes of replies are shown by it
-  within-front : (part left : Text) → report ++ joined_texts (replies_of h) ≡ part ++ left → length part - length report ≤ bytes
-  within-front part left split = omega (arith, ap length split, length-append part left, length-append report (joined_texts (replies_of h)))
+  within-front : (part left : Text) → report ++ h.sure ≡ part ++ left → length part - length report ≤ bytes
+  within-front part left split =
+      omega (arith, ap length split, length-append part left, length-append report h.sure, ap length one.all_sure)
 
   -- what was left of the requests before it is left of it
   pub image-more : (old_sink main sink : Text) → OneOfRun found u h old_sink main sink → OneOfRun found u more old_sink main sink
   image-more old_sink main sink (not_begun c stands adds is) = not_begun c stands adds is
   image-more old_sink main sink (in_run c part left stands is split behind) =
-      in_run c part (left ++ t) stands is (split-more part left split) (behind-more (length part - length report) (within-front part left split) c behind)
+      in_run c part (left ++ ts.sure) stands is (split-more part left split) (behind-more (length part - length report) (within-front part left split) c behind)
   image-more old_sink main sink (in_deed_of_run c p n part left stands is split amid) =
-      in_deed_of_run c p n part (left ++ t) stands is (split-more part left split) (amid-more (length part - length report) (within-front part left split) c p n amid)
+      in_deed_of_run c p n part (left ++ ts.sure) stands is (split-more part left split) (amid-more (length part - length report) (within-front part left split) c p n amid)
 
   -- ---- so many bytes of its own text
 
@@ -211,15 +211,15 @@ module _ (found : Cat) (u : Undone found) (h : Handled) (m : Marked) (d : Done) 
         let one_whole : whole_in (t ∷ []) k ≡ 1 = ap (whole_in (t ∷ [])) (sym all ∙ omega (arith, length-append t [])) ∙ whole-all (t ∷ []) in
         whole_with ∙ omega (arith, one_whole)
 
-    told_next : told_within more size (bytes + k) ≡ take (whole_in ts k) m.marks
+    told_next : told_within more size (bytes + k) ≡ take (whole_in ts.pieces k) m.marks
     told_next =
         let b : slice_get more.begun size ≡ Some m = ap (slice_get more.begun) (sym one.begun_length) ∙ get-last h.begun m in
-        let p : slice_get more.pieces size ≡ Some ts = ap (slice_get more.pieces) (sym one.pieces_length) ∙ get-last h.pieces ts in
+        let p : slice_get more.pieces size ≡ Some ts.pieces = ap (slice_get more.pieces) (sym one.pieces_length) ∙ get-last h.pieces ts.pieces in
         let f : take size (replies_of more) ≡ replies_of h = ap (take size) one.texts_are ∙ take_at (replies_of h) (t ∷ []) size refl in
         let e : bytes + k - length (joined_texts (take size (replies_of more))) ≡ k = ap (λ (l : List Text). bytes + k - length (joined_texts l)) f ∙ omega arith in
         ap (λ (x : Option Marked). marks_within x (slice_get more.pieces size) (bytes + k - length (joined_texts (take size (replies_of more))))) b
         ∙ ap (λ (x : Option (List Text)). marks_within (Some m) x (bytes + k - length (joined_texts (take size (replies_of more))))) p
-        ∙ ap (marks_within (Some m) (Some ts)) e
+        ∙ ap (marks_within (Some m) (Some ts.pieces)) e
 
     told_past : told_within more (suc size) (bytes + k) ≡ []
     told_past =
@@ -228,7 +228,7 @@ module _ (found : Cat) (u : Undone found) (h : Handled) (m : Marked) (d : Done) 
 
   -- ---- the marks that are shown
 
-  marks_cut : (k : ℕ) → k < length t → marks_shown more (bytes + k) ≡ marks_of h.begun ++ take (whole_in ts k) m.marks
+  marks_cut : (k : ℕ) → k < length t → marks_shown more (bytes + k) ≡ marks_of h.begun ++ take (whole_in ts.pieces k) m.marks
   marks_cut k less =
       let whole : whole_in (replies_of more) (bytes + k) ≡ size = whole_cut k less in
       let those : take size more.begun ≡ h.begun = take_at h.begun (m ∷ []) size one.begun_length in
@@ -250,49 +250,50 @@ module _ (found : Cat) (u : Undone found) (h : Handled) (m : Marked) (d : Done) 
 
   -- ---- what is left of it
 
-  module _ (at : State) (at_is : state_behind found u h size ≡ at) (none_at : at.rules ≡ []) (none_next : d.state.rules ≡ []) where
+  module _ (at : State) (at_is : state_behind found u h size ≡ at) where
     at_size : state_behind found u more size ≡ at
-    at_size = state-more (begins u.opened.grid []) h.done d size (omega (arith, one.done_length)) ∙ at_is
+    at_size = state-more (begins u.opened.grid u.rules) h.done d size (omega (arith, one.done_length)) ∙ at_is
 
     at_next : state_behind found u more (suc size) ≡ d.state
-    at_next = ap (λ k. state_behind found u more (suc k)) (sym one.done_length) ∙ state-last (begins u.opened.grid []) h.done d
+    at_next = ap (λ k. state_behind found u more (suc k)) (sym one.done_length) ∙ state-last (begins u.opened.grid u.rules) h.done d
 
     -- a catalogue with so many bytes shown, where that many requests are shown whole, and that many done
     made : (c : Cat) (k w n : ℕ) → IsOfRun found c → whole_in (replies_of more) (bytes + k) ≡ w → max w c.numbers.last ≡ n → n ≤ suc size
         → c.numbers.last ≤ w + 1
-        → (s : State) → state_behind found u more n ≡ s → s.rules ≡ [] → grid_of c ≡ s.grid → (c.numbers.last < w + 1 → told_within more w (bytes + k) ≡ [])
+        → (s : State) → state_behind found u more n ≡ s → HasRules c s.rules → grid_of c ≡ s.grid → (c.numbers.last < w + 1 → told_within more w (bytes + k) ≡ [])
         → IsBehindSome found u more c (bytes + k)
-    made c k w n its whole most within near s state none grid told =
+    made c k w n its whole most within near s state rules grid told =
         let r : reached_by found u more c (bytes + k) ≡ n = ap (λ i. max i c.numbers.last) whole ∙ most in
         let e : s ≡ state_behind found u more (reached_by found u more c (bytes + k)) = sym (ap (state_behind found u more) r ∙ state) in
         record {
           of_run = its;
           within = omega (arith, r, within, length-append h.begun (m ∷ []), one.begun_length);
           near = omega (arith, near, whole);
-          no_rules = ap (λ (x : State). x.rules) (sym e) ∙ none;
+          rules = subst (λ (x : State). HasRules c x.rules) e rules;
           grid = grid ∙ ap (λ (x : State). x.grid) e;
           untold = λ less. ap (λ i. told_within more i (bytes + k)) whole ∙ told (omega (arith, less, whole));
         }
 
-    module _ (c : Cat) (its : IsOfRun found c) (last : c.numbers.last ≤ size) (grid : grid_of c ≡ at.grid) (marks_are : d.reply.marks ≡ m.marks)
+    module _ (c : Cat) (its : IsOfRun found c) (last : c.numbers.last ≤ size) (grid : grid_of c ≡ at.grid) (rules : HasRules c at.rules)
+        (marks_are : d.reply.marks ≡ m.marks)
         (n : ℕ) (n_is : n ≡ size + 1) where
       -- nothing is seen to be changed, and no mark is told
-      not_changed : (e : Cat) (k : ℕ) → IsLike c e → k < length t → whole_in ts k ≡ 0 → IsBehindSome found u more e (bytes + k)
+      not_changed : (e : Cat) (k : ℕ) → IsLike c e → k < length t → whole_in ts.pieces k ≡ 0 → IsBehindSome found u more e (bytes + k)
       not_changed e k like less none =
-          made e k size size (like-of found c e its like) (whole_cut k less) (omega (arith, last, like.last)) (omega arith) (omega (arith, last, like.last)) at at_size none_at
-          (like.grid ∙ grid) (λ l. told_next k ∙ ap (λ i. take i m.marks) none)
+          made e k size size (like-of found c e its like) (whole_cut k less) (omega (arith, last, like.last)) (omega arith) (omega (arith, last, like.last)) at at_size
+          (like.rules ∙ rules) (like.grid ∙ grid) (λ l. told_next k ∙ ap (λ i. take i m.marks) none)
 
       -- it is pending, and no more marks are told than are kept
       waiting : (e : Cat) (p : Pending) (k : ℕ) (request : Request) → MeansRequest at m.asked request → IsAmid c e → p.line ≡ m.asked.line
-          → WaitsInDeed at n request d.reply.marks e p → TellsFew ts (length t) (length p.marks) k → IsAmidSome found u more e p size (bytes + k)
+          → WaitsInDeed at n request d.reply.marks e p → TellsFew ts.pieces (length t) (length p.marks) k → IsAmidSome found u more e p size (bytes + k)
       waiting e p k request means amid line waits tells =
           let whole : whole_in (replies_of more) (bytes + k) ≡ size = whole_cut k tells.cut in
-          let first : AreFirst (take (whole_in ts k) m.marks) p.marks = first-kept m.marks p.marks (whole_in ts k) (subst (λ (x : List Mark). AreFirst p.marks x) marks_are waits.kept) tells.few in
+          let first : AreFirst (take (whole_in ts.pieces k) m.marks) p.marks = first-kept m.marks p.marks (whole_in ts.pieces k) (subst (λ (x : List Mark). AreFirst p.marks x) marks_are waits.kept) tells.few in
           record {
             of_run = amid-of found c e its amid;
             reached = ap (λ j. max j e.numbers.last) whole ∙ omega (arith, last, amid.last);
             near = omega (arith, whole, last, amid.last);
-            no_rules = ap (λ (x : State). x.rules) at_size ∙ none_at;
+            rules = subst (λ (x : State). HasRules e x.rules) (sym at_size) (amid.rules ∙ rules);
             waits_behind = record {
               next = m;
               is_next = ap (slice_get more.begun) (sym one.begun_length) ∙ get-last h.begun m;
@@ -308,67 +309,70 @@ module _ (found : Cat) (u : Undone found) (h : Handled) (m : Marked) (d : Done) 
       -- it was kept
       changed : (e : Cat) (k : ℕ) → IsLeftBehind c n d e → (k < length t) ⊎ (length t ≡ k) → IsBehindSome found u more e (bytes + k)
       changed e k behind (inl less) =
-          made e k size (suc size) (behind-of found c n d e its behind) (whole_cut k less) (omega (arith, behind.last, n_is)) (omega arith) (omega (arith, behind.last, n_is)) d.state at_next none_next
-          behind.grid (λ l. absurd (omega (arith, l, behind.last, n_is)))
+          made e k size (suc size) (behind-of found c n d e its behind) (whole_cut k less) (omega (arith, behind.last, n_is)) (omega arith) (omega (arith, behind.last, n_is)) d.state at_next
+          behind.rules behind.grid (λ l. absurd (omega (arith, l, behind.last, n_is)))
       changed e k behind (inr all) =
-          made e k (suc size) (suc size) (behind-of found c n d e its behind) (whole_full k all) (omega (arith, behind.last, n_is)) (omega arith) (omega (arith, behind.last, n_is)) d.state at_next none_next
-          behind.grid (λ l. told_past k)
+          made e k (suc size) (suc size) (behind-of found c n d e its behind) (whole_full k all) (omega (arith, behind.last, n_is)) (omega arith) (omega (arith, behind.last, n_is)) d.state at_next
+          behind.rules behind.grid (λ l. told_past k)
 
       -- there was nothing to keep
-      no_change : (e : Cat) (k : ℕ) → IsLike c e → m.marks ≡ [] → d.state.grid ≡ grid_of c → (k < length t) ⊎ (length t ≡ k) → IsBehindSome found u more e (bytes + k)
-      no_change e k like no_marks same (inl less) =
-          made e k size size (like-of found c e its like) (whole_cut k less) (omega (arith, last, like.last)) (omega arith) (omega (arith, last, like.last)) at at_size none_at
-          (like.grid ∙ grid) (λ l. told_next k ∙ ap (take (whole_in ts k)) no_marks ∙ take_nil (whole_in ts k))
-      no_change e k like no_marks same (inr all) =
-          made e k (suc size) (suc size) (like-of found c e its like) (whole_full k all) (omega (arith, last, like.last)) (omega arith) (omega (arith, last, like.last)) d.state at_next none_next
-          (like.grid ∙ sym same) (λ l. told_past k)
+      no_change : (e : Cat) (k : ℕ) → IsLike c e → m.marks ≡ [] → d.state.grid ≡ grid_of c → HasRules c d.state.rules → (k < length t) ⊎ (length t ≡ k) → IsBehindSome found u more e (bytes + k)
+      no_change e k like no_marks same its_rules (inl less) =
+          made e k size size (like-of found c e its like) (whole_cut k less) (omega (arith, last, like.last)) (omega arith) (omega (arith, last, like.last)) at at_size
+          (like.rules ∙ rules) (like.grid ∙ grid) (λ l. told_next k ∙ ap (take (whole_in ts.pieces k)) no_marks ∙ take_nil (whole_in ts.pieces k))
+      no_change e k like no_marks same its_rules (inr all) =
+          made e k (suc size) (suc size) (like-of found c e its like) (whole_full k all) (omega (arith, last, like.last)) (omega arith) (omega (arith, last, like.last)) d.state at_next
+          (like.rules ∙ its_rules) (like.grid ∙ sym same) (λ l. told_past k)
 
       follows : (e : Cat) (k : ℕ) → ComesAfter c n d e → (k < length t) ⊎ (length t ≡ k) → IsBehindSome found u more e (bytes + k)
       follows e k (kept behind) most = changed e k behind most
-      follows e k (unseen like no_marks grid_same) most = no_change e k like (sym marks_are ∙ no_marks) grid_same most
+      follows e k (unseen like no_marks grid_same its_rules) most = no_change e k like (sym marks_are ∙ no_marks) grid_same its_rules most
 
   -- ---- a part of its text is shown
 
-  module _ (old_sink shown sink : Text) (shown_is : shown ≡ (old_sink ++ report) ++ joined_texts (replies_of h)) (adds : AddsPart t shown sink) where
+  module _ (old_sink shown sink : Text) (shown_is : shown ≡ (old_sink ++ report) ++ joined_texts (replies_of h)) (adds : AddsPart ts.sure shown sink) where
     -- of the replies
     abbrev of_replies : Text
-    of_replies = joined_texts (replies_of h) ++ take adds.count t
+    of_replies = joined_texts (replies_of h) ++ take adds.count ts.sure
 
     abbrev part : Text
     part = report ++ of_replies
 
     behind_report : length part - length report ≡ bytes + adds.count
     behind_report =
-        let own = length-append (joined_texts (replies_of h)) (take adds.count t) ∙ ap (λ k. bytes + k) (length-take-le adds.count t adds.within) in
+        let own = length-append (joined_texts (replies_of h)) (take adds.count ts.sure) ∙ ap (λ k. bytes + k) (length-take-le adds.count ts.sure adds.within) in
         omega (arith, own, length-append report of_replies)
 
     sink_is : sink ≡ old_sink ++ part
-    sink_is = adds.is ∙ ap (λ (u : Text). u ++ take adds.count t) shown_is ∙ append_assoc (old_sink ++ report) (joined_texts (replies_of h)) (take adds.count t)
+    sink_is = adds.is ∙ ap (λ (u : Text). u ++ take adds.count ts.sure) shown_is ∙ append_assoc (old_sink ++ report) (joined_texts (replies_of h)) (take adds.count ts.sure)
         ∙ append_assoc old_sink report of_replies
 
-    split_replies : joined_texts (replies_of more) ≡ of_replies ++ drop adds.count t
-    split_replies = ap joined_texts one.texts_are ∙ joined-push (replies_of h) t ∙ ap (λ (u : Text). joined_texts (replies_of h) ++ u) (sym (take-append-drop adds.count t))
-        ∙ sym (append_assoc (joined_texts (replies_of h)) (take adds.count t) (drop adds.count t))
+    split_replies : more.sure ≡ of_replies ++ drop adds.count ts.sure
+    split_replies = ap (λ (u : Text). u ++ ts.sure) one.all_sure ∙ ap (λ (u : Text). joined_texts (replies_of h) ++ u) (sym (take-append-drop adds.count ts.sure))
+        ∙ sym (append_assoc (joined_texts (replies_of h)) (take adds.count ts.sure) (drop adds.count ts.sure))
 
-    split : report ++ joined_texts (replies_of more) ≡ part ++ drop adds.count t
-    split = ap (λ (u : Text). report ++ u) split_replies ∙ sym (append_assoc report of_replies (drop adds.count t))
+    split : report ++ more.sure ≡ part ++ drop adds.count ts.sure
+    split = ap (λ (u : Text). report ++ u) split_replies ∙ sym (append_assoc report of_replies (drop adds.count ts.sure))
 
     cut_or_full : (adds.count < length t) ⊎ (length t ≡ adds.count)
-    cut_or_full = elim (cases_lt adds.count (length t)) [ inl less ↦ inl less | inr all ↦ inr (omega (arith, all, adds.within)) ]
+    cut_or_full = elim (cases_lt adds.count (length t)) [
+      | inl less ↦ inl less
+      | inr all ↦ inr (omega (arith, all, adds.within, ap length one.sure_first, length-append ts.sure one.unsure))
+    ]
 
     image_by : (main : Text) (c : Cat) → StandsFor main c → IsBehindSome found u more c (bytes + adds.count) → OneOfRun found u more old_sink main sink
-    image_by main c stands behind = in_run c part (drop adds.count t) stands sink_is split (subst (IsBehindSome found u more c) (sym behind_report) behind)
+    image_by main c stands behind = in_run c part (drop adds.count ts.sure) stands sink_is split (subst (IsBehindSome found u more c) (sym behind_report) behind)
 
     -- it is pending
     image_waiting : (main : Text) (c : Cat) (p : Pending) → StandsFor main c → IsAmidSome found u more c p size (bytes + adds.count)
         → OneOfRun found u more old_sink main sink
     image_waiting main c p stands amid =
-        in_deed_of_run c p size part (drop adds.count t) stands sink_is split (subst (IsAmidSome found u more c p size) (sym behind_report) amid)
+        in_deed_of_run c p size part (drop adds.count ts.sure) stands sink_is split (subst (IsAmidSome found u more c p size) (sym behind_report) amid)
 
     pub shows-one : ShowsMost report more old_sink sink
     shows-one = record {
       part = part;
-      more = drop adds.count t;
+      more = drop adds.count ts.sure;
       is = sink_is;
       split = split;
       report_first = λ some. omega (arith, length-append report of_replies);
@@ -378,7 +382,7 @@ module _ (found : Cat) (u : Undone found) (h : Handled) (m : Marked) (d : Done) 
     }
 
     -- the marks that are shown are the first of those that were come to
-    pub shown-taken : (taken : List Mark) → AreFirst taken m.marks → length ts ≡ length m.marks → whole_in ts adds.count ≤ length taken
+    pub shown-taken : (taken : List Mark) → AreFirst taken m.marks → (length t ≤ length ts.sure → length ts.pieces ≡ length m.marks) → whole_in ts.pieces adds.count ≤ length taken
         → AreFirst (marks_shown more (length shows-one.part - length report)) (marks_of h.begun ++ taken)
     unfolding shows-one
     shown-taken taken first many few =
@@ -386,7 +390,7 @@ module _ (found : Cat) (u : Undone found) (h : Handled) (m : Marked) (d : Done) 
       where
         by : (adds.count < length t) ⊎ (length t ≡ adds.count) → AreFirst (marks_shown more (bytes + adds.count)) (marks_of h.begun ++ taken)
         by (inl less) =
-            let j = whole_in ts adds.count in
+            let j = whole_in ts.pieces adds.count in
             let own : take j m.marks ≡ take j taken = ap (take j) first.are ∙ take-append-le j taken first.rest few in
             record {
               rest = drop j taken;
@@ -394,24 +398,24 @@ module _ (found : Cat) (u : Undone found) (h : Handled) (m : Marked) (d : Done) 
                   ∙ ap (λ (x : List Mark). x ++ drop j taken) (sym (marks_cut adds.count less ∙ ap (λ (x : List Mark). marks_of h.begun ++ x) own));
             }
         by (inr all) =
-            let none : first.rest ≡ [] = nil_from_length first.rest (omega (arith, all_whole, few, many, ap length first.are, length-append taken first.rest)) in
+            let none : first.rest ≡ [] = nil_from_length first.rest (omega (arith, all_whole, few, many (omega (arith, all, adds.within)), ap length first.are, length-append taken first.rest)) in
             let same : m.marks ≡ taken = first.are ∙ ap (λ (x : List Mark). taken ++ x) none ∙ append-nil taken in
             record {
               rest = [];
               are = ap (λ (x : List Mark). marks_of h.begun ++ x) (sym same) ∙ sym (marks_full adds.count all) ∙ sym (append-nil (marks_shown more (bytes + adds.count)));
             }
           where
-            all_whole : whole_in ts adds.count ≡ length ts
+            all_whole : whole_in ts.pieces adds.count ≡ length ts.pieces
             all_whole =
-                let e : adds.count ≡ length (joined_texts ts) + length one.rest = sym all ∙ ap length one.pieces_first ∙ length-append (joined_texts ts) one.rest in
-                ap (whole_in ts) e ∙ ap (λ (x : List Text). whole_in x (length (joined_texts ts) + length one.rest)) (sym (append-nil ts)) ∙ whole-behind ts [] (length one.rest)
+                let e : adds.count ≡ length (joined_texts ts.pieces) + length one.rest = sym all ∙ ap length one.pieces_first ∙ length-append (joined_texts ts.pieces) one.rest in
+                ap (whole_in ts.pieces) e ∙ ap (λ (x : List Text). whole_in x (length (joined_texts ts.pieces) + length one.rest)) (sym (append-nil ts.pieces)) ∙ whole-behind ts.pieces [] (length one.rest)
                 ∙ omega arith
 
 -- all that was handled is shown
-pub shows-all : (report : Text) (h : Handled) (old_sink sink : Text) → length h.begun ≡ length (replies_of h)
+pub shows-all : (report : Text) (h : Handled) (old_sink sink : Text) → length h.begun ≡ length (replies_of h) → h.sure ≡ joined_texts (replies_of h)
     → sink ≡ (old_sink ++ report) ++ joined_texts (replies_of h)
     → ShowsMost report h old_sink sink
-shows-all report h old_sink sink e is =
+shows-all report h old_sink sink e sure is =
     let replies = joined_texts (replies_of h) in
     let behind : length (report ++ replies) - length report ≡ length replies = omega (arith, length-append report replies) in
     let whole : whole_in (replies_of h) (length (report ++ replies) - length report) ≡ length (replies_of h) = ap (whole_in (replies_of h)) behind ∙ whole-all (replies_of h) in
@@ -419,16 +423,17 @@ shows-all report h old_sink sink e is =
       part = report ++ replies;
       more = [];
       is = is ∙ append_assoc old_sink report replies;
-      split = sym (append-nil (report ++ replies));
+      split = ap (λ (t : Text). report ++ t) sure ∙ sym (append-nil (report ++ replies));
       report_first = λ some. omega (arith, length-append report replies);
       all_but_one = omega (arith, e, whole);
     }
 
 -- with the report
 pub shows-whole : (report : Text) (h : Handled) (old_sink sink : Text) (e : length h.begun ≡ length (replies_of h))
-    → (is : sink ≡ (old_sink ++ report) ++ joined_texts (replies_of h)) → length report ≤ length (shows-all report h old_sink sink e is).part
+    → (sure : h.sure ≡ joined_texts (replies_of h)) → (is : sink ≡ (old_sink ++ report) ++ joined_texts (replies_of h))
+    → length report ≤ length (shows-all report h old_sink sink e sure is).part
 unfolding shows-all
-shows-whole report h old_sink sink e is = omega (arith, length-append report (joined_texts (replies_of h)))
+shows-whole report h old_sink sink e sure is = omega (arith, length-append report (joined_texts (replies_of h)))
 
 -- ---- one request
 
@@ -438,24 +443,29 @@ untold_cut (u ∷ ts) t rest k some e untold =
     (omega (arith, untold, ap length e, length-append (u ++ joined_texts ts) rest, length-append u (joined_texts ts)), whole-less u ts k untold)
 
 -- while a request is handled a stop leaves that nothing is seen of it, that it is pending, or that it is kept
-pub image-one : (found : Cat) (u : Undone found) (c : Cat) (h : Handled) (m : Marked) (d : Done) (ts : List Text) (n : ℕ) → IsOneMore h m d ts (reply_text n d.reply ts) → (at : State) (request : Request)
-    → MeansRequest at m.asked request → state_behind found u h (length (replies_of h)) ≡ at → at.rules ≡ [] → d.state.rules ≡ [] → IsOfRun found c → c.numbers.last ≤ length (replies_of h)
-    → grid_of c ≡ at.grid
+pub image-one : (found : Cat) (u : Undone found) (c : Cat) (h : Handled) (m : Marked) (d : Done) (ts : SureTexts) (n : ℕ)
+    → IsOneMore h m d ts (reply_text n d.reply ts.pieces) → (at : State) (request : Request)
+    → MeansRequest at m.asked request → state_behind found u h (length (replies_of h)) ≡ at → HasRules c at.rules → IsOfRun found c
+    → c.numbers.last ≤ length (replies_of h) → grid_of c ≡ at.grid
     → d.reply.marks ≡ m.marks → n ≡ length (replies_of h) + 1 → (old_sink shown main sink : Text)
     → shown ≡ (old_sink ++ whole_report found u) ++ joined_texts (replies_of h)
-    → ((e : Cat) → StandsFor main e → HasLine m.asked.line e.pending) → OneOf at c n request d ts shown main sink → OneOfRun found u (with_one h m d ts) old_sink main sink
-image-one found u c h m d ts n one at request means at_is none_at none_next its last grid marks_are n_is old_sink shown main sink shown_is noted (not_kept e like stands adds untold) =
-    let cut = untold_cut ts (reply_text n d.reply ts) one.rest adds.count one.has_bytes one.pieces_first untold in
-    image_by found u h m d ts (reply_text n d.reply ts) one old_sink shown sink shown_is adds main e stands
-    (not_changed found u h m d ts (reply_text n d.reply ts) one at at_is none_at none_next c its last grid marks_are n n_is e adds.count like cut.0 cut.1)
-image-one found u c h m d ts n one at request means at_is none_at none_next its last grid marks_are n_is old_sink shown main sink shown_is noted (in_deed_so e p amid waits stands adds tells) =
-    image_waiting found u h m d ts (reply_text n d.reply ts) one old_sink shown sink shown_is adds main e p stands
-    (waiting found u h m d ts (reply_text n d.reply ts) one at at_is none_at none_next c its last grid marks_are n n_is e p adds.count request means amid
+    → ((e : Cat) → StandsFor main e → HasLine m.asked.line e.pending) → OneOf at c n request d ts shown main sink
+    → OneOfRun found u (with_one h m d ts) old_sink main sink
+image-one found u c h m d ts n one at request means at_is rules its last grid marks_are n_is old_sink shown main sink shown_is noted
+    (not_kept e like stands adds untold) =
+    let cut = untold_cut ts.pieces (reply_text n d.reply ts.pieces) one.rest adds.count one.has_bytes one.pieces_first untold in
+    image_by found u h m d ts (reply_text n d.reply ts.pieces) one old_sink shown sink shown_is adds main e stands
+    (not_changed found u h m d ts (reply_text n d.reply ts.pieces) one at at_is c its last grid rules marks_are n n_is e adds.count like cut.0 cut.1)
+image-one found u c h m d ts n one at request means at_is rules its last grid marks_are n_is old_sink shown main sink shown_is noted
+    (in_deed_so e p amid waits stands adds tells) =
+    image_waiting found u h m d ts (reply_text n d.reply ts.pieces) one old_sink shown sink shown_is adds main e p stands
+    (waiting found u h m d ts (reply_text n d.reply ts.pieces) one at at_is c its last grid rules marks_are n n_is e p adds.count request means amid
     (subst (HasLine m.asked.line) waits.is (noted e stands)) waits tells)
-image-one found u c h m d ts n one at request means at_is none_at none_next its last grid marks_are n_is old_sink shown main sink shown_is noted (kept_so e after stands adds) =
-    image_by found u h m d ts (reply_text n d.reply ts) one old_sink shown sink shown_is adds main e stands
-    (follows found u h m d ts (reply_text n d.reply ts) one at at_is none_at none_next c its last grid marks_are n n_is e adds.count after
-    (cut_or_full found u h m d ts (reply_text n d.reply ts) one old_sink shown sink shown_is adds))
+image-one found u c h m d ts n one at request means at_is rules its last grid marks_are n_is old_sink shown main sink shown_is noted
+    (kept_so e after stands adds) =
+    image_by found u h m d ts (reply_text n d.reply ts.pieces) one old_sink shown sink shown_is adds main e stands
+    (follows found u h m d ts (reply_text n d.reply ts.pieces) one at at_is c its last grid rules marks_are n n_is e adds.count after
+    (cut_or_full found u h m d ts (reply_text n d.reply ts.pieces) one old_sink shown sink shown_is adds))
 
 -- ---- texts have bytes
 
@@ -479,7 +489,7 @@ pieces-have known n place sent (mark ∷ marks) (t ∷ ts) are = (piece_has know
 pieces-have known n place sent [] (t ∷ ts) are = absurd are
 pieces-have known n place sent (mark ∷ marks) [] are = absurd are
 
-rest_has : (n : ℕ) (r : Reply) → 0 < length (rest_lines n r)
+pub rest_has : (n : ℕ) (r : Reply) → 0 < length (rest_lines n r)
 rest_has n r =
     let a = data_lines n r.shown in
     let b = flat_map (passed_line n) r.passed in

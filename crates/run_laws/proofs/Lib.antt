@@ -7,6 +7,7 @@ pub mod BuiltOrders
 pub mod Draws
 pub mod Recoveries
 pub mod Images
+pub mod Sureness
 pub mod Beginning
 pub mod FirstDeeds
 pub mod Orphans

@@ -128,12 +128,12 @@ pieces-push known n k (f ∷ ds) (us ∷ tss) d ts e all are = (all.0, pieces-pu
 pieces-push known n k [] (ts ∷ tss) d us e all are = absurd all
 pieces-push known n k (f ∷ ds) [] d us e all are = absurd all
 
-pub replies-length : (known : ℕ → Type 0) (n : ℕ) (ds : List Done) (tss : List (List Text)) → AllPieces known n ds tss
-    → length (reply_texts n ds tss) ≡ length ds
-replies-length known n [] [] all = refl
-replies-length known n (d ∷ ds) (ts ∷ tss) all = ap suc (replies-length known (n + 1) ds tss all.1)
-replies-length known n [] (ts ∷ tss) all = absurd all
-replies-length known n (d ∷ ds) [] all = absurd all
+-- there are as many replies as there are texts of them
+pub many-replies : (n : ℕ) (ds : List Done) (tss : List (List Text)) → length tss ≡ length ds → length (reply_texts n ds tss) ≡ length ds
+many-replies n [] [] same = refl
+many-replies n (d ∷ ds) (ts ∷ tss) same = ap suc (many-replies (n + 1) ds tss (omega (arith, same)))
+many-replies n [] (ts ∷ tss) same = absurd (omega (arith, same))
+many-replies n (d ∷ ds) [] same = absurd (omega (arith, same))
 
 pub replies-push : (known : ℕ → Type 0) (n k : ℕ) (ds : List Done) (tss : List (List Text)) (d : Done) (ts : List Text) → k ≡ n + length ds
     → AllPieces known n ds tss

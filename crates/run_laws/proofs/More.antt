@@ -8,15 +8,15 @@ use Rattle.grid_model.specs.Rows.{Cat}
 use Rattle.grid_model.specs.RowGrids.{grid_of}
 use Rattle.grid_model.specs.Inputs.{Asked}
 use Rattle.grid_model.specs.Sessions.{State}
-use Rattle.grid_model.specs.Runs.{Request, Marked, does}
+use Rattle.grid_model.specs.Runs.{Request, Marked}
 use Rattle.grid_model.specs.Beginning.{begins}
 use Rattle.grid_model.specs.ReplyTexts.{reply_text}
 use Rattle.grid_model.specs.declared.marks.Mark.{Mark}
 use Rattle.grid_model.specs.Replies.{rest_lines}
 use Rattle.grid_journal.specs.Stands.{StandsFor}
 use Rattle.grid_headline.specs.Worlds.{World}
-use Rattle.grid_headline.specs.Reads.{MeansRequest, EndsInput}
-use Rattle.grid_headline.specs.Served.{NoneSweeps, joined_texts, marks_of}
+use Rattle.grid_headline.specs.Reads.{HasRules, MeansRequest, EndsInput}
+use Rattle.grid_headline.specs.Served.{AllPieces, AreSure, IsSure, NoneSweeps, but_last, joined_texts, marks_of}
 use Rattle.grid_headline.specs.Files.{IsKnown, AreSettled, DisksAreSettled, KeepsReplicas, WereWhole, AllStayWhole, ReplicasStayNamed}
 use Rattle.grid_headline.specs.Causes.{AreCaused}
 use Rattle.grid_headline.specs.Ends.{AllStill, HasOneMore, HasFewOrphans, HasRecovery, EndsSwept}
@@ -31,15 +31,16 @@ use Rattle.run_laws.specs.Sofar.{Ran, Sofar, KeepsWhole, KeepsNames}
 use Rattle.run_laws.specs.Undone.{Undone, whole_report}
 use Rattle.run_laws.specs.Went.{Went, AreInOrder}
 use Rattle.run_laws.proofs.Texts.{joined-push}
-use Rattle.run_laws.proofs.Lists.{all-append, all-map, marks-push, asked-push, asked-length, after-length, after-push, by_rows-push, state-all, pieces-length, pieces-many, pieces-push, replies-length, replies-push, still-split}
+use Rattle.run_laws.proofs.Lists.{all-append, all-map, marks-push, asked-push, asked-length, after-length, after-push, by_rows-push, state-all, many-replies, pieces-push, replies-push, still-split}
 use Rattle.run_laws.proofs.Known.{pieces-less, told-less}
 use Rattle.run_laws.proofs.Goings.{disks-settled, whole-now, known-now, went-then, whole-then}
 use Rattle.run_laws.proofs.Causes.{caused-then}
 use Rattle.run_laws.proofs.Draws.{gave-then}
-use Rattle.run_laws.proofs.BuiltOrders.{built, does-rules, calls_no_rules, removes_nothing}
+use Rattle.run_laws.proofs.BuiltOrders.{is_no_call, removes_nothing}
 use Rattle.run_laws.proofs.Recoveries.{told-behind}
-use Rattle.run_laws.proofs.Images.{IsOneMore, behind-of, like-of, image-more, image-one, shows-one, shown-taken, pieces-have, reply_has}
-use Rattle.run_laws.proofs.Orphans.{LastOne, swept_last, quit_last, few-before, few-behind, few-swept, last-one, quits-leave, quits-call, quits-remove}
+use Rattle.run_laws.proofs.Images.{IsOneMore, behind-of, like-of, image-more, image-one, shows-one, shown-taken, reply_has}
+use Rattle.run_laws.proofs.Sureness.{sure-front, sure-have, sure-less, sure-many, sure-pieces, sure-whole}
+use Rattle.run_laws.proofs.Orphans.{LastOne, swept_last, quit_last, few-before, few-behind, few-swept, last-one, quit-leaves}
 
 -- ---- what was handled so far
 
@@ -51,8 +52,11 @@ module _ {B : Type 0} (old now : World B) (found : Cat) (at : State) (asked : Li
   pub done-many : length ran.handled.done ≡ length asked
   done-many = after-length ran.after ∙ begun-many
 
+  pub texts-many : length ran.handled.pieces ≡ length ran.handled.done
+  texts-many = sure-pieces (IsKnown old found) ran.handled.done ran.handled.pieces ran.handled.sure ran.are_sure
+
   pub replies-many : length (replies_of ran.handled) ≡ length asked
-  replies-many = replies-length (IsKnown old found) 1 ran.handled.done ran.handled.pieces ran.pieces_are ∙ done-many
+  replies-many = many-replies 1 ran.handled.done ran.handled.pieces texts-many ∙ done-many
 
   -- the state is that behind all of them
   pub state-now : state_behind found ran.undone ran.handled (length (replies_of ran.handled)) ≡ at
@@ -106,31 +110,35 @@ module _ {B : Type 0} (old mid new : World B) (found c : Cat) (at : State) (aske
   m = record { asked = a; marks = step.marks }
 
   abbrev more : Handled
-  more = with_one h m step.d step.pieces
+  more = with_one h m step.d step.texts
+
+  -- its text, by the texts of its marks
+  abbrev its_text : Text
+  its_text = reply_text (length asked + 1) step.d.reply step.texts.pieces
 
   abbrev known : ℕ → Type 0
   known = IsKnown old found
 
-  texts_are : replies_of more ≡ replies_of h ++ reply_text (length asked + 1) step.d.reply step.pieces ∷ []
-  texts_are = replies-push known 1 (length asked + 1) h.done h.pieces step.d step.pieces (omega (arith, done-many old mid found at asked so.ran)) so.ran.pieces_are
+  texts_are : replies_of more ≡ replies_of h ++ its_text ∷ []
+  texts_are = replies-push known 1 (length asked + 1) h.done h.pieces step.d step.texts.pieces (omega (arith, done-many old mid found at asked so.ran)) so.pieces_are
 
-  pub one-more : IsOneMore h m step.d step.pieces (reply_text (length asked + 1) step.d.reply step.pieces)
+  pub one-more : IsOneMore h m step.d step.texts its_text
   one-more =
       let replies = replies-many old mid found at asked so.ran in
+      let front = sure-front (IsKnown mid c) (length asked + 1) step.d step.texts.pieces step.texts.sure step.are_sure in
       record {
         texts_are = texts_are;
         begun_length = begun-many old mid found at asked so.ran ∙ sym replies;
         done_length = done-many old mid found at asked so.ran ∙ sym replies;
-        pieces_length = pieces-length known 1 h.done h.pieces so.ran.pieces_are ∙ done-many old mid found at asked so.ran ∙ sym replies;
-        has_bytes = reply_has (length asked + 1) step.d.reply step.pieces;
-        pieces_have = pieces-have (IsKnown mid c) (length asked + 1) 0 step.d.sent step.d.reply.marks step.pieces step.pieces_are;
+        pieces_length = texts-many old mid found at asked so.ran ∙ done-many old mid found at asked so.ran ∙ sym replies;
+        has_bytes = reply_has (length asked + 1) step.d.reply step.texts.pieces;
+        pieces_have = sure-have (IsKnown mid c) (length asked + 1) step.d step.texts.pieces step.texts.sure step.are_sure;
         rest = rest_lines (length asked + 1) step.d.reply;
         pieces_first = refl;
+        unsure = front.0;
+        sure_first = front.1;
+        all_sure = so.all_sure;
       }
-
-  -- it keeps the rules: none
-  pub no-rules : step.d.state.rules ≡ []
-  no-rules = does-rules at request step.marks (built means) so.no_rules step.d step.does_so ∙ so.no_rules
 
   -- the marks of recoveries, of the requests before it, and its own
   pub marks_more : u.report ++ marks_of more.begun ≡ (u.report ++ marks_of h.begun) ++ step.marks
@@ -159,20 +167,21 @@ module _ {B : Type 0} (old mid new : World B) (found c : Cat) (at : State) (aske
 
         by : (mid.moments < t) ⊎ (t ≤ mid.moments) → OneOfRun found u more old.sink.holds main sink
         by (inl later) =
-            image-one found u c h m step.d step.pieces (length asked + 1) one-more at request means (state-now old mid found at asked so.ran) so.no_rules no-rules so.of_run
+            image-one found u c h m step.d step.texts (length asked + 1) one-more at request means (state-now old mid found at asked so.ran) so.rules so.of_run
             (omega (arith, so.last, replies-many old mid found at asked so.ran)) so.grid step.marks_are (omega (arith, replies-many old mid found at asked so.ran))
             old.sink.holds mid.sink.holds main sink (so.text tells) (λ e stands. noted mid_tells (so.main_settled settled.disks.of_main) t main e later main_left stands)
             (step.images mid_tells sink-mid (so.main_settled settled.disks.of_main) (so.sink_settled tells settled.of_sink) t main sink later main_left sink_left)
         by (inr early) =
-            image-more found u h m step.d step.pieces (reply_text (length asked + 1) step.d.reply step.pieces) one-more old.sink.holds main sink
+            image-more found u h m step.d step.texts its_text one-more old.sink.holds main sink
             (so.ran.images tells settled t main sink late (then.main.earlier t main early main_left) (then.sink.earlier t sink early sink_left))
 
-  -- each of its marks has a text
-  pub many_pieces : length step.pieces ≡ length m.marks
-  many_pieces = pieces-many (IsKnown mid c) (length asked + 1) 0 step.d.sent step.d.reply.marks step.pieces step.pieces_are ∙ ap length step.marks_are
+  -- where all of its text is sure, each of its marks has a text
+  pub many_pieces : length its_text ≤ length step.texts.sure → length step.texts.pieces ≡ length m.marks
+  many_pieces reaches =
+      sure-many (IsKnown mid c) (length asked + 1) step.d step.texts.pieces step.texts.sure step.are_sure reaches ∙ ap length step.marks_are
 
   abbrev shown-part : IsTrue old.sink.tells → ShowsMost (whole_report found u) more old.sink.holds new.sink.holds
-  shown-part tells = shows-one found u h m step.d step.pieces (reply_text (length asked + 1) step.d.reply step.pieces) one-more old.sink.holds mid.sink.holds new.sink.holds (so.text tells)
+  shown-part tells = shows-one found u h m step.d step.texts its_text one-more old.sink.holds mid.sink.holds new.sink.holds (so.text tells)
       (step.shown (sink-mid tells)).part
 
   -- the marks that are told are the first of those that were come to
@@ -180,13 +189,22 @@ module _ {B : Type 0} (old mid new : World B) (found c : Cat) (at : State) (aske
   told-drawn tells =
       let s = step.shown (sink-mid tells) in
       let part = (shown-part tells).part in
-      let first = shown-taken found u h m step.d step.pieces (reply_text (length asked + 1) step.d.reply step.pieces) one-more old.sink.holds mid.sink.holds new.sink.holds
+      let first = shown-taken found u h m step.d step.texts its_text one-more old.sink.holds mid.sink.holds new.sink.holds
       (so.text tells) s.part step.taken step.first many_pieces s.few in
       let all : u.report ++ (marks_of h.begun ++ step.taken) ≡ so.ran.drawn ++ step.taken =
       sym (append_assoc u.report (marks_of h.begun) step.taken) ∙ ap (λ (x : List Mark). x ++ step.taken) (sym so.all_drawn) in
       subst (AreFirst (marks_told found u more (length part))) all
       (told-behind found u more (length part) (marks_of h.begun ++ step.taken)
       ((shown-part tells).report_first (omega (arith, length-append h.begun (m ∷ [])))) first)
+
+  -- all is sure of those before it, and of it what is sure of it
+  pub sure-more : AreSure known more.done more.pieces more.sure
+  sure-more =
+      let number : length asked + 1 ≡ length h.done + 1 = omega (arith, done-many old mid found at asked so.ran) in
+      but_last h.done step.d h.pieces step.texts.pieces step.texts.sure refl refl so.pieces_are
+      (subst (λ k. IsSure known k step.d step.texts.pieces step.texts.sure) number
+      (sure-less (IsKnown mid c) known (known-so old mid found c at asked so begin order) (length asked + 1) step.d step.texts.pieces step.texts.sure step.are_sure))
+      (ap (λ (s : Text). s ++ step.texts.sure) so.all_sure)
 
   -- it was begun, and maybe not handled whole
   abbrev pub ran-more : Ran old new found step.d.state (asked ++ a ∷ [])
@@ -195,8 +213,7 @@ module _ {B : Type 0} (old mid new : World B) (found c : Cat) (at : State) (aske
     handled = more;
     asked_are = asked-push h.begun m ∙ ap (λ (l : List Asked). l ++ a ∷ []) so.ran.asked_are;
     after = after-push m step.d request so.ran.after means step.does_so step.all;
-    pieces_are = pieces-push known 1 (length asked + 1) h.done h.pieces step.d step.pieces (omega (arith, done-many old mid found at asked so.ran)) so.ran.pieces_are
-        (pieces-less (IsKnown mid c) known (known-so old mid found c at asked so begin order) (length asked + 1) 0 step.d.sent step.d.reply.marks step.pieces step.pieces_are);
+    are_sure = sure-more;
     told_of = told-more;
     by_rows = by_rows-push m step.d so.ran.after so.ran.by_rows step.by_rows;
     went = went-then old mid new so.ran.went then;
@@ -211,63 +228,85 @@ module _ {B : Type 0} (old mid new : World B) (found c : Cat) (at : State) (aske
   }
 
   module _ (after : Cat) (end : State) (whole : IsHandledWhole mid new at c (length asked + 1) request step after end) where
+    -- each mark has its text, and all is sure
+    pub pieces-more : AllPieces known 1 more.done more.pieces
+    pieces-more =
+        pieces-push known 1 (length asked + 1) h.done h.pieces step.d step.texts.pieces (omega (arith, done-many old mid found at asked so.ran)) so.pieces_are
+        (pieces-less (IsKnown mid c) known (known-so old mid found c at asked so begin order) (length asked + 1) 0 step.d.sent step.d.reply.marks step.texts.pieces
+        whole.pieces_are)
+
+    all-sure : more.sure ≡ joined_texts (replies_of more)
+    all-sure =
+        ap (λ (s : Text). s ++ step.texts.sure) so.all_sure
+        ∙ ap (λ (s : Text). joined_texts (replies_of h) ++ s)
+        (sure-whole (IsKnown mid c) (length asked + 1) step.d step.texts.pieces step.texts.sure whole.pieces_are step.are_sure)
+        ∙ sym (ap joined_texts texts_are ∙ joined-push (replies_of h) its_text)
+
     -- all replies are shown
     pub text-more : IsTrue old.sink.tells → new.sink.holds ≡ (old.sink.holds ++ whole_report found u) ++ joined_texts (replies_of more)
     text-more tells =
-        whole.text (sink-mid tells) ∙ ap (λ (t : Text). t ++ reply_text (length asked + 1) step.d.reply step.pieces) (so.text tells)
-        ∙ append_assoc (old.sink.holds ++ whole_report found u) (joined_texts (replies_of h)) (reply_text (length asked + 1) step.d.reply step.pieces)
-        ∙ ap (λ (t : Text). (old.sink.holds ++ whole_report found u) ++ t) (sym (ap joined_texts texts_are ∙ joined-push (replies_of h) (reply_text (length asked + 1) step.d.reply step.pieces)))
+        whole.text (sink-mid tells) ∙ ap (λ (s : Text). s ++ its_text) (so.text tells)
+        ∙ append_assoc (old.sink.holds ++ whole_report found u) (joined_texts (replies_of h)) its_text
+        ∙ ap (λ (s : Text). (old.sink.holds ++ whole_report found u) ++ s) (sym (ap joined_texts texts_are ∙ joined-push (replies_of h) its_text))
 
     pub of-run-more : IsOfRun found after
     of-run-more = by whole.follows
       where
         by : ComesAfter c (length asked + 1) step.d after → IsOfRun found after
         by (kept behind) = behind-of found c (length asked + 1) step.d after so.of_run behind
-        by (unseen like no_marks grid) = like-of found c after so.of_run like
+        by (unseen like no_marks grid rules) = like-of found c after so.of_run like
 
     last_more : after.numbers.last ≤ length (asked ++ a ∷ [])
     last_more = by whole.follows
       where
         by : ComesAfter c (length asked + 1) step.d after → after.numbers.last ≤ length (asked ++ a ∷ [])
         by (kept behind) = omega (arith, behind.last, length-append asked (a ∷ []))
-        by (unseen like no_marks grid) = omega (arith, like.last, so.last, length-append asked (a ∷ []))
+        by (unseen like no_marks grid rules) = omega (arith, like.last, so.last, length-append asked (a ∷ []))
+
+    -- it has the rules that the request left
+    pub rules-more : HasRules after step.d.state.rules
+    rules-more = by whole.follows
+      where
+        by : ComesAfter c (length asked + 1) step.d after → HasRules after step.d.state.rules
+        by (kept behind) = behind.rules
+        by (unseen like no_marks grid rules) = like.rules ∙ rules
 
     pub stands-more : StandsFor new.main.holds after
     stands-more = whole.stands (subst IsTrue (sym so.ran.went.main.tells) begin.main_tells)
 
-    -- where no orphan was found, all left the grid as it was and told no mark, main has the run's record more
-    pub still-more : found.pending ≡ None → found.orphans ≡ [] → AllStill (grid_of found) more.begun more.done
-        → HasOneMore old.main.holds new.main.holds × (grid_of after ≡ grid_of found)
-    still-more none clear all =
+    -- where there were no rules, no orphan was found, all left the grid and the rules as they were and told no mark, main has the run's record more
+    pub still-more : u.rules ≡ [] → found.pending ≡ None → found.orphans ≡ [] → AllStill (grid_of found) more.begun more.done
+        → HasOneMore old.main.holds new.main.holds × (grid_of after ≡ grid_of found) × (step.d.state.rules ≡ [])
+    still-more no_rules none clear all =
         let two = still-split (grid_of found) h.begun h.done m step.d all in
-        let so_far = so.still none clear two.0 in
+        let so_far = so.still no_rules none clear two.0 in
         let main : new.main.holds ≡ mid.main.holds =
-        whole.still (removes_nothing means two.1.2) (calls_no_rules means two.1.3) two.1.0 (two.1.1 ∙ sym so_far.1) (subst IsTrue (sym so.ran.went.main.tells) begin.main_tells) in (
+        whole.still (removes_nothing means two.1.3) (is_no_call means two.1.4, so_far.2) two.1.0 (two.1.1 ∙ sym so_far.1) two.1.2
+        (subst IsTrue (sym so.ran.went.main.tells) begin.main_tells) in (
           subst (HasOneMore old.main.holds) (sym main) so_far.0,
           whole.grid ∙ ap (λ (s : State). s.grid) (sym whole.state) ∙ two.1.1,
+          two.1.2,
         )
 
     -- where it ends the input, it leaves what was
-    catalogue-left : EndsInput a → after ≡ c
-    catalogue-left ends =
+    catalogue-left : LeavesFew mid new request step.d after → EndsInput a → after ≡ c
+    catalogue-left few ends =
         let one = quits-alone at a request ends means in
-        let left = quits-leave at one.0 step.marks step.d (ap (λ (r : Request). does at r step.marks) (sym one.1) ∙ step.does_so) in
-        let main : new.main.holds ≡ mid.main.holds =
-        whole.still (quits-remove one.0 request one.1) (quits-call one.0 request one.1) (sym step.marks_are ∙ left.0) (left.1 ∙ sym so.grid) (subst IsTrue (sym so.ran.went.main.tells) begin.main_tells) in
+        let main : new.main.holds ≡ mid.main.holds = quit-leaves mid new one.0 request step.d after one.1 few (subst IsTrue (sym so.ran.went.main.tells) begin.main_tells) in
         the_catalogue mid.main.holds [] c after (so.stands []) (subst (λ (t : Text). StandsFor t after) main stands-more [])
 
     -- behind a sweep, few orphans are left
     pub few-more : LeavesFew mid new request step.d after → EndsSwept (state_behind found u more) more.begun more.done (length more.begun) → HasFewOrphans old new after
     few-more few ends =
-        by (last-one (begins u.opened.grid []) h.begun h.done m step.d many (length-append h.begun (m ∷ [])) ends)
+        by (last-one (begins u.opened.grid u.rules) h.begun h.done m step.d many (length-append h.begun (m ∷ [])) ends)
       where
         many : length h.done ≡ length h.begun
         many = done-many old mid found at asked so.ran ∙ sym (begun-many old mid found at asked so.ran)
 
-        by : LastOne (begins u.opened.grid []) h.begun h.done m step.d many → HasFewOrphans old new after
+        by : LastOne (begins u.opened.grid u.rules) h.begun h.done m step.d many → HasFewOrphans old new after
         by (swept_last session be asks ok) = few-before old mid new after so.ran.went (few-swept mid new be at a session request step.d after asks means few ok)
         by (quit_last quits before) =
-            subst (HasFewOrphans old new) (sym (catalogue-left quits)) (few-behind old mid new c then (so.few before))
+            subst (HasFewOrphans old new) (sym (catalogue-left few quits)) (few-behind old mid new c then (so.few before))
 
     -- it was handled whole, and the run goes on
     sofar_did : LeavesFew mid new request step.d after → ¬ EndsInput a → Sofar old new found after step.d.state (asked ++ a ∷ [])
@@ -275,11 +314,13 @@ module _ {B : Type 0} (old mid new : World B) (found c : Cat) (at : State) (aske
       ran = ran-more;
       none_end = all-append (λ (x : Asked). ¬ EndsInput x) asked (a ∷ []) so.none_end (goes_on, tt);
       all_drawn = ap (λ (d : List Mark). d ++ step.taken) so.all_drawn ∙ ap (λ (d : List Mark). (u.report ++ marks_of h.begun) ++ d) whole.all_taken ∙ sym marks_more;
+      pieces_are = pieces-more;
+      all_sure = all-sure;
       text = text-more;
       of_run = of-run-more;
       last = last_more;
       grid = whole.grid ∙ ap (λ (s : State). s.grid) (sym whole.state);
-      no_rules = no-rules;
+      rules = rules-more;
       still = still-more;
       few = few-more few;
       stands = stands-more;

@@ -1,4 +1,4 @@
--- A run is opened over a catalogue without rules, and nothing was asked yet.
+-- A run is opened, and nothing was asked yet.
 use Rattle.std.proofs.Common.{◌≡◌, ℕ, ◌<◌, List, [], ◌++◌, length, take, drop, IsTrue, refl, sym, ◌∙◌, subst, take-append-drop, arith}
 use Rattle.std.specs.List.{AllByRecursion}
 use Rattle.std.proofs.lemmas.List.{append-nil, length-take-le}
@@ -10,6 +10,7 @@ use Rattle.grid_model.specs.declared.marks.Mark.{Mark}
 use Rattle.grid_headline.specs.Worlds.{World}
 use Rattle.grid_headline.specs.Causes.{AreCaused}
 use Rattle.grid_headline.specs.Files.{AreSettled, IsKnown}
+use Rattle.grid_headline.specs.Served.{all}
 use Rattle.grid_headline.specs.Stops.{AreFirst}
 use Rattle.run_laws.specs.Handled.{none_handled, OneOfRun, in_run, ShowsMost}
 use Rattle.run_laws.specs.Handled as handled
@@ -39,7 +40,7 @@ module _ {B : Type 0} (old now : World B) (found : Cat) (opens : Opens old now f
         of_run = is.of_run;
         within = omega (arith, is.last);
         near = omega (arith, is.last);
-        no_rules = refl;
+        rules = is.rules;
         grid = is.grid;
         untold = λ less. refl;
       })
@@ -64,13 +65,13 @@ module _ {B : Type 0} (old now : World B) (found : Cat) (opens : Opens old now f
       (subst (λ k. AreFirst (recoveries_told found u k) opens.taken) (sym so_many) s.told)
 
   -- nothing was asked yet, and maybe not all was undone, or the run is not begun
-  abbrev pub ran-none : Ran old now found (begins u.opened.grid []) []
+  abbrev pub ran-none : Ran old now found (begins u.opened.grid u.rules) []
   ran-none = record {
     undone = u;
     handled = none_handled;
     asked_are = refl;
     after = runs.none;
-    pieces_are = tt;
+    are_sure = all tt refl;
     told_of = subst (AllByRecursion (IsToldOf (IsKnown old found) (length old.stores))) (sym (append-nil u.report)) opens.told_of;
     by_rows = tt;
     went = opens.went;

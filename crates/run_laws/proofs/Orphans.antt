@@ -1,24 +1,18 @@
 -- Behind a sweep few orphans are left, and the end of the input adds none.
-use Rattle.std.proofs.Common.{◌≡◌, ℕ, ◌+◌, ◌<◌, ◌≤◌, true, List, [], ◌∷◌, ◌++◌, length, slice_get, Option, Some, None, Ok, sym, ap, ◌∙◌, subst, arith}
+use Rattle.std.proofs.Common.{◌≡◌, ℕ, ◌+◌, ◌<◌, ◌≤◌, true, List, [], ◌∷◌, ◌++◌, length, slice_get, Some, Ok, IsTrue, sym, ap, ◌∙◌, subst, arith}
 use Rattle.std.proofs.lemmas.Option.{same_Some}
-use Rattle.grid_model.specs.Maps.{get}
 use Rattle.grid_model.specs.Rows.{Cat}
 use Rattle.grid_model.specs.Inputs.{Asked}
-use Rattle.grid_model.specs.Meanings.{Meaning, gives}
 use Rattle.grid_model.specs.Orders.{quits, sweeps}
-use Rattle.grid_model.specs.Obeying.{logged_in, not_logged_in}
-use Rattle.grid_model.specs.Sessions.{Session, State}
+use Rattle.grid_model.specs.Sessions.{State}
 use Rattle.grid_model.specs.Uploads.{is_well}
-use Rattle.grid_model.specs.Working.{Done, begun as course, answered, well}
-use Rattle.grid_model.specs.Runs.{Marked, Request, does, state_after}
-use Rattle.grid_model.specs.declared.marks.Mark.{Mark}
-use Rattle.grid_model.proofs.MeaningLemmas.{gives_is}
+use Rattle.grid_model.specs.Working.{Done}
+use Rattle.grid_model.specs.Runs.{Marked, Request, state_after}
 use Rattle.grid_headline.specs.Worlds.{World}
 use Rattle.grid_headline.specs.Reads.{MeansRequest, EndsInput}
 use Rattle.grid_headline.specs.Ends.{HasFewOrphans, Swept, Quit, EndsSwept, none, by_sweep, by_quit}
 use Rattle.grid_headline.proofs.OneMeaning.{sweeps-alone}
 use Rattle.run_laws.specs.Silent.{LeavesFew}
-use Rattle.run_laws.specs.Steps.{CallsNoRules, RemovesNoFile}
 use Rattle.run_laws.specs.Went.{Went}
 use Rattle.run_laws.proofs.Goings.{faults-rise}
 use Rattle.run_laws.proofs.Lists.{get-front, get-last, state-more}
@@ -36,29 +30,10 @@ module _ {B : Type 0} (old mid new : World B) (c : Cat) where
 
 -- ---- what ends the input
 
--- it tells no mark, and leaves the grid as it was
-pub quits-leave : (at : State) (n : ℕ) (marks : List Mark) (d : Done) → does at (Ok (n, quits)) marks ≡ gives d
-    → (d.reply.marks ≡ []) × (d.state.grid ≡ at.grid)
-quits-leave at n marks d did = by (get at.sessions n) did
-  where
-    is : gives (answered at (course at.grid marks) well) ≡ gives d → (d.reply.marks ≡ []) × (d.state.grid ≡ at.grid)
-    is e = (sym (ap (λ (x : Done). x.reply.marks) (gives_is e)), sym (ap (λ (x : Done). x.state.grid) (gives_is e)))
-
-    by : (o : Option Session)
-        → elim o as (λ _. Meaning Done) [
-          | None ↦ not_logged_in at n quits (course at.grid marks)
-          | Some x ↦ logged_in at n x quits (course at.grid marks)
-        ] ≡ gives d
-        → (d.reply.marks ≡ []) × (d.state.grid ≡ at.grid)
-    by None e = is e
-    by (Some x) e = is e
-
--- nor is it a sweep
-pub quits-remove : (n : ℕ) (request : Request) → request ≡ Ok (n, quits) → RemovesNoFile request
-quits-remove n request e = subst RemovesNoFile (sym e) tt
-
-pub quits-call : (n : ℕ) (request : Request) → request ≡ Ok (n, quits) → CallsNoRules request
-quits-call n request e = subst CallsNoRules (sym e) tt
+-- a request that does so leaves main as it was
+pub quit-leaves : {B : Type 0} (mid new : World B) (n : ℕ) (request : Request) (d : Done) (after : Cat) → request ≡ Ok (n, quits)
+    → LeavesFew mid new request d after → IsTrue mid.main.tells → new.main.holds ≡ mid.main.holds
+quit-leaves mid new n request d after is few = subst (λ (r : Request). LeavesFew mid new r d after) is few
 
 -- ---- a sweep
 

@@ -13,6 +13,7 @@ use Rattle.grid_model.specs.Runs.{Marked}
 use Rattle.grid_model.specs.declared.marks.Mark.{Mark}
 use Rattle.grid_headline.specs.Worlds.{World}
 use Rattle.grid_headline.specs.Files.{AreSettled}
+use Rattle.grid_headline.specs.Reads.{HasRules}
 use Rattle.grid_headline.specs.Served.{NoneSweeps, joined_texts, whole_in, marks_of}
 use Rattle.grid_headline.specs.Stops.{AreFirst}
 use Rattle.grid_headline.specs.Headline.{BeginsOn}
@@ -59,7 +60,7 @@ module _ {B : Type 0} (old mid new : World B) (found c : Cat) (at : State) (aske
         of_run = like-of found c e so.of_run like;
         within = omega (arith, r, many, many_begun);
         near = omega (arith, w, like.last, so.last, many);
-        no_rules = ap (λ (x : State). x.rules) s ∙ so.no_rules;
+        rules = subst (λ (x : State). HasRules e x.rules) (sym s) (like.rules ∙ so.rules);
         grid = like.grid ∙ so.grid ∙ ap (λ (x : State). x.grid) (sym s);
         untold = λ less.
             let past : slice_get h.begun (whole_in (replies_of h) bytes) ≡ None = slice_get_past h.begun (whole_in (replies_of h) bytes) (omega (arith, w, many, many_begun)) in
@@ -76,12 +77,12 @@ module _ {B : Type 0} (old mid new : World B) (found c : Cat) (at : State) (aske
           (so.sink_settled tells settled.of_sink) t main sink later main_left sink_left in
           let behind : bytes ≡ length (report ++ joined_texts (replies_of h)) - length report = omega (arith, length-append report (joined_texts (replies_of h))) in
           in_run q.0 (report ++ joined_texts (replies_of h)) [] q.2 (q.3 ∙ so.text tells ∙ append_assoc old.sink.holds report (joined_texts (replies_of h)))
-          (sym (append-nil (report ++ joined_texts (replies_of h)))) (subst (IsBehindSome found u h q.0) behind (like_all q.0 q.1))
+          (ap (λ (x : Text). report ++ x) so.all_sure ∙ sym (append-nil (report ++ joined_texts (replies_of h)))) (subst (IsBehindSome found u h q.0) behind (like_all q.0 q.1))
       by (inr early) = so.ran.images tells settled t main sink late (then.main.earlier t main early main_left) (then.sink.earlier t sink early sink_left)
 
   pub shown_all : IsTrue old.sink.tells → ShowsMost report h old.sink.holds new.sink.holds
   shown_all tells = shows-all report h old.sink.holds new.sink.holds (begun-many old mid found at asked so.ran ∙ sym (replies-many old mid found at asked so.ran))
-      (quiet.sink (sink-mid tells) ∙ so.text tells)
+      so.all_sure (quiet.sink (sink-mid tells) ∙ so.text tells)
 
   -- all marks that are told were come to
   pub told-drawn : (tells : IsTrue old.sink.tells) → AreFirst (marks_told found u h (length (shown_all tells).part)) so.ran.drawn
@@ -90,7 +91,7 @@ module _ {B : Type 0} (old mid new : World B) (found c : Cat) (at : State) (aske
       let part = (shown_all tells).part in
       subst (AreFirst (marks_told found u h (length part))) (sym so.all_drawn)
       (told-behind found u h (length part) (marks_of h.begun) (shows-whole report h old.sink.holds new.sink.holds (begun-many old mid found at asked so.ran ∙ sym (replies-many old mid found at asked so.ran))
-      (quiet.sink (sink-mid tells) ∙ so.text tells)) (shown-first h (length part - length report)))
+      so.all_sure (quiet.sink (sink-mid tells) ∙ so.text tells)) (shown-first h (length part - length report)))
 
   -- nothing is seen of what came behind
   abbrev pub ran-quiet : Ran old new found at asked
@@ -99,7 +100,7 @@ module _ {B : Type 0} (old mid new : World B) (found c : Cat) (at : State) (aske
     handled = h;
     asked_are = so.ran.asked_are;
     after = so.ran.after;
-    pieces_are = so.ran.pieces_are;
+    are_sure = so.ran.are_sure;
     told_of = so.ran.told_of;
     by_rows = so.ran.by_rows;
     went = went-then old mid new so.ran.went then;
@@ -129,7 +130,7 @@ module _ {B : Type 0} (old now : World B) (source : SourceState) where
     handled = ran.handled;
     asked_are = ran.asked_are;
     after = ran.after;
-    pieces_are = ran.pieces_are;
+    are_sure = ran.are_sure;
     told_of = ran.told_of;
     by_rows = ran.by_rows;
     went = went_on ran.went;
@@ -151,11 +152,13 @@ module _ {B : Type 0} (old now : World B) (source : SourceState) where
     ran = ran-read found at asked so.ran;
     none_end = so.none_end;
     all_drawn = so.all_drawn;
+    pieces_are = so.pieces_are;
+    all_sure = so.all_sure;
     text = so.text;
     of_run = so.of_run;
     last = so.last;
     grid = so.grid;
-    no_rules = so.no_rules;
+    rules = so.rules;
     still = so.still;
     few = so.few;
     stands = so.stands;

@@ -1,4 +1,4 @@
--- What was undone and the requests that were handled over a catalogue without rules are a run, of which all that is promised holds.
+-- What was undone and the requests that were handled are a run, of which all that is promised holds.
 use Rattle.std.proofs.Common.{◌≡◌, ◌⊎◌, inl, inr, ℕ, ◌+◌, ◌-◌, List, [], ◌∷◌, ◌++◌, length, take, drop, slice_get, Option, Some, None, Ok, IsTrue, refl, sym, ap, ◌∙◌, subst, append_assoc, length-append, take-append-drop, arith}
 use Rattle.std.specs.Prelude.{◌≢◌, max}
 use Rattle.std.proofs.Math.Seq.{take-append_seam}
@@ -18,9 +18,8 @@ use Rattle.grid_model.specs.declared.deltas.Pending.{Pending}
 use Rattle.grid_model.specs.declared.marks.Mark.{Mark}
 use Rattle.grid_model.specs.declared.marks.Mark.TheVariants.{Stop}
 use Rattle.grid_model.specs.declared.marks.Mark.TheVariants as mark
-use Rattle.rule_parse.specs.Printed.{print_rules}
 use Rattle.grid_headline.specs.Worlds.{World, DevicesImage}
-use Rattle.grid_headline.specs.Reads.{MeansRequest, EndsInputLast}
+use Rattle.grid_headline.specs.Reads.{HasRules, MeansRequest, EndsInputLast}
 use Rattle.grid_headline.specs.Served.{Run, BeginsWithRequests, joined_texts, asked_of, marks_of, whole_in, acknowledged, report_back, report_told, told_marks, first_marks, state_at}
 use Rattle.grid_headline.specs.Served as served
 use Rattle.grid_headline.specs.Stops.{AreFirst, OneImage, IsBeforeRun, IsAtState, IsInterrupted, KeepsTold, KeepsReport}
@@ -53,17 +52,18 @@ pub no_stop : (known : ℕ → Type 0) (stores : ℕ) (m : Mark) → IsToldOf kn
 no_stop known stores m told e = subst (IsToldOf known stores) e told
 
 makes_files : {B : Type 0} {known : ℕ → Type 0} {found : Cat} {input : Text} (run : Run known found input) (old new : World B) (rules : Type 0)
-    (order : Order) → MakesFile order → MakesFiles run old new order ⊎ IsExec run old new order ⊎ rules
-makes_files run old new rules (works (put p r mode body) count) makes = inl tt
-makes_files run old new rules (works (repl p r) count) makes = inl tt
-makes_files run old new rules closes makes = inl tt
-makes_files run old new rules (executes call) makes = inr (inl tt)
-makes_files run old new rules other makes = absurd makes
+    (order : Order) → MakesFile order ⊎ rules → MakesFiles run old new order ⊎ IsExec run old new order ⊎ rules
+makes_files run old new rules order (inr there) = inr (inr there)
+makes_files run old new rules (works (put p r mode body) count) (inl makes) = inl tt
+makes_files run old new rules (works (repl p r) count) (inl makes) = inl tt
+makes_files run old new rules closes (inl makes) = inl tt
+makes_files run old new rules (executes call) (inl makes) = inr (inl tt)
+makes_files run old new rules other (inl makes) = absurd makes
 
 -- ---- the run
 
-module _ {B : Type 0} (old new : World B) (found : Cat) (at : State) (asked : List Asked) (rules : found.rules ≡ []) (ran : Ran old new found at asked)
-    (first : BeginsWithRequests old.source.left asked) (end_last : EndsInputLast asked) where
+module _ {B : Type 0} (old new : World B) (found : Cat) (at : State) (asked : List Asked) (ran : Ran old new found at asked)
+    (first : BeginsWithRequests old.source.left asked) (end_last : EndsInputLast asked) (main_tells : IsTrue old.main.tells) where
   abbrev u : Undone found
   u = ran.undone
 
@@ -73,8 +73,8 @@ module _ {B : Type 0} (old new : World B) (found : Cat) (at : State) (asked : Li
     opened = u.opened;
     opened_is = u.opened_is;
     opened_all = u.opened_all;
-    rules = [];
-    rules_are = rules;
+    rules = u.rules;
+    rules_are = u.rules_are;
     begun = ran.handled.begun;
     first = subst (BeginsWithRequests old.source.left) (sym ran.asked_are) first;
     end_last = subst EndsInputLast (sym ran.asked_are) end_last;
@@ -82,7 +82,8 @@ module _ {B : Type 0} (old new : World B) (found : Cat) (at : State) (asked : Li
     end = at;
     after = ran.after;
     pieces = ran.handled.pieces;
-    pieces_are = ran.pieces_are;
+    sure = ran.handled.sure;
+    are_sure = ran.are_sure;
     no_stop = all-map (IsToldOf (IsKnown old found) (length old.stores)) (λ (m : Mark). m ≢ Stop) (no_stop (IsKnown old found) (length old.stores)) (u.report ++ marks_of ran.handled.begun) ran.told_of;
   }
 
@@ -165,7 +166,8 @@ module _ {B : Type 0} (old new : World B) (found : Cat) (at : State) (asked : Li
       → Completes old new run (shows tells) end
   completes tells end none tell settled whole good =
       let of_requests = marks_of ran.handled.begun in
-      let all = clean old new (IsKnown old found) (u.report ++ of_requests) none.of_stores (λ slot less. record { settled = settled; whole = whole; there = tell slot less })
+      let all = clean old new (IsKnown old found) (u.report ++ of_requests) none.of_stores
+      (λ slot less. record { main = main_tells; settled = settled; whole = whole; there = tell slot less })
       ran.told_of ran.caused in
       let own = clean-back u.report of_requests all in
       let count = length (shows tells).part in
@@ -191,6 +193,10 @@ module _ {B : Type 0} (old new : World B) (found : Cat) (at : State) (asked : Li
 
   abbrev replies : Text
   replies = joined_texts (replies_of ran.handled)
+
+  -- what is sure of these
+  abbrev sure : Text
+  sure = ran.handled.sure
 
   -- a request that is pending was interrupted there
   interrupted : (c : Cat) (p : Pending) (k : ℕ) → WaitsBehind found u ran.handled c p k → IsInterrupted run c p k
@@ -225,10 +231,10 @@ module _ {B : Type 0} (old new : World B) (found : Cat) (at : State) (asked : Li
         cat = c;
         stands = stands i.spare;
         part = take adds.count begun;
-        more = drop adds.count begun ++ (behind ++ replies);
+        more = drop adds.count begun ++ (behind ++ sure);
         sink = adds.is;
-        split = append_assoc begun behind replies ∙ ap (λ (t : Text). t ++ (behind ++ replies)) (sym (take-append-drop adds.count begun))
-            ∙ append_assoc (take adds.count begun) (drop adds.count begun) (behind ++ replies);
+        split = append_assoc begun behind sure ∙ ap (λ (t : Text). t ++ (behind ++ sure)) (sym (take-append-drop adds.count begun))
+            ∙ append_assoc (take adds.count begun) (drop adds.count begun) (behind ++ sure);
         on_the_way = inl (subst (IsBeforeRun found u.report c) (sym so_many) b.before);
         told = record {
           of_request = λ e. absurd (omega (arith, e, b.before.number));
@@ -254,7 +260,7 @@ module _ {B : Type 0} (old new : World B) (found : Cat) (at : State) (asked : Li
           number = b.of_run.number;
           within = omega (arith, b.within, r);
           near = omega (arith, b.near, a);
-          rules = b.of_run.rules ∙ sym (ap (λ (x : State). print_rules x.rules) s ∙ ap print_rules b.no_rules);
+          rules = subst (λ (x : State). HasRules c x.rules) (sym s) b.rules;
           at = subst (IsAtState run c (served.reached run c count)) (sym b.of_run.none) (b.grid ∙ ap (λ (x : State). x.grid) (sym s));
         });
         told = record {
@@ -282,7 +288,7 @@ module _ {B : Type 0} (old new : World B) (found : Cat) (at : State) (asked : Li
           number = b.of_run.number;
           within = omega (arith, r, slice_get_within ran.handled.begun k b.waits_behind.next b.waits_behind.is_next);
           near = omega (arith, b.near, a);
-          rules = b.of_run.rules ∙ sym (ap (λ j. print_rules (state_at run j).rules) r ∙ ap print_rules b.no_rules);
+          rules = subst (λ j. HasRules c (state_at run j).rules) (sym r) b.rules;
           at = subst (IsAtState run c (served.reached run c count)) (sym pending) (subst (IsInterrupted run c p) (sym r) (interrupted c p k b.waits_behind));
         });
         told = record {
@@ -298,11 +304,12 @@ module _ {B : Type 0} (old new : World B) (found : Cat) (at : State) (asked : Li
 
   answers : IsAnswered old new found at u ran.handled → AnswersAll run old new
   answers all = record {
+    all = all.all;
     text = λ tells. all.text tells ∙ append_assoc old.sink.holds report replies;
     stand = record {
       cat = all.cat;
       stands = all.stands new.spare.holds;
-      holds = record { number = all.of_run.number; grid = all.grid; rules = all.of_run.rules ∙ sym (ap print_rules all.no_rules); none = all.of_run.none };
+      holds = record { number = all.of_run.number; grid = all.grid; rules = all.rules; none = all.of_run.none };
     };
     still = all.still;
   }
@@ -325,14 +332,14 @@ module _ {B : Type 0} (old new : World B) (found : Cat) (at : State) (asked : Li
           session = next.session;
           order = next.order;
           asks = subst (λ (x : State). MeansRequest x next.next (Ok (next.session, next.order))) (sym now) next.asks;
-          makes = makes_files run old new ((state_at run k).rules ≢ []) next.order next.makes;
+          makes = makes_files run old new ((state_at run k).rules ≢ []) next.order (subst (λ (x : State). MakesFile next.order ⊎ (x.rules ≢ [])) (sym now) next.makes);
         },
       )
   needs wear.Log none = tt
 
   -- the last request that was begun, from this state, may have made files
   pub needs_last : (front : List Asked) (a : Asked) (x : State) (session : ℕ) (order : Order) → asked ≡ front ++ a ∷ [] → state_at run (length front) ≡ x
-      → MeansRequest x a (Ok (session, order)) → MakesFile order → Needs run old new wear.Vaults
+      → MeansRequest x a (Ok (session, order)) → MakesFile order ⊎ (x.rules ≢ []) → Needs run old new wear.Vaults
   needs_last front a x session order is now asks makes =
       let many = begun-many old new found at asked ran in
       let k = length front in
@@ -349,7 +356,7 @@ module _ {B : Type 0} (old new : World B) (found : Cat) (at : State) (asked : Li
           session = session;
           order = order;
           asks = subst (λ (y : State). MeansRequest y a (Ok (session, order))) (sym now) asks;
-          makes = makes_files run old new ((state_at run k).rules ≢ []) order makes;
+          makes = makes_files run old new ((state_at run k).rules ≢ []) order (subst (λ (y : State). MakesFile order ⊎ (y.rules ≢ [])) (sym now) makes);
         },
       )
 

@@ -10,7 +10,7 @@ use Rattle.grid_model.specs.Runs as runs
 use Rattle.grid_model.specs.declared.marks.Mark.{Mark}
 use Rattle.grid_headline.specs.Worlds.{World}
 use Rattle.grid_headline.specs.Files.{AreSettled, DisksAreSettled, KeepsReplicas, WereWhole, AllStayWhole, ReplicasStayNamed}
-use Rattle.grid_headline.specs.Served.{NoneSweeps}
+use Rattle.grid_headline.specs.Served.{NoneSweeps, all as all_sure}
 use Rattle.grid_headline.specs.Ends.{HasOneMore, HasRecovery}
 use Rattle.grid_headline.specs.Stops.{AreFirst}
 use Rattle.grid_headline.specs.Headline.{BeginsOn}
@@ -36,7 +36,7 @@ behind_none found u begun e count is like = record {
   of_run = like-of found begun e is.of_run like;
   within = omega (arith, like.last, is.last);
   near = omega (arith, like.last, is.last);
-  no_rules = refl;
+  rules = like.rules ∙ is.rules;
   grid = like.grid ∙ is.grid;
   untold = λ less. refl;
 }
@@ -49,7 +49,7 @@ module _ {B : Type 0} (old mid new : World B) (found begun : Cat) (begin : Begin
   abbrev u : Undone found
   u = opened.opens.undone
 
-  abbrev before : Ran old mid found (begins u.opened.grid []) []
+  abbrev before : Ran old mid found (begins u.opened.grid u.rules) []
   before = ran-none old mid found opened.opens
 
   main_tells : IsTrue mid.main.tells
@@ -99,13 +99,13 @@ module _ {B : Type 0} (old mid new : World B) (found begun : Cat) (begin : Begin
       (subst (λ (x : List Mark). AreFirst told x) (sym opened.all) (recoveries-first found u (length (whole_report found u))))
 
   -- nothing was asked yet, and maybe not all was swept
-  abbrev pub ran-swept : Ran old new found (begins u.opened.grid []) []
+  abbrev pub ran-swept : Ran old new found (begins u.opened.grid u.rules) []
   ran-swept = record {
     undone = u;
     handled = none_handled;
     asked_are = refl;
     after = runs.none;
-    pieces_are = tt;
+    are_sure = all_sure tt refl;
     told_of = before.told_of;
     by_rows = tt;
     went = went-then old mid new first swept.went;
@@ -128,19 +128,22 @@ module _ {B : Type 0} (old mid new : World B) (found begun : Cat) (begin : Begin
   }
 
   -- all was swept
-  pub sofar-swept : (c : Cat) → IsSwept mid new begun c → Sofar old new found c (begins u.opened.grid []) []
+  pub sofar-swept : (c : Cat) → IsSwept mid new begun c → Sofar old new found c (begins u.opened.grid u.rules) []
   sofar-swept c done = record {
     ran = ran-swept;
     none_end = tt;
     all_drawn = opened.all ∙ sym (append-nil u.report);
+    pieces_are = tt;
+    all_sure = refl;
     text = λ tells. sink-is tells ∙ sym (append-nil (old.sink.holds ++ whole_report found u));
     of_run = like-of found begun c opened.begun.of_run done.like;
     last = omega (arith, done.like.last, opened.begun.last);
     grid = done.like.grid ∙ opened.begun.grid;
-    no_rules = refl;
-    still = λ none clear all. (
+    rules = done.like.rules ∙ opened.begun.rules;
+    still = λ no_rules none clear all. (
       subst (HasOneMore old.main.holds) (sym (done.still (opened.orphans none ∙ clear) main_tells)) (opened.one none),
       done.like.grid ∙ opened.begun.grid ∙ left-alone found u none,
+      no_rules,
     );
     few = λ ends. few-before old mid new c first done.few;
     stands = done.stands main_tells;

@@ -1,5 +1,5 @@
 -- How a run ends, by the requests that were handled.
-use Rattle.std.specs.Prelude.{◌≡◌, ◌⊎◌, ℕ, ◌+◌, ◌^◌, ◌≤◌, List, [], ◌∷◌, ◌++◌, None, Ok, length, IsTrue}
+use Rattle.std.specs.Prelude.{◌≡◌, ◌≢◌, ◌⊎◌, ℕ, ◌+◌, ◌^◌, ◌≤◌, List, [], ◌∷◌, ◌++◌, None, Ok, length, IsTrue}
 use Rattle.grid_outside.specs.Source.{SourceState}
 use Rattle.grid_outside.specs.declared.outside.Wear.{Wear}
 use Rattle.grid_outside.specs.declared.outside.Wear.TheVariants as wear
@@ -12,9 +12,10 @@ use Rattle.grid_model.specs.Operations.Table.{put, repl}
 use Rattle.grid_model.specs.Sessions.{State}
 use Rattle.grid_journal.specs.Stands.{StandsFor}
 use Rattle.grid_headline.specs.Worlds.{World}
-use Rattle.grid_headline.specs.Reads.{MeansRequest}
+use Rattle.grid_headline.specs.Reads.{HasRules, MeansRequest}
 use Rattle.grid_headline.specs.Causes.{NoneFailed}
-use Rattle.grid_headline.specs.Served.{BeginsWithRequests, joined_texts}
+use Rattle.grid_headline.specs.Files.{IsKnown}
+use Rattle.grid_headline.specs.Served.{AllPieces, BeginsWithRequests, joined_texts}
 use Rattle.grid_headline.specs.Ends.{RunEnd, read_all, source_failed, too_long, worn, no_memory, disk_failed, sink_failed}
 use Rattle.grid_headline.specs.Ends.{EndsInRequest, EndsAtEnd, ReadsEnded, ReadsMost, HasRecovery, HasRunOut, AllStill, HasOneMore, HasFewOrphans, EndsSwept}
 use Rattle.grid_headline.specs.Headline.{IsGoodEnd}
@@ -32,13 +33,14 @@ ReadsSo asked from to other = ⊥
 
 -- The report and all replies are shown, and main stands for what the requests left.
 pub record IsAnswered {B : Type 0} (old new : World B) (found : Cat) (at : State) (u : Undone found) (h : Handled) : Type 0 where
+  pub all : AllPieces (IsKnown old found) 1 h.done h.pieces
   pub text : IsTrue old.sink.tells → new.sink.holds ≡ (old.sink.holds ++ whole_report found u) ++ joined_texts (replies_of h)
   pub cat : Cat
   pub stands : StandsFor new.main.holds cat
   pub of_run : IsOfRun found cat
   pub grid : grid_of cat ≡ at.grid
-  pub no_rules : at.rules ≡ []
-  pub still : found.pending ≡ None → found.orphans ≡ [] → AllStill (grid_of found) h.begun h.done → HasOneMore old.main.holds new.main.holds
+  pub rules : HasRules cat at.rules
+  pub still : u.rules ≡ [] → found.pending ≡ None → found.orphans ≡ [] → AllStill (grid_of found) h.begun h.done → HasOneMore old.main.holds new.main.holds
   pub few : EndsSwept (state_behind found u h) h.begun h.done (length h.begun) → HasFewOrphans old new cat
 
 -- ---- something ran out or failed
@@ -51,14 +53,14 @@ MakesFile closes = Unit {0}
 MakesFile (executes call) = Unit {0}
 MakesFile other = ⊥
 
--- the request behind those that were handled makes a file
+-- the request behind those that were handled may make a file, by itself or by a rule
 pub record NextMakesFile (input : Text) (at : State) (asked : List Asked) : Type 0 where
   pub next : Asked
   pub first : BeginsWithRequests input (asked ++ next ∷ [])
   pub session : ℕ
   pub order : Order
   pub asks : MeansRequest at next (Ok (session, order))
-  pub makes : MakesFile order
+  pub makes : MakesFile order ⊎ (at.rules ≢ [])
 
 -- why the run needed what had run out
 abbrev pub NeedsSo : Cat → Text → State → List Asked → Wear → Type 0

@@ -15,8 +15,8 @@ use Rattle.grid_headline.specs.Draws.{with_marks}
 use Rattle.grid_headline.specs.Served.{joined_texts, marks_of, reply_texts, report_told, whole_in}
 use Rattle.grid_headline.specs.Numbers.{KeepsNumbers}
 use Rattle.grid_headline.specs.Stops.{AreFirst, IsBeforeRun, KeepsReport}
-use Rattle.grid_headline.specs.Reads.{MeansRequest}
-use Rattle.run_laws.specs.Steps.{WaitsInDeed}
+use Rattle.grid_headline.specs.Reads.{HasRules, MeansRequest}
+use Rattle.run_laws.specs.Steps.{SureTexts, WaitsInDeed}
 use Rattle.run_laws.specs.Undone.{Undone, report_begun, whole_report, recoveries_told}
 
 -- requests with their marks, what each did, and the texts of its marks
@@ -24,14 +24,21 @@ pub record Handled : Type 0 where
   pub begun : List Marked
   pub done : List Done
   pub pieces : List (List Text)
+  -- what is sure of their replies
+  pub sure : Text
 
 -- none
 abbrev pub none_handled : Handled
-none_handled = record { begun = []; done = []; pieces = [] }
+none_handled = record { begun = []; done = []; pieces = []; sure = [] }
 
 -- one more
-abbrev pub with_one : Handled → Marked → Done → List Text → Handled
-with_one h m d ts = record { begun = h.begun ++ m ∷ []; done = h.done ++ d ∷ []; pieces = h.pieces ++ ts ∷ [] }
+abbrev pub with_one : Handled → Marked → Done → SureTexts → Handled
+with_one h m d ts = record {
+  begun = h.begun ++ m ∷ [];
+  done = h.done ++ d ∷ [];
+  pieces = h.pieces ++ ts.pieces ∷ [];
+  sure = h.sure ++ ts.sure;
+}
 
 -- their replies
 abbrev pub replies_of : Handled → List Text
@@ -57,14 +64,12 @@ marks_shown h count =
 -- what the catalogues of a run that was begun have in common
 pub record IsAmidRun (found c : Cat) : Type 0 where
   pub number : c.numbers.run ≡ found.numbers.run + 1
-  pub rules : c.rules ≡ []
   pub keeps : KeepsNumbers found c
   pub stores : c.stores ≡ found.stores
 
 -- and those between its requests
 pub record IsOfRun (found c : Cat) : Type 0 where
   pub number : c.numbers.run ≡ found.numbers.run + 1
-  pub rules : c.rules ≡ []
   pub none : c.pending ≡ None
   pub keeps : KeepsNumbers found c
   pub stores : c.stores ≡ found.stores
@@ -83,14 +88,14 @@ module _ (found : Cat) (u : Undone found) (h : Handled) where
 
   -- the state that the first n requests leave
   abbrev pub state_behind : ℕ → State
-  state_behind n = state_after (begins u.opened.grid []) h.done n
+  state_behind n = state_after (begins u.opened.grid u.rules) h.done n
 
   -- The catalogue is that of the run behind as many requests as are shown or, if these are more, as it says itself.
   pub record IsBehindSome (c : Cat) (count : ℕ) : Type 0 where
     pub of_run : IsOfRun found c
     pub within : reached_by c count ≤ length h.begun
     pub near : c.numbers.last ≤ whole_in (replies_of h) count + 1
-    pub no_rules : (state_behind (reached_by c count)).rules ≡ []
+    pub rules : HasRules c (state_behind (reached_by c count)).rules
     pub grid : grid_of c ≡ (state_behind (reached_by c count)).grid
     -- no mark of a request that is not done is told
     pub untold : c.numbers.last < whole_in (replies_of h) count + 1 → told_within h (whole_in (replies_of h) count) count ≡ []
@@ -110,33 +115,33 @@ module _ (found : Cat) (u : Undone found) (h : Handled) where
     pub of_run : IsAmidRun found c
     pub reached : reached_by c count ≡ n
     pub near : c.numbers.last ≤ whole_in (replies_of h) count + 1
-    pub no_rules : (state_behind n).rules ≡ []
+    pub rules : HasRules c (state_behind n).rules
     pub waits_behind : WaitsBehind c p n
     pub told : AreFirst (told_within h (whole_in (replies_of h) count) count) p.marks
 
   -- What a stop leaves of main, and of the sink that had these bytes before: the run is not begun and no more is shown than what is told
-  -- until then, or main stands for a catalogue of the run, in which the next request may be pending, and a front of the report and the replies
-  -- is shown.
+  -- until then, or main stands for a catalogue of the run, in which the next request may be pending, and a front of the report and of
+  -- what is sure of the replies is shown.
   pub data OneOfRun (old_sink main sink : Text) : Type 0 where
     not_begun : (c : Cat) → StandsFor main c → (part : AddsPart (report_begun found u) old_sink sink) → IsUnbegun found u c part.count
         → OneOfRun old_sink main sink
     in_run : (c : Cat) (part more : Text) → StandsFor main c → sink ≡ old_sink ++ part
-        → whole_report found u ++ joined_texts (replies_of h) ≡ part ++ more
+        → whole_report found u ++ h.sure ≡ part ++ more
         → IsBehindSome c (length part - length (whole_report found u))
         → OneOfRun old_sink main sink
     in_deed_of_run : (c : Cat) (p : Pending) (n : ℕ) (part more : Text) → StandsFor main c → sink ≡ old_sink ++ part
-        → whole_report found u ++ joined_texts (replies_of h) ≡ part ++ more
+        → whole_report found u ++ h.sure ≡ part ++ more
         → IsAmidSome c p n (length part - length (whole_report found u)) → OneOfRun old_sink main sink
 
   -- the marks of this run that are told, where so many bytes were written: those of recoveries, and those of requests
   abbrev pub marks_told : ℕ → List Mark
   marks_told count = recoveries_told found u count ++ marks_shown h (count - length (whole_report found u))
 
--- A front of this report and of the replies is shown, with at least all but the last of these texts.
+-- A front of this report and of what is sure of the replies is shown, with at least all but the last of these texts.
 pub record ShowsMost (report : Text) (h : Handled) (old_sink sink : Text) : Type 0 where
   pub part : Text
   pub more : Text
   pub is : sink ≡ old_sink ++ part
-  pub split : report ++ joined_texts (replies_of h) ≡ part ++ more
+  pub split : report ++ h.sure ≡ part ++ more
   pub report_first : 0 < length h.begun → length report ≤ length part
   pub all_but_one : length h.begun ≤ whole_in (replies_of h) (length part - length report) + 1

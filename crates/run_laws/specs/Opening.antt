@@ -14,6 +14,7 @@ use Rattle.grid_journal.specs.Stands.{StandsFor}
 use Rattle.grid_headline.specs.Causes.{AreCaused}
 use Rattle.grid_headline.specs.Ends.{HasOneMore, HasRecovery}
 use Rattle.grid_headline.specs.Files.{AllStayWhole, DisksAreSettled, IsKnown, KeepsNamed, ReplicasStayNamed, WereWhole}
+use Rattle.grid_headline.specs.Reads.{HasRules}
 use Rattle.grid_headline.specs.Stops.{AreFirst}
 use Rattle.grid_headline.specs.Worlds.{World}
 use Rattle.run_laws.specs.Handled.{IsOfRun, IsUnbegun}
@@ -27,6 +28,7 @@ module _ (found : Cat) (u : Undone found) where
     pub of_run : IsOfRun found c
     pub last : c.numbers.last ≡ 0
     pub grid : grid_of c ≡ u.opened.grid
+    pub rules : HasRules c u.rules
     pub named : KeepsNamed found c
     -- where no recovery was to be done the replicas are those that there were
     pub replicas : ¬ HasRecovery found.pending → (slot name : ℕ) (r : ReplicaRow) → Names found slot name (by_replica r) → Names c slot name (by_replica r)

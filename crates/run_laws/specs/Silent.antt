@@ -2,7 +2,7 @@
 use Rattle.std.specs.Prelude.{◌≡◌, true, [], Ok, IsTrue}
 use Rattle.grid_outside.specs.Device.{IsSettled}
 use Rattle.grid_model.specs.Rows.{Cat}
-use Rattle.grid_model.specs.Orders.{sweeps}
+use Rattle.grid_model.specs.Orders.{quits, sweeps}
 use Rattle.grid_model.specs.Uploads.{is_well}
 use Rattle.grid_model.specs.Working.{Done}
 use Rattle.grid_model.specs.Runs.{Request}
@@ -32,7 +32,8 @@ module _ {B : Type 0} (mid new : World B) (before : Cat) where
     pub main_settled : IsTrue mid.main.tells → IsSettled mid.main → IsSettled new.main
     pub sink_settled : IsTrue mid.sink.tells → IsSettled mid.sink → IsSettled new.sink
 
--- a request that is a sweep, and was answered ok, leaves few orphans
+-- a request that is a sweep, and was answered ok, leaves few orphans; one that ends the input leaves main as it was, whatever rules there are
 abbrev pub LeavesFew : {B : Type 0} → World B → World B → Request → Done → Cat → Type 0
 LeavesFew old new (Ok (session, sweeps)) d after = is_well d.reply.end ≡ true → HasFewOrphans old new after
+LeavesFew old new (Ok (session, quits)) d after = IsTrue old.main.tells → new.main.holds ≡ old.main.holds
 LeavesFew old new other d after = Unit {0}

@@ -14,13 +14,12 @@ use Rattle.grid_model.specs.Completing.{AreClean, EndsByRows}
 use Rattle.grid_model.specs.declared.marks.Mark.{Mark}
 use Rattle.grid_journal.specs.Stands.{StandsFor}
 use Rattle.grid_headline.specs.Worlds.{World}
-use Rattle.grid_headline.specs.Reads.{MeansRequest, EndsInput}
-use Rattle.grid_headline.specs.Served.{AllPieces, NoneSweeps, joined_texts, marks_of, asked_of}
+use Rattle.grid_headline.specs.Reads.{HasRules, MeansRequest, EndsInput}
+use Rattle.grid_headline.specs.Served.{AllPieces, AreSure, NoneSweeps, joined_texts, marks_of, asked_of}
 use Rattle.grid_headline.specs.Files.{IsKnown, AreSettled, DisksAreSettled, WereWhole, AllStayWhole, StayNamed, ReplicasStayNamed}
 use Rattle.grid_headline.specs.Causes.{AreCaused}
 use Rattle.grid_headline.specs.Ends.{AllStill, HasOneMore, HasFewOrphans, HasRecovery, EndsSwept}
 use Rattle.grid_headline.specs.Stops.{AreFirst}
-use Rattle.grid_headline.specs.Headline.{BeginsOn}
 use Rattle.run_laws.specs.Handled.{Handled, replies_of, marks_told, state_behind, IsOfRun, OneOfRun, ShowsMost}
 use Rattle.run_laws.specs.Steps.{Gave, IsToldOf}
 use Rattle.run_laws.specs.Undone.{Undone, whole_report}
@@ -47,19 +46,14 @@ pub record CallsGoOn {B : Type 0} (input : Text) (mid new : World B) (c : Cat) :
   pub whole : KeepsWhole mid new c
   pub names : NoneSweeps input → KeepsNames mid new c
 
--- The run begins on a catalogue without rules.
-pub record BeginsPlainly {B : Type 0} (old : World B) (found : Cat) : Type 0 where
-  pub begin : BeginsOn old found
-  pub rules : found.rules ≡ []
-
--- A run from the first world to the second, over a catalogue without rules: what was undone, the requests that were begun, what they did,
+-- A run from the first world to the second: what was undone, the requests that were begun, what they did,
 -- what is shown of all, what a stop leaves, and that what marks tell has its cause.
 pub record Ran {B : Type 0} (old now : World B) (found : Cat) (at : State) (asked : List Asked) : Type 0 where
   pub undone : Undone found
   pub handled : Handled
   pub asked_are : asked_of handled.begun ≡ asked
-  pub after : After MeansRequest (begins undone.opened.grid []) handled.begun handled.done at
-  pub pieces_are : AllPieces (IsKnown old found) 1 handled.done handled.pieces
+  pub after : After MeansRequest (begins undone.opened.grid undone.rules) handled.begun handled.done at
+  pub are_sure : AreSure (IsKnown old found) handled.done handled.pieces handled.sure
   pub told_of : AllByRecursion (IsToldOf (IsKnown old found) (length old.stores)) (undone.report ++ marks_of handled.begun)
   pub by_rows : AllByRows handled.begun handled.done
   pub went : Went old now
@@ -79,16 +73,18 @@ pub record Sofar {B : Type 0} (old now : World B) (found c : Cat) (at : State) (
   pub ran : Ran old now found at asked
   pub none_end : AllByRecursion (λ a. ¬ EndsInput a) asked
   pub all_drawn : ran.drawn ≡ ran.undone.report ++ marks_of ran.handled.begun
+  pub pieces_are : AllPieces (IsKnown old found) 1 ran.handled.done ran.handled.pieces
+  pub all_sure : ran.handled.sure ≡ joined_texts (replies_of ran.handled)
   pub text : IsTrue old.sink.tells → now.sink.holds ≡ (old.sink.holds ++ whole_report found ran.undone) ++ joined_texts (replies_of ran.handled)
   -- the catalogue
   pub of_run : IsOfRun found c
   pub last : c.numbers.last ≤ length asked
   pub grid : grid_of c ≡ at.grid
-  pub no_rules : at.rules ≡ []
-  -- where nothing was pending, no orphan was found, and all left the grid as it was and told no mark, main has the record with which the run
-  -- was begun more
-  pub still : found.pending ≡ None → found.orphans ≡ [] → AllStill (grid_of found) ran.handled.begun ran.handled.done
-      → HasOneMore old.main.holds now.main.holds × (grid_of c ≡ grid_of found)
+  pub rules : HasRules c at.rules
+  -- where there were no rules, nothing was pending, no orphan was found, and all left the grid and the rules as they were and told no mark, main
+  -- has the record with which the run was begun more
+  pub still : ran.undone.rules ≡ [] → found.pending ≡ None → found.orphans ≡ [] → AllStill (grid_of found) ran.handled.begun ran.handled.done
+      → HasOneMore old.main.holds now.main.holds × (grid_of c ≡ grid_of found) × (at.rules ≡ [])
   -- behind a sweep, or where nothing was asked, few orphans are left
   pub few : EndsSwept (state_behind found ran.undone ran.handled) ran.handled.begun ran.handled.done (length ran.handled.begun) → HasFewOrphans old now c
   -- the disks and the sink

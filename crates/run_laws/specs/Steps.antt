@@ -26,7 +26,8 @@ use Rattle.grid_headline.specs.Files.{IsKnown}
 use Rattle.grid_headline.specs.Numbers.{KeepsNumbers}
 use Rattle.grid_headline.specs.Causes.{AreCaused}
 use Rattle.grid_headline.specs.Draws.{AreSomeOf, told_words, times_of}
-use Rattle.grid_headline.specs.Served.{whole_in}
+use Rattle.grid_headline.specs.Reads.{HasRules}
+use Rattle.grid_headline.specs.Served.{IsSure, whole_in}
 use Rattle.grid_headline.specs.Stops.{AreFirst}
 
 -- ---- the catalogue
@@ -46,7 +47,7 @@ pub record IsLeftBehind (before : Cat) (n : ℕ) (d : Done) (c : Cat) : Type 0 w
   pub grid : grid_of c ≡ d.state.grid
   pub run : c.numbers.run ≡ before.numbers.run
   pub last : c.numbers.last ≡ n
-  pub rules : c.rules ≡ before.rules
+  pub rules : HasRules c d.state.rules
   pub stores : c.stores ≡ before.stores
   pub pending : c.pending ≡ before.pending
   pub keeps : KeepsNumbers before c
@@ -54,7 +55,7 @@ pub record IsLeftBehind (before : Cat) (n : ℕ) (d : Done) (c : Cat) : Type 0 w
 -- the request was kept, or there was nothing to keep: it told no mark, and nothing is seen of it
 pub data ComesAfter (before : Cat) (n : ℕ) (d : Done) : Cat → Type 0 where
   kept : {c : Cat} → IsLeftBehind before n d c → ComesAfter before n d c
-  unseen : {c : Cat} → IsLike before c → d.reply.marks ≡ [] → d.state.grid ≡ grid_of before → ComesAfter before n d c
+  unseen : {c : Cat} → IsLike before c → d.reply.marks ≡ [] → d.state.grid ≡ grid_of before → HasRules before d.state.rules → ComesAfter before n d c
 
 -- ---- a command in its first deed
 
@@ -117,6 +118,11 @@ NotesLine line old new = IsTrue old.main.tells → IsSettled old.main → (t : �
 
 -- ---- images
 
+-- the texts of marks of a reply, and what is sure of it
+pub record SureTexts : Type 0 where
+  pub pieces : List Text
+  pub sure : Text
+
 -- so many bytes of a reply with these pieces tell no mark and are not all of it
 abbrev pub IsUntold : List Text → ℕ → Type 0
 IsUntold [] count = count ≡ 0
@@ -129,14 +135,14 @@ pub record TellsFew (pieces : List Text) (whole marks count : ℕ) : Type 0 wher
 
 -- What a stop leaves of main and of the sink: nothing is seen to be changed and no mark is told, or the request is pending and no more marks
 -- are told than are kept, or main stands for the catalogue behind the request.
-pub data OneOf (at : State) (before : Cat) (n : ℕ) (request : Request) (d : Done) (pieces : List Text) (shown main sink : Text) : Type 0 where
-  not_kept : (c : Cat) → IsLike before c → StandsFor main c → (part : AddsPart (reply_text n d.reply pieces) shown sink)
-      → IsUntold pieces part.count → OneOf at before n request d pieces shown main sink
+pub data OneOf (at : State) (before : Cat) (n : ℕ) (request : Request) (d : Done) (texts : SureTexts) (shown main sink : Text) : Type 0 where
+  not_kept : (c : Cat) → IsLike before c → StandsFor main c → (part : AddsPart texts.sure shown sink)
+      → IsUntold texts.pieces part.count → OneOf at before n request d texts shown main sink
   in_deed_so : (c : Cat) (p : Pending) → IsAmid before c → WaitsInDeed at n request d.reply.marks c p → StandsFor main c
-      → (part : AddsPart (reply_text n d.reply pieces) shown sink)
-      → TellsFew pieces (length (reply_text n d.reply pieces)) (length p.marks) part.count → OneOf at before n request d pieces shown main sink
-  kept_so : (c : Cat) → ComesAfter before n d c → StandsFor main c → AddsPart (reply_text n d.reply pieces) shown sink
-      → OneOf at before n request d pieces shown main sink
+      → (part : AddsPart texts.sure shown sink)
+      → TellsFew texts.pieces (length (reply_text n d.reply texts.pieces)) (length p.marks) part.count → OneOf at before n request d texts shown main sink
+  kept_so : (c : Cat) → ComesAfter before n d c → StandsFor main c → AddsPart texts.sure shown sink
+      → OneOf at before n request d texts shown main sink
 
 -- ---- marks
 
@@ -178,23 +184,28 @@ pub record RequestStep {B : Type 0} (old new : World B) (at : State) (before : C
   pub first : AreFirst taken marks
   pub told_of : IsTrue old.main.tells → AllByRecursion (IsToldOf (IsKnown old before) (length old.stores)) marks
   pub by_rows : AreClean marks → EndsByRows d.reply.end
-  pub pieces : List Text
-  pub pieces_are : ArePieces (IsKnown old before) n d.sent 0 d.reply.marks pieces
-  pub shown : IsTrue old.sink.tells → ShowsFew pieces (reply_text n d.reply pieces) (length taken) old.sink.holds new.sink.holds
+  -- the texts of all of them, or of the first ones, and what is sure of the reply by these
+  pub texts : SureTexts
+  pub are_sure : IsSure (IsKnown old before) n d texts.pieces texts.sure
+  pub shown : IsTrue old.sink.tells → ShowsFew texts.pieces texts.sure (length taken) old.sink.holds new.sink.holds
   pub caused : AreCaused old new marks
   pub gave : IsTrue new.ambient.tells → Gave taken old.ambient new.ambient
   pub images : IsTrue old.main.tells → IsTrue old.sink.tells → IsSettled old.main → IsSettled old.sink → (t : ℕ) (main sink : Text)
-      → old.moments < t → new.main.left t main → new.sink.left t sink → OneOf at before n request d pieces old.sink.holds main sink
+      → old.moments < t → new.main.left t main → new.sink.left t sink → OneOf at before n request d texts old.sink.holds main sink
 
 -- the request asks for no sweep
 abbrev pub RemovesNoFile : Request → Type 0
 RemovesNoFile (Ok (session, sweeps)) = ⊥
 RemovesNoFile other = Unit {0}
 
--- the request calls no rules
-abbrev pub CallsNoRules : Request → Type 0
-CallsNoRules (Ok (session, executes call)) = ⊥
-CallsNoRules other = Unit {0}
+-- the request is no call by itself
+abbrev pub IsNoCall : Request → Type 0
+IsNoCall (Ok (session, executes call)) = ⊥
+IsNoCall other = Unit {0}
+
+-- the request calls no rules: it is no call by itself, and there are no rules
+abbrev pub CallsNoRules : State → Request → Type 0
+CallsNoRules at request = IsNoCall request × (at.rules ≡ [])
 
 -- It was handled whole: this is the catalogue behind it, and this the state.
 pub record IsHandledWhole {B : Type 0} (old new : World B) (at : State) (before : Cat) (n : ℕ) (request : Request)
@@ -203,11 +214,13 @@ pub record IsHandledWhole {B : Type 0} (old new : World B) (at : State) (before 
   pub state : step.d.state ≡ end
   pub grid : grid_of after ≡ end.grid
   pub all_taken : step.taken ≡ step.marks
+  pub pieces_are : ArePieces (IsKnown old before) n step.d.sent 0 step.d.reply.marks step.texts.pieces
   pub follows : ComesAfter before n step.d after
   pub stands : IsTrue old.main.tells → StandsFor new.main.holds after
-  pub text : IsTrue old.sink.tells → new.sink.holds ≡ old.sink.holds ++ reply_text n step.d.reply step.pieces
-  -- where it told no mark, left the grid as it was, was no sweep and called no rules, main is as it was
-  pub still : RemovesNoFile request → CallsNoRules request → step.marks ≡ [] → step.d.state.grid ≡ grid_of before → IsTrue old.main.tells → new.main.holds ≡ old.main.holds
+  pub text : IsTrue old.sink.tells → new.sink.holds ≡ old.sink.holds ++ reply_text n step.d.reply step.texts.pieces
+  -- where it told no mark, left the grid as it was, was no sweep and no call of rules, and there were none and are none, main is as it was
+  pub still : RemovesNoFile request → CallsNoRules at request → step.marks ≡ [] → step.d.state.grid ≡ grid_of before → step.d.state.rules ≡ []
+      → IsTrue old.main.tells → new.main.holds ≡ old.main.holds
   pub main_settled : IsTrue old.main.tells → IsSettled old.main → IsSettled new.main
   pub sink_settled : IsTrue old.sink.tells → IsSettled old.sink → IsSettled new.sink
 

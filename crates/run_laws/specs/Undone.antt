@@ -2,15 +2,19 @@
 use Rattle.std.specs.Prelude.{◌≡◌, ℕ, List, [], ◌++◌, drop}
 use Rattle.grid_model.specs.Names.{Text}
 use Rattle.grid_model.specs.Rows.{Cat}
+use Rattle.grid_model.specs.RuleText.{Rule}
 use Rattle.grid_model.specs.Meanings.{gives}
 use Rattle.grid_model.specs.Reopening.{Unwound, reopened}
 use Rattle.grid_model.specs.declared.marks.Mark.{Mark}
 use Rattle.grid_headline.specs.Draws.{kept_count}
+use Rattle.grid_headline.specs.Reads.{HasRules}
 use Rattle.grid_headline.specs.Served.{joined_texts, report_front, report_back, report_told}
 
 -- The marks of the recoveries of what was pending, behind the kept marks and the added `Stop`, and what they leave: none, and the grid as
--- it was, where nothing was.
+-- it was, where nothing was; and the rules that there are.
 pub record Undone (found : Cat) : Type 0 where
+  pub rules : List Rule
+  pub rules_are : HasRules found rules
   pub report : List Mark
   pub opened : Unwound
   pub opened_is : reopened found report ≡ gives opened

@@ -1,5 +1,5 @@
 -- The commit that begins a run, behind what was prepared.
-use Rattle.std.proofs.Common.{◌≡◌, ◌⊎◌, inl, inr, ℕ, ◌+◌, ◌<◌, ◌≤◌, [], Result, IsTrue, refl, sym, ap, ◌∙◌, subst, arith}
+use Rattle.std.proofs.Common.{◌≡◌, ◌⊎◌, inl, inr, ℕ, ◌+◌, ◌<◌, ◌≤◌, List, [], Result, IsTrue, refl, sym, ap, subst, arith}
 use Rattle.std.specs.Prelude.{⊤}
 use Rattle.std.proofs.lemmas.Bool.{cases_lt}
 use Rattle.grid_outside.specs.Device.{IsSettled}
@@ -7,6 +7,7 @@ use Rattle.grid_outside.specs.Disk.{DiskState}
 use Rattle.grid_outside.proofs.Spans.{same_place}
 use Rattle.grid_model.specs.Names.{Text}
 use Rattle.grid_model.specs.Rows.{Cat}
+use Rattle.grid_model.specs.RuleText.{Rule}
 use Rattle.grid_journal.specs.Journal.{Journal}
 use Rattle.grid_journal.specs.Stands.{StandsEither, StandsFor}
 use Rattle.grid_journal.specs.declared.error.JournalError.{JournalError}
@@ -30,7 +31,8 @@ use Rattle.run_open.specs.Preparing.{Prepared}
 use Rattle.run_open.proofs.Fronts.{begun-part}
 use Rattle.run_open.proofs.Parts.{adds-as}
 
-module _ {B : Type 0} (old mid : World B) (found : Cat) (begin : BeginsOn old found) (no_rules : found.rules ≡ []) (rows : Journal) (rest : Text) (prepared : Prepared old mid found rows rest)
+module _ {B : Type 0} (old mid : World B) (found : Cat) (rules : List Rule) (begin : BeginsOn old found) (rows : Journal) (rest : Text)
+    (prepared : Prepared old mid found rules rows rest)
     (mid_order : AreInOrder mid) (main spare : DiskState) (m : ℕ) (drawn : mid.moments ≤ m) (goes : Goes mid.moments mid.main main) (spare_rests : Rests mid.spare spare)
     (r : Result ⊤ JournalError) (after : Journal) (committed : IsCommitted prepared.kept (run_begun rows.cat) mid.moments rows mid.main main r after) where
   abbrev pub new : World B
@@ -68,7 +70,7 @@ module _ {B : Type 0} (old mid : World B) (found : Cat) (begin : BeginsOn old fo
   is-begun =
       let I : ℕ → Type 0 = λ n. IsBegunWith found before.undone (begun_as rows.cat n) in
       subst I (ap (λ n. n + 1) (sym prepared.run))
-      (begun-with found before.undone rows.cat (prepared.rules ∙ no_rules) prepared.stores prepared.grid prepared.keeps prepared.named prepared.replicas)
+      (begun-with found before.undone rows.cat prepared.rules prepared.stores prepared.grid prepared.keeps prepared.named prepared.replicas)
 
   -- what a stop leaves of main from there on
   either : IsSettled old.main → (t : ℕ) (image : Text) → mid.moments < t → main.left t image → StandsEither kept its image

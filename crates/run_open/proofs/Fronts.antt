@@ -16,8 +16,9 @@ use Rattle.call_laws.specs.Amid.{AreRan}
 use Rattle.call_laws.proofs.Ran.{ran_caused, ran_told}
 use Rattle.call_laws.proofs.Told.{adds_more}
 use Rattle.undo_run.proofs.Completing.{completes}
-use Rattle.run_open.specs.Preparing.{Prepared}
+use Rattle.run_open.specs.Preparing.{OpensOver, Prepared}
 use Rattle.grid_model.specs.Rows.{Cat}
+use Rattle.grid_model.specs.RuleText.{Rule}
 use Rattle.grid_model.specs.declared.deltas.Pending.{Pending}
 use Rattle.grid_model.specs.declared.marks.Mark.{Mark}
 use Rattle.grid_model.specs.declared.marks.Mark.TheVariants.{Stop}
@@ -26,6 +27,7 @@ use Rattle.grid_deed.proofs.Frames.{goes_between, goes_nowhere}
 use Rattle.grid_headline.specs.Files.{AllAreWhole, AllStayWhole, DisksAreSettled, IsKnown, ReplicasStayNamed, WereWhole, KeepsNamed, KeepsReplicas}
 use Rattle.grid_headline.specs.Ends.{HasRecovery}
 use Rattle.grid_headline.specs.Headline.{BeginsOn}
+use Rattle.grid_headline.specs.Reads.{HasRules}
 use Rattle.grid_headline.specs.Served.{joined_texts, report_back, report_front, report_told}
 use Rattle.grid_headline.specs.Stops.{IsSame, KeepsReport}
 use Rattle.grid_headline.specs.Worlds.{World}
@@ -167,36 +169,50 @@ module _ {B : Type 0} (old : World B) (found : Cat) (begin : BeginsOn old found)
 
 -- ---- whatever comes
 
--- what recoveries would leave that all run
-pub some-undone : (found : Cat) → (u : Undone found) × AreRan u.report
-some-undone found = by found.pending refl
+-- what recoveries would leave that all run, over a catalogue with these rules
+pub some-undone : (found : Cat) (rules : List Rule) → HasRules found rules → (u : Undone found) × AreRan u.report × (u.rules ≡ rules)
+some-undone found rules rules_are = by found.pending refl
   where
-    by : (o : Option Pending) → found.pending ≡ o → (u : Undone found) × AreRan u.report
+    by : (o : Option Pending) → found.pending ≡ o → (u : Undone found) × AreRan u.report × (u.rules ≡ rules)
     by None e = (
       record {
+        rules = rules;
+        rules_are = rules_are;
         report = [];
         opened = record { grid = grid_of found; passed = []; left = [] };
         opened_is = ap (λ (q : Option Pending). reopened_by found q []) e;
         opened_all = refl;
       },
       tt,
+      refl,
     )
     by (Some p) e =
         let at : Place = record { user = user_name found p.user; grid = grid_of found; taken = p.marks ++ Stop ∷ []; passed = p.passed } in
-        let c = completes (user_name found p.user) p.undo at in
-        (record { report = c.marks; opened = c.opened; opened_is = ap (λ (q : Option Pending). reopened_by found q c.marks) e ∙ c.opened_is; opened_all = c.opened_all }, c.clean)
+        let c = completes (user_name found p.user) p.undo at in (
+          record {
+            rules = rules;
+            rules_are = rules_are;
+            report = c.marks;
+            opened = c.opened;
+            opened_is = ap (λ (q : Option Pending). reopened_by found q c.marks) e ∙ c.opened_is;
+            opened_all = c.opened_all;
+          },
+          c.clean,
+          refl,
+        )
 
 -- nothing was called
-pub opens-still : {B : Type 0} (old : World B) (found : Cat) → BeginsOn old found → AreInOrder old → Opens old old found
-opens-still old found begin order =
-    let u = some-undone found in
+pub opens-still : {B : Type 0} (old : World B) (found : Cat) (rules : List Rule) → BeginsOn old found → AreInOrder old → HasRules found rules
+    → OpensOver old old found rules
+opens-still old found rules begin order rules_are =
+    let u = some-undone found rules rules_are in
     let none = stays old.moments old.moments (AddsPart (front_of found)) old.sink order.sink_last (omega arith) (adds-none (front_of found)) in
-    opens-front old found begin order old.sink old.moments (omega arith) none u.0 u.1
+    (opens-front old found begin order old.sink old.moments (omega arith) none u.0 u.1, u.2)
 
 -- where nothing is pending all is prepared
-pub prepared-none : {B : Type 0} (old : World B) (c : Cat) → c.pending ≡ None → BeginsOn old c → AreInOrder old → (rows : Journal) → rows.cat ≡ c → IsHeld c old.main rows
-    → Prepared old old c rows []
-prepared-none {B = B} old c none begin order rows = subst P same base begin
+pub prepared-none : {B : Type 0} (old : World B) (c : Cat) (rules : List Rule) → c.pending ≡ None → BeginsOn old c → HasRules c rules → AreInOrder old
+    → (rows : Journal) → rows.cat ≡ c → IsHeld c old.main rows → Prepared old old c rules rows []
+prepared-none {B = B} old c rules none begin rules_are order rows = subst P same base begin rules_are
   where
     found : Cat
     found = record c { pending = None }
@@ -205,19 +221,27 @@ prepared-none {B = B} old c none begin order rows = subst P same base begin
     same i = record c { pending = sym none i }
 
     P : Cat → Type 0
-    P f = BeginsOn old f → rows.cat ≡ f → IsHeld f old.main rows → Prepared old old f rows []
+    P f = BeginsOn old f → HasRules f rules → rows.cat ≡ f → IsHeld f old.main rows → Prepared old old f rules rows []
 
-    u : Undone found
-    u = record { report = []; opened = record { grid = grid_of found; passed = []; left = [] }; opened_is = refl; opened_all = refl }
+    u : HasRules found rules → Undone found
+    u its = record {
+      rules = rules;
+      rules_are = its;
+      report = [];
+      opened = record { grid = grid_of found; passed = []; left = [] };
+      opened_is = refl;
+      opened_all = refl;
+    }
 
     base : P found
-    base begin is held = record {
+    base begin its is held = record {
       opens = opens-front old found begin order old.sink old.moments (omega arith)
-          (stays old.moments old.moments (AddsPart (front_of found)) old.sink order.sink_last (omega arith) (adds-none (front_of found))) u tt;
+          (stays old.moments old.moments (AddsPart (front_of found)) old.sink order.sink_last (omega arith) (adds-none (front_of found))) (u its) tt;
+      rules_are = refl;
       all = refl;
       kept = found;
       held = held;
-      unbegun = λ tells settled of_sink. (adds-none (report_begun found u) old.sink.holds, unbegun_found found u 0 (omega arith));
+      unbegun = λ tells settled of_sink. (adds-none (report_begun found (u its)) old.sink.holds, unbegun_found found (u its) 0 (omega arith));
       grid = ap grid_of is;
       run = ap (λ (x : Cat). x.numbers.run) is;
       rules = ap (λ (x : Cat). x.rules) is;

@@ -7,6 +7,7 @@ use Rattle.grid_outside.specs.Sink.{AddsPart, SinkState}
 use Rattle.grid_outside.proofs.Spans.{same_place, since_settled}
 use Rattle.grid_model.specs.Names.{Text}
 use Rattle.grid_model.specs.Rows.{Cat}
+use Rattle.grid_model.specs.RuleText.{Rule}
 use Rattle.grid_model.specs.declared.marks.Mark.{Mark}
 use Rattle.grid_journal.specs.Journal.{Journal}
 use Rattle.grid_journal.specs.Stands.{StandsFor}
@@ -31,18 +32,19 @@ use Rattle.run_open.proofs.Begins as begins
 use Rattle.run_open.proofs.Fronts.{begun-part}
 use Rattle.run_open.proofs.Parts.{adds-rest}
 
-module _ {B : Type 0} (old mid : World B) (found : Cat) (begin : BeginsOn old found) (no_rules : found.rules ≡ []) (rows : Journal) (rest : Text) (prepared : Prepared old mid found rows rest)
+module _ {B : Type 0} (old mid : World B) (found : Cat) (rules : List Rule) (begin : BeginsOn old found) (rows : Journal) (rest : Text)
+    (prepared : Prepared old mid found rules rows rest)
     (mid_order : AreInOrder mid) (main spare : DiskState) (m : ℕ) (drawn : mid.moments ≤ m) (main_last : main.last ≤ m) (goes : Goes mid.moments mid.main main) (spare_rests : Rests mid.spare spare)
     (after : Journal) (committed : IsCommitted prepared.kept (run_begun rows.cat) mid.moments rows mid.main main (Ok tt) after)
     (sink : SinkState) (n : ℕ) (later : m ≤ n) (told : Between m n (AddsPart rest) mid.sink sink) where
   abbrev now : World B
-  now = begins.new old mid found begin no_rules rows rest prepared mid_order main spare m drawn goes spare_rests (Ok tt) after committed
+  now = begins.new old mid found rules begin rows rest prepared mid_order main spare m drawn goes spare_rests (Ok tt) after committed
 
   abbrev pub last : World B
   last = record mid { main = main; spare = spare; moments = n; sink = sink }
 
   abbrev one : Opens old now found
-  one = begins.opens-begun old mid found begin no_rules rows rest prepared mid_order main spare m drawn goes spare_rests (Ok tt) after committed
+  one = begins.opens-begun old mid found rules begin rows rest prepared mid_order main spare m drawn goes spare_rests (Ok tt) after committed
 
   mid_tells : IsTrue mid.main.tells
   mid_tells = subst IsTrue (sym prepared.opens.went.main.tells) begin.main_tells
@@ -80,7 +82,7 @@ module _ {B : Type 0} (old mid : World B) (found : Cat) (begin : BeginsOn old fo
   stands-begun = held_stands (run_begun rows.cat) main after committed.ends.held (subst IsTrue (sym goes.tells) mid_tells)
 
   begun-with : IsBegunWith found one.undone (run_begun rows.cat)
-  begun-with = begins.is-begun old mid found begin no_rules rows rest prepared mid_order main spare m drawn goes spare_rests (Ok tt) after committed
+  begun-with = begins.is-begun old mid found rules begin rows rest prepared mid_order main spare m drawn goes spare_rests (Ok tt) after committed
 
   pub images-last : IsTrue old.sink.tells → IsSettled old.main → IsSettled old.sink → (t : ℕ) (image shown : Text) → old.moments < t → main.left t image → sink.left t shown
       → OneOfOpening found one.undone old.sink.holds image shown
@@ -119,17 +121,20 @@ module _ {B : Type 0} (old mid : World B) (found : Cat) (begin : BeginsOn old fo
 
   -- the whole report is
   pub opened-last : (IsTrue mid.sink.tells → sink.holds ≡ mid.sink.holds ++ rest) → (IsTrue mid.sink.tells → IsSettled mid.sink → IsSettled sink) → HasOneMore mid.main.holds main.holds
-      → Opened old last found after.cat
+      → (opened : Opened old last found after.cat) × (opened.opens.undone.rules ≡ rules)
   opened-last whole_rest settles more =
-      let O : Cat → Type 0 = λ c. Opened old last found c in
-      subst O (sym committed.ends.cat) (record {
-        opens = opens-last;
-        all = prepared.all;
-        text = λ tells. whole_rest (sink_tells tells) ∙ prepared.text tells;
-        begun = begun-with;
-        stands = stands-begun;
-        settled = λ settled. committed.ends.settled mid_tells;
-        sink_settled = λ tells settled. settles (sink_tells tells) (prepared.sink_settled tells settled);
-        one = λ none. subst (λ (x : Text). HasOneMore x main.holds) (prepared.none none).1 more;
-        orphans = λ none. ap (λ (c : Cat). c.orphans) (prepared.none none).0;
-      })
+      let O : Cat → Type 0 = λ c. (opened : Opened old last found c) × (opened.opens.undone.rules ≡ rules) in
+      subst O (sym committed.ends.cat) (
+        record {
+          opens = opens-last;
+          all = prepared.all;
+          text = λ tells. whole_rest (sink_tells tells) ∙ prepared.text tells;
+          begun = begun-with;
+          stands = stands-begun;
+          settled = λ settled. committed.ends.settled mid_tells;
+          sink_settled = λ tells settled. settles (sink_tells tells) (prepared.sink_settled tells settled);
+          one = λ none. subst (λ (x : Text). HasOneMore x main.holds) (prepared.none none).1 more;
+          orphans = λ none. ap (λ (c : Cat). c.orphans) (prepared.none none).0;
+        },
+        prepared.rules_are,
+      )

@@ -8,6 +8,7 @@ use Rattle.grid_outside.specs.declared.outside.Wear.TheVariants as wear
 use Rattle.grid_model.specs.Names.{Text}
 use Rattle.grid_model.specs.ReplyTexts.{report_rest}
 use Rattle.grid_model.specs.Rows.{Cat}
+use Rattle.grid_model.specs.RuleText.{Rule}
 use Rattle.grid_model.specs.Whole.{Names, by_replica}
 use Rattle.grid_model.specs.declared.calls.Call.{Call}
 use Rattle.grid_model.specs.declared.deltas.Pending.{Pending}
@@ -36,7 +37,7 @@ use Rattle.service_run.specs.declared.ending.Ending.TheVariants as ending
 use Rattle.call_laws.proofs.Told.{adds_behind, adds_more, lines-append}
 use Rattle.undo_run.specs.Undoing.{Undoes, IsOut}
 use Rattle.run_open.specs.Errors.{error_by}
-use Rattle.run_open.specs.Preparing.{OpenStops, Prepared}
+use Rattle.run_open.specs.Preparing.{OpenStops, OpensOver, Prepared}
 use Rattle.run_open.proofs.Fronts.{any_spare, front_of, images-told, named-told, told_world, went-told, whole-told}
 use Rattle.run_open.proofs.Parts.{adds-as}
 use Rattle.run_open.proofs.ToldMarks.{front-split, recoveries-told}
@@ -84,7 +85,8 @@ module _ {B : Type 0} (old : World B) (base : Cat) (p : Pending) where
       there = record { store = known.there.store; is = known.there.is; tells = known.there.tells };
     }
 
-    module _ (new : World B) (went : Went mid new) (result : Result ⊤ Ending) (y : Command) (after : Journal) (undoes : Undoes mid new found p result y after) where
+    module _ (new : World B) (went : Went mid new) (rules : List Rule) (result : Result ⊤ Ending) (y : Command) (after : Journal)
+        (undoes : Undoes mid new found p rules result y after) where
       abbrev u : Undone found
       u = undoes.undone
 
@@ -169,14 +171,17 @@ module _ {B : Type 0} (old : World B) (base : Cat) (p : Pending) where
       }
 
     -- all recoveries were run
-    module _ (new : World B) (went : Went mid new) (new_last : new.main.last ≤ new.moments) (new_sink_last : new.sink.last ≤ new.moments) (y : Command) (after : Journal) where
-      pub undo_done : (undoes : Undoes mid new found p (Ok tt) y after) → (p.undo ≡ [] → after.cat ≡ found) → (rest : Text) → rest ≡ y.untold ++ report_rest y.number y.passed → Prepared old new found after rest
+    module _ (new : World B) (went : Went mid new) (new_last : new.main.last ≤ new.moments) (new_sink_last : new.sink.last ≤ new.moments) (rules : List Rule)
+        (y : Command) (after : Journal) where
+      pub undo_done : (undoes : Undoes mid new found p rules (Ok tt) y after) → (p.undo ≡ [] → after.cat ≡ found) → (rest : Text)
+          → rest ≡ y.untold ++ report_rest y.number y.passed → Prepared old new found rules after rest
       undo_done undoes same rest rest_is =
           let d = undoes.ends.1 in
           let u = undoes.undone in
           let kept = undoes.ends.0 in
           record {
-            opens = opens-undone new went (Ok tt) y after undoes;
+            opens = opens-undone new went rules (Ok tt) y after undoes;
+            rules_are = undoes.rules_are;
             all = d.all;
             kept = kept;
             held = d.held;
@@ -195,7 +200,7 @@ module _ {B : Type 0} (old : World B) (base : Cat) (p : Pending) where
             none = λ none. absurd (cc none);
           }
         where
-          text_is : (undoes : Undoes mid new found p (Ok tt) y after) → IsTrue old.sink.tells → new.sink.holds ++ rest ≡ old.sink.holds ++ whole_report found undoes.undone
+          text_is : (undoes : Undoes mid new found p rules (Ok tt) y after) → IsTrue old.sink.tells → new.sink.holds ++ rest ≡ old.sink.holds ++ whole_report found undoes.undone
           text_is undoes tells =
               let d = undoes.ends.1 in
               let u = undoes.undone in
@@ -210,7 +215,7 @@ module _ {B : Type 0} (old : World B) (base : Cat) (p : Pending) where
               ∙ append_assoc old.sink.holds (report_begun found u) back
 
           -- what main has is before the run is begun
-          unbegun_kept : (undoes : Undoes mid new found p (Ok tt) y after) → IsTrue old.sink.tells → IsSettled old.main → IsSettled old.sink
+          unbegun_kept : (undoes : Undoes mid new found p rules (Ok tt) y after) → IsTrue old.sink.tells → IsSettled old.main → IsSettled old.sink
               → (part : AddsPart (report_begun found undoes.undone) old.sink.holds new.sink.holds) × IsUnbegun found undoes.undone undoes.ends.0 part.count
           unbegun_kept undoes tells settled of_sink =
               let t = new.moments + 1 in
@@ -220,37 +225,37 @@ module _ {B : Type 0} (old : World B) (base : Cat) (p : Pending) where
               let one = undoes.images begin.main_tells (mid_tells tells) settled (sink_settled tells of_sink) t new.main.holds new.sink.holds (omega (arith, went.drawn))
               (new.main.now main_told t (omega (arith, new_last))) (new.sink.now sink_told t (omega (arith, new_sink_last))) in
               let is : one.cat ≡ kept = the_catalogue new.main.holds [] kept one.cat (held_stands kept new.main after undoes.ends.1.held main_told []) (one.stands []) in
-              let part = lines-part new went (Ok tt) y after undoes sink.holds new.sink.holds (all tells) one.part in
+              let part = lines-part new went rules (Ok tt) y after undoes sink.holds new.sink.holds (all tells) one.part in
               (part, subst (λ (c : Cat). IsUnbegun found undoes.undone c part.count) is one.unbegun)
 
 -- ---- over the catalogue that was found
 
 module _ {B : Type 0} (old : World B) (c : Cat) (p : Pending) (pending : c.pending ≡ Some p) (begin : BeginsOn old c) (order : AreInOrder old) (sink : SinkState) (m : ℕ) (drawn : old.moments ≤ m)
     (told : Between old.moments m (AddsPart (front_of c)) old.sink sink) (all : IsTrue old.sink.tells → sink.holds ≡ old.sink.holds ++ front_of c) (sink_settled : IsTrue old.sink.tells → IsSettled old.sink → IsSettled sink)
-    (new : World B) (went : Went (record old { sink = sink; moments = m }) new) (y : Command) (after : Journal) where
+    (new : World B) (went : Went (record old { sink = sink; moments = m }) new) (rules : List Rule) (y : Command) (after : Journal) where
   same : record c { pending = Some p } ≡ c
   same i = record c { pending = sym pending i }
 
   -- recoveries were run, or how far that came
-  pub opens-at : (r : Result ⊤ Ending) → Undoes (record old { sink = sink; moments = m }) new c p r y after → Opens old new c
+  pub opens-at : (r : Result ⊤ Ending) → Undoes (record old { sink = sink; moments = m }) new c p rules r y after → OpensOver old new c rules
   opens-at r = subst P same base begin told all
     where
       P : Cat → Type 0
       P f = BeginsOn old f → Between old.moments m (AddsPart (front_of f)) old.sink sink → (IsTrue old.sink.tells → sink.holds ≡ old.sink.holds ++ front_of f)
-          → Undoes (record old { sink = sink; moments = m }) new f p r y after → Opens old new f
+          → Undoes (record old { sink = sink; moments = m }) new f p rules r y after → OpensOver old new f rules
 
       base : P (record c { pending = Some p })
-      base begin told all undoes = opens-undone old c p begin order sink m drawn told all sink_settled new went r y after undoes
+      base begin told all undoes = (opens-undone old c p begin order sink m drawn told all sink_settled new went rules r y after undoes, undoes.rules_are)
 
   -- all were
-  pub prepared-at : new.main.last ≤ new.moments → new.sink.last ≤ new.moments → Undoes (record old { sink = sink; moments = m }) new c p (Ok tt) y after → (p.undo ≡ [] → after.cat ≡ c)
-      → (rest : Text) → rest ≡ y.untold ++ report_rest y.number y.passed → Prepared old new c after rest
+  pub prepared-at : new.main.last ≤ new.moments → new.sink.last ≤ new.moments → Undoes (record old { sink = sink; moments = m }) new c p rules (Ok tt) y after
+      → (p.undo ≡ [] → after.cat ≡ c) → (rest : Text) → rest ≡ y.untold ++ report_rest y.number y.passed → Prepared old new c rules after rest
   prepared-at main_last sink_last = subst P same base begin told all
     where
       P : Cat → Type 0
       P f = BeginsOn old f → Between old.moments m (AddsPart (front_of f)) old.sink sink → (IsTrue old.sink.tells → sink.holds ≡ old.sink.holds ++ front_of f)
-          → Undoes (record old { sink = sink; moments = m }) new f p (Ok tt) y after → (p.undo ≡ [] → after.cat ≡ f)
-          → (rest : Text) → rest ≡ y.untold ++ report_rest y.number y.passed → Prepared old new f after rest
+          → Undoes (record old { sink = sink; moments = m }) new f p rules (Ok tt) y after → (p.undo ≡ [] → after.cat ≡ f)
+          → (rest : Text) → rest ≡ y.untold ++ report_rest y.number y.passed → Prepared old new f rules after rest
 
       base : P (record c { pending = Some p })
-      base begin told all = undo_done old c p begin order sink m drawn told all sink_settled new went main_last sink_last y after
+      base begin told all = undo_done old c p begin order sink m drawn told all sink_settled new went main_last sink_last rules y after

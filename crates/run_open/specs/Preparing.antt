@@ -1,10 +1,11 @@
 -- What is done before a run is begun: what is pending is told and undone.
-use Rattle.std.specs.Prelude.{◌≡◌, ◌≢◌, ℕ, ◌-◌, ◌^◌, ◌<◌, ◌≤◌, ◌++◌, None, Result, Ok, Err, IsTrue}
+use Rattle.std.specs.Prelude.{◌≡◌, ◌≢◌, ℕ, ◌-◌, ◌^◌, ◌<◌, ◌≤◌, ◌++◌, List, None, Result, Ok, Err, IsTrue}
 use Rattle.grid_outside.specs.Device.{IsSettled}
 use Rattle.grid_outside.specs.Disk.{DiskState}
 use Rattle.grid_outside.specs.Sink.{AddsPart}
 use Rattle.grid_model.specs.Names.{Text}
 use Rattle.grid_model.specs.Rows.{Cat}
+use Rattle.grid_model.specs.RuleText.{Rule}
 use Rattle.grid_model.specs.RowGrids.{grid_of}
 use Rattle.grid_model.specs.Whole.{Names, by_replica}
 use Rattle.grid_model.specs.declared.deltas.ReplicaRow.{ReplicaRow}
@@ -26,10 +27,15 @@ use Rattle.run_open.specs.declared.error.OpenError.TheVariants as error
 abbrev pub HasRoom : Cat → DiskState → Type 0
 HasRoom found main = (found.numbers.run ≢ 2 ^ 64 - 1) × (IsTrue main.tells → (place : ℕ) → ClosesAt main.holds place → place ≤ 2 ^ 62)
 
-module _ {B : Type 0} (old now : World B) (found : Cat) where
+module _ {B : Type 0} (old now : World B) (found : Cat) (these : List Rule) where
+  -- how far the opening came, over a catalogue with these rules
+  abbrev pub OpensOver : Type 0
+  OpensOver = (opens : Opens old now found) × (opens.undone.rules ≡ these)
+
   -- All of it was done: this is what memory has now, and this text is still to be told once the run is begun.
   pub record Prepared (after : Journal) (rest : Text) : Type 0 where
     pub opens : Opens old now found
+    pub rules_are : opens.undone.rules ≡ these
     pub all : opens.taken ≡ opens.undone.report
     pub kept : Cat
     pub held : IsHeld kept now.main after
@@ -43,7 +49,8 @@ module _ {B : Type 0} (old now : World B) (found : Cat) where
     pub stores : after.cat.stores ≡ found.stores
     pub keeps : KeepsNumbers found after.cat
     pub named : KeepsNamed found after.cat
-    pub replicas : ¬ HasRecovery found.pending → (slot name : ℕ) (r : ReplicaRow) → Names found slot name (by_replica r) → Names after.cat slot name (by_replica r)
+    pub replicas : ¬ HasRecovery found.pending → (slot name : ℕ) (r : ReplicaRow) → Names found slot name (by_replica r)
+        → Names after.cat slot name (by_replica r)
     pub whole_now : DisksAreSettled old → WereWhole old old.moments found → (t : ℕ) → now.moments < t → AreWhole now.plugin t after.cat now.stores
     -- main and the sink
     pub settled : IsSettled old.main → IsSettled now.main
@@ -55,7 +62,7 @@ module _ {B : Type 0} (old now : World B) (found : Cat) where
   -- how that ended
   abbrev pub Prepares : Result Text OpenError → Journal → Type 0
   Prepares (Ok rest) after = Prepared after rest
-  Prepares (Err e) after = Opens old now found
+  Prepares (Err e) after = OpensOver
 
 -- What has run out: the number of runs, before anything was done; that of vault files, where a recovery was to be done; or the room of the
 -- log.

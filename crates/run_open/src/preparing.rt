@@ -1,12 +1,14 @@
-ghost use Rattle.std.specs.Prelude.{◌≡◌, ◌+◌, ◌++◌, ◌^◌, ◌≤◌, [], None, Some, IsErrOf, IsTrue, IfOk, OnOk, vec_len};
+ghost use Rattle.std.specs.Prelude.{◌≡◌, ◌+◌, ◌++◌, ◌^◌, ◌≤◌, List, [], None, Some, IsErrOf, IsTrue, IfOk, OnOk, vec_len};
 ghost use Rattle.grid_outside.specs.Source.{SourceState};
 ghost use Rattle.grid_model.specs.ReplyTexts.{report_rest};
 ghost use Rattle.grid_model.specs.Rows.{Cat};
+ghost use Rattle.grid_model.specs.RuleText.{Rule};
 ghost use Rattle.grid_model.specs.declared.deltas.Pending.{Pending as PendingOf};
 ghost use Rattle.grid_deed.specs.Held.{IsHeld};
+ghost use Rattle.grid_headline.specs.Headline.{BeginsOn};
+ghost use Rattle.grid_headline.specs.Reads.{HasRules};
 ghost use Rattle.run_laws.specs.Around.{around};
 ghost use Rattle.run_laws.specs.Passes.{AreReady, CallsPass};
-ghost use Rattle.run_laws.specs.Sofar.{BeginsPlainly};
 ghost use Rattle.run_laws.specs.Went.{AreInOrder};
 ghost use Rattle.undo_run.specs.Undoing.{stopped_command, told_before};
 ghost use Rattle.run_open.specs.Preparing.{OpenStops, Prepares};
@@ -32,11 +34,12 @@ pub(crate) fn prepare<D: Disk, K: Sink, A: Ambient, P: Plugin>(
     sink: &mut K,
 ) -> Result<Text, OpenError>
     requires held { IsHeld store.old.cat (D.disk outside.old.main) store.old }
+    requires rules { (rules : List Rule) × HasRules store.old.cat rules }
     requires slots { store.old.cat.stores ≡ vec_len outside.old.stores }
     requires ready { AreReady D.disk P.plugin K.sink (2 ^ 120 + 1) (record { outside = outside.old; sink = sink.old }) }
-    ensures prepares { (source : SourceState) → let old = around D.disk A.ambient P.plugin outside.old (K.sink sink.old) source in
-        AreInOrder old → BeginsPlainly old store.old.cat →
-        Prepares old (around D.disk A.ambient P.plugin outside.new (K.sink sink.new) source) store.old.cat result store.new }
+    ensures prepares { (source : SourceState) (rules : List Rule) → let old = around D.disk A.ambient P.plugin outside.old (K.sink sink.old) source in
+        AreInOrder old → BeginsOn old store.old.cat → HasRules store.old.cat rules →
+        Prepares old (around D.disk A.ambient P.plugin outside.new (K.sink sink.new) source) store.old.cat rules result store.new }
     ensures stops { (e : Error) → IsErrOf result e → OpenStops store.old.cat (D.disk outside.old.main) (D.disk outside.new.main) e }
     ensures held { OnOk result ((kept : Cat) × IsHeld kept (D.disk outside.new.main) store.new) }
     ensures rows { OnOk result ((store.new.cat.numbers.run ≡ store.old.cat.numbers.run) × (store.new.cat.rules ≡ store.old.cat.rules)
@@ -78,12 +81,13 @@ fn undo_stopped<D: Disk, K: Sink, A: Ambient, P: Plugin>(
     undo: Calls,
 ) -> Result<Text, OpenError>
     requires held { IsHeld store.old.cat (D.disk outside.old.main) store.old }
+    requires rules { (rules : List Rule) × HasRules store.old.cat rules }
     requires stopped { (p : PendingOf) × (store.old.cat.pending ≡ Some p) × (command ≡ stopped_command p) × (undo ≡ p.undo) × (front.now ≡ told_before p) }
     requires slots { store.old.cat.stores ≡ vec_len outside.old.stores }
     requires ready { AreReady D.disk P.plugin K.sink (2 ^ 120 + 1) (record { outside = outside.old; sink = sink.old }) }
-    ensures prepares { (source : SourceState) → let old = around D.disk A.ambient P.plugin outside.old (K.sink sink.old) source in
-        AreInOrder old → BeginsPlainly old store.old.cat →
-        Prepares old (around D.disk A.ambient P.plugin outside.new (K.sink sink.new) source) store.old.cat result store.new }
+    ensures prepares { (source : SourceState) (rules : List Rule) → let old = around D.disk A.ambient P.plugin outside.old (K.sink sink.old) source in
+        AreInOrder old → BeginsOn old store.old.cat → HasRules store.old.cat rules →
+        Prepares old (around D.disk A.ambient P.plugin outside.new (K.sink sink.new) source) store.old.cat rules result store.new }
     ensures stops { (e : Error) → IsErrOf result e → OpenStops store.old.cat (D.disk outside.old.main) (D.disk outside.new.main) e }
     ensures held { OnOk result ((kept : Cat) × IsHeld kept (D.disk outside.new.main) store.new) }
     ensures rows { OnOk result ((store.new.cat.numbers.run ≡ store.old.cat.numbers.run) × (store.new.cat.rules ≡ store.old.cat.rules)

@@ -2,6 +2,8 @@ pub mod Changes
 pub mod Commands
 pub mod Copying
 pub mod Errors
+pub mod NotedCalls
 pub mod Noting
+pub mod SentFiles
 pub mod Steps
 pub mod Sums

@@ -2,6 +2,7 @@ mod catalogues;
 mod fronts;
 mod images;
 mod pendings;
+mod policies;
 mod recoveries;
 mod reopening;
 mod reports;

@@ -16,6 +16,7 @@ use Rattle.grid_model.specs.Deltas.{all_fit, call as call_parts, mark as mark_pa
 use Rattle.grid_model.specs.Doing.{do_call}
 use Rattle.grid_model.specs.Rows.{Cat}
 use Rattle.grid_model.specs.RowGrids.{user_name}
+use Rattle.grid_model.specs.RuleText.{Rule}
 use Rattle.grid_model.specs.declared.calls.Call.{Call}
 use Rattle.grid_model.specs.declared.deltas.Delta.TheVariants as delta
 use Rattle.grid_model.specs.declared.deltas.Pending.{Pending}
@@ -24,6 +25,7 @@ use Rattle.grid_model.specs.declared.marks.Mark.TheVariants.{Stop}
 use Rattle.grid_model.specs.declared.refusal.Failure.{Failure}
 use Rattle.grid_journal.specs.Journal.{IsSpelledPending, Journal, can_be_kept}
 use Rattle.grid_deed.specs.Held.{IsHeld}
+use Rattle.grid_headline.specs.Reads.{HasRules}
 use Rattle.grid_headline.specs.Worlds.{World}
 use Rattle.run_laws.specs.Passes.{AreReady, CallsPass, Seen}
 use Rattle.chain_core.specs.Answers.{failure_in}
@@ -154,10 +156,11 @@ module _ {D A P K : Type 0} (disk : D → DiskState) (ambient : A → AmbientSta
     pub passes_done : (failed sink_failed : Type 0) → (¬ failed) → (¬ sink_failed) → CallsPass disk plugin sink failed sink_failed from mid
     passes_done failed sink_failed well sunk = passes_well disk plugin sink ⊥ ⊥ failed sink_failed from mid (λ e. e) well sunk are.amid.passes
 
-    pub undoes_all : left ≡ [] → Undoes (world disk ambient plugin sink source from) (world disk ambient plugin sink source mid) found p (Ok tt) y rows
-    undoes_all none =
+    pub undoes_all : (rules : List Rule) → HasRules found rules → left ≡ []
+        → Undoes (world disk ambient plugin sink source from) (world disk ambient plugin sink source mid) found p rules (Ok tt) y rows
+    undoes_all rules rules_are none =
         let I : List Call → Type 0 = λ us. AreAmid disk ambient plugin sink source from found p mid us y rows taken in
-        undoes_done disk ambient plugin sink source from found p mid y rows taken (subst I none are)
+        undoes_done disk ambient plugin sink source from found p rules rules_are mid y rows taken (subst I none are)
 
   pub amid_left : (found : Cat) (p : Pending) (at : Seen D A P K) (cs calls : List Call) (y : Command) (rows : Journal) → calls ≡ cs
       → (next : List Mark) × AreAmid disk ambient plugin sink source from found p at cs y rows next
@@ -182,10 +185,10 @@ module _ {D A P K : Type 0} (disk : D → DiskState) (ambient : A → AmbientSta
         → RunsOne at_mid at_new are.amid.holds.cat rows y c left after z
         → (next : List Mark) × AreAmid disk ambient plugin sink source from found p new cs z after next
 
-    Cuts : Ending → List Call → Type 0
-    Cuts e left = (are : AreAmid disk ambient plugin sink source from found p mid left y rows taken)
+    Cuts : List Rule → Ending → List Call → Type 0
+    Cuts rules e left = (are : AreAmid disk ambient plugin sink source from found p mid left y rows taken)
         → IsCut at_mid at_new are.amid.holds.cat rows y c left after z e
-        → Undoes (world disk ambient plugin sink source from) at_new found p (Err e) z after
+        → Undoes (world disk ambient plugin sink source from) at_new found p rules (Err e) z after
 
     last_of : {left : List Call} → AreAmid disk ambient plugin sink source from found p mid left y rows taken
         → (disk mid.outside.main).last ≤ mid.outside.moments
@@ -214,15 +217,17 @@ module _ {D A P K : Type 0} (disk : D → DiskState) (ambient : A → AmbientSta
         let I : Command → Type 0 = λ x. AreAmid disk ambient plugin sink source from found p new cs x after (taken ++ runs.step.ends.marks) in
         (taken ++ runs.step.ends.marks, subst I (sym runs.over) next)
 
-    cuts_last : (e : Ending) → CallsPass disk plugin sink (IsErrOf {T = ⊤} (Err e) ending.Disk) (IsErrOf {T = ⊤} (Err e) ending.Sink) mid new
-        → Cuts e (cs ++ c ∷ [])
+    cuts_last : (rules : List Rule) → HasRules found rules → (e : Ending)
+        → CallsPass disk plugin sink (IsErrOf {T = ⊤} (Err e) ending.Disk) (IsErrOf {T = ⊤} (Err e) ending.Sink) mid new
+        → Cuts rules e (cs ++ c ∷ [])
     unfolding Cuts
-    cuts_last e passes are (cut step) =
-        undoes_failed disk ambient plugin sink source from found p mid new cs c y rows taken are (last_of are) z after e _ _ passes step
-    cuts_last e passes are (ran_out ran left step) =
+    cuts_last rules rules_are e passes are (cut step) =
+        undoes_failed disk ambient plugin sink source from found p rules rules_are mid new cs c y rows taken are (last_of are) z after e _ _ passes step
+    cuts_last rules rules_are e passes are (ran_out ran left step) =
         let well = passes_well disk plugin sink _ _ ⊥ ⊥ mid new (λ is. cc) (λ e. e) (λ e. e) passes in
         let next = next_of left ran well are step in
-        undoes_amid disk ambient plugin sink source from found p new cs (passed_over left c (failure_in ran)) after (taken ++ step.ends.marks) next z after
+        undoes_amid disk ambient plugin sink source from found p rules rules_are new cs (passed_over left c (failure_in ran)) after (taken ++ step.ends.marks)
+        next z after
 
     -- the last of these was run
     pub round_done : (left : List Call) → left ≡ cs ++ c ∷ [] → (failed sink_failed : Type 0) → (¬ failed)
@@ -233,9 +238,9 @@ module _ {D A P K : Type 0} (disk : D → DiskState) (ambient : A → AmbientSta
     round_done left split failed sink_failed well passes = subst Runs (sym split) (runs_last failed sink_failed well passes)
 
     -- it was cut short, or could not be noted
-    pub round_cut : (left : List Call) → left ≡ cs ++ c ∷ [] → (e : Ending)
+    pub round_cut : (rules : List Rule) → HasRules found rules → (left : List Call) → left ≡ cs ++ c ∷ [] → (e : Ending)
         → CallsPass disk plugin sink (IsErrOf {T = ⊤} (Err e) ending.Disk) (IsErrOf {T = ⊤} (Err e) ending.Sink) mid new
         → (are : AreAmid disk ambient plugin sink source from found p mid left y rows taken) → IsCut at_mid at_new are.amid.holds.cat rows y c left after z e
-        → Undoes (world disk ambient plugin sink source from) at_new found p (Err e) z after
+        → Undoes (world disk ambient plugin sink source from) at_new found p rules (Err e) z after
     unfolding Cuts
-    round_cut left split e passes = subst (Cuts e) (sym split) (cuts_last e passes)
+    round_cut rules rules_are left split e passes = subst (Cuts rules e) (sym split) (cuts_last rules rules_are e passes)

@@ -10,6 +10,7 @@ use Rattle.grid_outside.specs.declared.outside.Wear.TheVariants as wear
 use Rattle.grid_model.specs.Names.{Text}
 use Rattle.grid_model.specs.Rows.{Cat}
 use Rattle.grid_model.specs.RowGrids.{user_name}
+use Rattle.grid_model.specs.RuleText.{Rule}
 use Rattle.grid_model.specs.Doing.{do_call}
 use Rattle.grid_model.specs.Reopening.{of_state, reopened}
 use Rattle.grid_model.specs.declared.calls.Call.{Call}
@@ -20,6 +21,7 @@ use Rattle.grid_model.specs.declared.marks.Mark.TheVariants.{Stop}
 use Rattle.grid_journal.specs.Journal.{Journal}
 use Rattle.grid_journal.specs.Stands.{StandsFor}
 use Rattle.grid_deed.proofs.Keeping.{held_stands}
+use Rattle.grid_headline.specs.Reads.{HasRules}
 use Rattle.grid_headline.specs.Worlds.{World}
 use Rattle.chain_run.specs.Places.{Place, course_at}
 use Rattle.run_laws.specs.Passes.{CallsPass, Seen}
@@ -40,7 +42,7 @@ use Rattle.undo_run.proofs.Noting.{may_call}
 use Rattle.undo_run.proofs.Undoings.{AreAmid, GoesTo, undoings}
 
 module _ {D A P K : Type 0} (disk : D → DiskState) (ambient : A → AmbientState) (plugin : P → StoreState) (sink : K → SinkState) (source : SourceState)
-    (from : Seen D A P K) (found : Cat) (p : Pending) where
+    (from : Seen D A P K) (found : Cat) (p : Pending) (rules : List Rule) (rules_are : HasRules found rules) where
   abbrev at_old : World P
   at_old = world disk ambient plugin sink source from
 
@@ -50,13 +52,21 @@ module _ {D A P K : Type 0} (disk : D → DiskState) (ambient : A → AmbientSta
   undoes_cut : (at : Seen D A P K) (taken : List Mark) → length at.outside.stores.items ≡ length from.outside.stores.items
       → IsCutShort disk ambient plugin sink source (undoings found p) from at taken → (left : List Call) (q : Place) → GoesTo found taken left q
       → (e : Ending) → IsOut at_old (world disk ambient plugin sink source at) found p e → (y : Command) (after : Journal)
-      → Undoes at_old (world disk ambient plugin sink source at) found p (Err e) y after
+      → Undoes at_old (world disk ambient plugin sink source at) found p rules (Err e) y after
   undoes_cut at taken count short left q goes e out y after =
       let more = completes q.user left q in
       let undone : Undone found =
-      record { report = taken ++ more.marks; opened = more.opened; opened_is = goes more.marks ∙ more.opened_is; opened_all = more.opened_all } in
+      record {
+        rules = rules;
+        rules_are = rules_are;
+        report = taken ++ more.marks;
+        opened = more.opened;
+        opened_is = goes more.marks ∙ more.opened_is;
+        opened_all = more.opened_all;
+      } in
       record {
         undone = undone;
+        rules_are = refl;
         taken = taken;
         first = record { rest = more.marks; are = refl };
         told_of = told_on disk ambient plugin sink source (undoings found p) from at taken more.marks short.marks more.clean;
@@ -72,7 +82,7 @@ module _ {D A P K : Type 0} (disk : D → DiskState) (ambient : A → AmbientSta
   -- memory may end it where the recoveries are
   pub undoes_amid : (at : Seen D A P K) (left : List Call) (x : Command) (rows : Journal) (taken : List Mark)
       → AreAmid disk ambient plugin sink source from found p at left x rows taken → (y : Command) (after : Journal)
-      → Undoes at_old (world disk ambient plugin sink source at) found p (Err ending.Memory) y after
+      → Undoes at_old (world disk ambient plugin sink source at) found p rules (Err ending.Memory) y after
   undoes_amid at left x rows taken are y after =
       undoes_cut at taken are.amid.passes.frame.stores.count (short_amid disk ambient plugin sink source (undoings found p) from at x rows taken are.amid) left
       (place_by rows.cat x) are.goes ending.Memory tt y after
@@ -81,11 +91,13 @@ module _ {D A P K : Type 0} (disk : D → DiskState) (ambient : A → AmbientSta
 
   pub undoes_done : (at : Seen D A P K) (y : Command) (rows : Journal) (taken : List Mark)
       → AreAmid disk ambient plugin sink source from found p at [] y rows taken
-      → Undoes at_old (world disk ambient plugin sink source at) found p (Ok tt) y rows
+      → Undoes at_old (world disk ambient plugin sink source at) found p rules (Ok tt) y rows
   undoes_done at y rows taken are =
       let amid = are.amid in
       let short = short_amid disk ambient plugin sink source (undoings found p) from at y rows taken amid in
       let undone : Undone found = record {
+        rules = rules;
+        rules_are = rules_are;
         report = taken;
         opened = of_state (course_at (place_by rows.cat y) [] 0 true);
         opened_is = ap (reopened found) (sym (append-nil taken)) ∙ are.goes [];
@@ -93,6 +105,7 @@ module _ {D A P K : Type 0} (disk : D → DiskState) (ambient : A → AmbientSta
       } in
       record {
         undone = undone;
+        rules_are = refl;
         taken = taken;
         first = first_all taken;
         told_of = amid.marks.told_of;
@@ -162,7 +175,7 @@ module _ {D A P K : Type 0} (disk : D → DiskState) (ambient : A → AmbientSta
     may = may_call found p are.setting.user rows.cat y taken cs c are.amid.command are.amid.beside are.goes
 
     pub undoes_failed : IsStep at_mid at_new are.amid.holds.cat rows y c (cs ++ c ∷ []) z after (do_call (user_name rows.cat y.user) c) (Err e)
-        → Undoes at_old at_new found p (Err e) z after
+        → Undoes at_old at_new found p rules (Err e) z after
     undoes_failed step =
         undoes_cut new taken (passes.frame.stores.count ∙ are.amid.passes.frame.stores.count)
         (cut_next disk ambient plugin sink source (undoings found p) from are.setting mid new c (cs ++ c ∷ [])

@@ -54,6 +54,7 @@ module _ {D A P K : Type 0} (disk : D → DiskState) (ambient : A → AmbientSta
   pub begun : AreAmid disk ambient plugin sink source from rows.cat p from p.undo (stopped_command p) rows []
   begun = record {
     setting = setting_begun;
-    amid = amid_begun disk ambient plugin sink source (undoings rows.cat p) from setting_begun (found_on_main rows.cat p has) rows held refl more ready;
+    amid = amid_begun disk ambient plugin sink source (undoings rows.cat p) from setting_begun (found_on_main rows.cat p has) rows held refl more ready refl
+        (λ marks. refl);
     goes = λ later. ap (λ (o : Option Pending). reopened_by rows.cat o later) has;
   }

@@ -20,6 +20,7 @@ use Rattle.chain_run.specs.Places.{Place, course_at}
 use Rattle.run_laws.specs.Passes.{Seen}
 use Rattle.run_laws.specs.Undone.{Undone}
 use Rattle.service_run.specs.Commands.{place_by}
+use Rattle.service_run.specs.Steps.{lines_of}
 use Rattle.service_run.specs.declared.command.Command.{Command}
 use Rattle.call_laws.specs.Amid.{IsAmid, IsSetting, Setting}
 use Rattle.undo_run.specs.Undoing.{IsOnTheWay, OneOfUndoing, stopped_command}
@@ -41,6 +42,7 @@ abbrev pub undoings : (found : Cat) → Pending → Setting (Undone found)
 undoings found p = record {
   found = found;
   start = stopped_command p;
+  text_of = lines_of p.number;
   OnMain = IsOnMain found p;
   OnWay = IsOnTheWay found;
   marks_of = λ u. u.report;

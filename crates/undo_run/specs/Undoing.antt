@@ -6,6 +6,7 @@ use Rattle.grid_outside.specs.Sink.{AddsPart}
 use Rattle.grid_outside.specs.declared.outside.Wear.TheVariants as wear
 use Rattle.grid_model.specs.Names.{Text}
 use Rattle.grid_model.specs.Rows.{Cat}
+use Rattle.grid_model.specs.RuleText.{Rule}
 use Rattle.grid_model.specs.RowGrids.{grid_of}
 use Rattle.grid_model.specs.declared.deltas.Pending.{Pending}
 use Rattle.grid_model.specs.declared.marks.Mark.{Mark}
@@ -82,9 +83,11 @@ module _ {B : Type 0} (old new : World B) (found : Cat) (p : Pending) where
   UndoEnds u taken (Ok done) y after = (kept : Cat) × IsUndone u taken y after kept
   UndoEnds u taken (Err e) y after = IsOut e
 
-  -- The recoveries of what was pending were run, or how far that came: what they took is the first of what they would have taken.
-  pub record Undoes (result : Result ⊤ Ending) (y : Command) (after : Journal) : Type 0 where
+  -- The recoveries of what was pending were run, or how far that came: what they took is the first of what they would have taken. There are
+  -- these rules.
+  pub record Undoes (rules : List Rule) (result : Result ⊤ Ending) (y : Command) (after : Journal) : Type 0 where
     pub undone : Undone found
+    pub rules_are : undone.rules ≡ rules
     pub taken : List Mark
     pub first : AreFirst taken undone.report
     pub told_of : IsTrue old.main.tells → AllByRecursion (IsToldOf (IsKnownBy old found) (length old.stores)) undone.report

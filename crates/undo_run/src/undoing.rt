@@ -1,7 +1,9 @@
-ghost use Rattle.std.specs.Prelude.{◌≡◌, ◌+◌, ◌^◌, ◌≤◌, [], Ok, Some, IsErrOf, vec_len};
+ghost use Rattle.std.specs.Prelude.{◌≡◌, ◌+◌, ◌^◌, ◌≤◌, List, [], Ok, Some, IsErrOf, vec_len};
 ghost use Rattle.grid_outside.specs.Source.{SourceState};
+ghost use Rattle.grid_model.specs.RuleText.{Rule};
 ghost use Rattle.grid_model.specs.declared.deltas.Pending.{Pending as PendingOf};
 ghost use Rattle.grid_deed.specs.Held.{IsHeld};
+ghost use Rattle.grid_headline.specs.Reads.{HasRules};
 ghost use Rattle.run_laws.specs.Around.{around};
 ghost use Rattle.run_laws.specs.Passes.{AreReady, CallsPass};
 ghost use Rattle.service_run.specs.declared.ending.Ending.{Ending};
@@ -33,9 +35,9 @@ pub fn undo_all<D: Disk, K: Sink, A: Ambient, P: Plugin>(
     requires stopped { (p : PendingOf) × (store.old.cat.pending ≡ Some p) × (command.old ≡ stopped_command p) × (undo ≡ p.undo) }
     requires slots { store.old.cat.stores ≡ vec_len outside.old.stores }
     requires ready { AreReady D.disk P.plugin K.sink (2 ^ 120) (record { outside = outside.old; sink = sink.old }) }
-    ensures undoes { (source : SourceState) (p : PendingOf) → store.old.cat.pending ≡ Some p →
+    ensures undoes { (source : SourceState) (p : PendingOf) (rules : List Rule) → store.old.cat.pending ≡ Some p → HasRules store.old.cat rules →
         Undoes (around D.disk A.ambient P.plugin outside.old (K.sink sink.old) source) (around D.disk A.ambient P.plugin outside.new (K.sink sink.new) source)
-        store.old.cat p result command.new store.new }
+        store.old.cat p rules result command.new store.new }
     ensures none { undo ≡ [] → (result ≡ Ok tt) × (store.new ≡ store.old) × (outside.new ≡ outside.old) × (sink.new ≡ sink.old) × (command.new ≡ command.old) }
     ensures passes { CallsPass D.disk P.plugin K.sink (IsErrOf result Ending.Disk) (IsErrOf result Ending.Sink)
         (record { outside = outside.old; sink = sink.old }) (record { outside = outside.new; sink = sink.new }) }

@@ -8,7 +8,6 @@ use Rattle.grid_outside.specs.Disk.{DiskState}
 use Rattle.grid_outside.specs.Files.{StoreState}
 use Rattle.grid_outside.specs.Sink.{SinkState}
 use Rattle.grid_outside.specs.Source.{SourceState}
-use Rattle.grid_outside.specs.declared.outside.Wear.TheVariants as wear
 use Rattle.grid_model.specs.Names.{Text}
 use Rattle.grid_model.specs.Operations.Table.{Operation}
 use Rattle.grid_model.specs.Rows.{Cat}
@@ -17,68 +16,42 @@ use Rattle.grid_model.specs.Doing.{Course}
 use Rattle.grid_model.specs.Meanings.{waits}
 use Rattle.grid_model.specs.Points.{Point}
 use Rattle.grid_model.specs.Sessions.{State}
-use Rattle.grid_model.specs.Working.{end_of, running, sent_by, words_of}
+use Rattle.grid_model.specs.Working.{end_of, running, sent_by}
 use Rattle.grid_model.specs.Runs.{Request, does}
-use Rattle.grid_model.specs.declared.deltas.Numbers.{Numbers}
 use Rattle.grid_model.specs.declared.marks.Mark.{Mark}
 use Rattle.grid_model.specs.declared.refusal.Failure.{Failure}
 use Rattle.grid_journal.specs.Journal.{Journal}
-use Rattle.grid_journal.specs.Stands.{StandsFor}
-use Rattle.grid_deed.proofs.Keeping.{held_stands}
-use Rattle.grid_headline.specs.Numbers.{last_vault}
 use Rattle.chain_run.specs.Places.{Place, course_at}
 use Rattle.deed_run.specs.Puts.{does_op}
-use Rattle.point_laws.specs.Works.{DoneEnds, WorkEnds, WorksEndByRows, WorksSendNothing, WorksTakeInOrder}
+use Rattle.point_laws.specs.Works.{WorkEnds, WorksEndByRows, WorksSendBehind, WorksTakeInOrder, operation}
 use Rattle.run_laws.specs.Passes.{CallsPass, Seen}
 use Rattle.service_run.specs.Commands.{WaitsAt, place_by}
-use Rattle.service_run.specs.Steps.{IsStep, IsStepDone, IsWornSo}
+use Rattle.service_run.specs.Steps.{IsStep, IsStepDone, lines_of}
 use Rattle.service_run.specs.declared.command.Command.{Command}
 use Rattle.service_run.specs.declared.ending.Ending.{Ending}
-use Rattle.service_run.specs.declared.ending.Ending.TheVariants as ending
-use Rattle.call_laws.specs.Amid.{IsAmid, IsCutShort, MayCall, world}
-use Rattle.call_laws.proofs.Rounds.{amid_next, cut_next, short_amid}
+use Rattle.call_laws.specs.Amid.{IsAmid, MayCall, world}
+use Rattle.call_laws.proofs.Rounds.{amid_next, cut_next}
 use Rattle.rule_run.specs.Asked.{IsAsked, asked_setting}
-use Rattle.rule_run.specs.Executing.{Executes, HasRunOut}
-use Rattle.rule_run.proofs.Handling.{cut_executes}
+use Rattle.rule_run.specs.Executing.{Executes}
 use Rattle.rule_run.proofs.Noting.{may_call}
 use Rattle.rule_run.proofs.Settings.{is_setting}
 use Rattle.work_run.specs.Behind.{IsBehind, IsEnded, from_work, from_worked}
-use Rattle.work_run.specs.Works.{DoesWork}
-use Rattle.work_run.proofs.Ends.{cut_end}
-use Rattle.work_run.proofs.Worked.{waits_there, worked_failed, worked_well}
+use Rattle.work_run.specs.Works.{DoesSo}
+use Rattle.work_run.proofs.Cut.{short_executes, worn_out}
+use Rattle.work_run.proofs.Worked.{its_words, waits_there, worked_failed, worked_well}
 
 module _ {D A P K : Type 0} (disk : D → DiskState) (ambient : A → AmbientState) (plugin : P → StoreState) (sink : K → SinkState) (source : SourceState)
     (at : State) (request : Request) (before : Cat) (x : Command) (asked : IsAsked at request before x) (from : Seen D A P K)
     (user : Text) (op : Operation) (silent : (s : Course) → sent_by s user op ≡ None) (p : Option Point) (b : ℕ)
     (mid : Seen D A P K) (y : Command) (rows : Journal) (taken : List Mark)
-    (amid : IsAmid disk ambient plugin sink source (asked_setting at request before x) from mid y rows taken)
-    (behind : IsBehind at request taken (place_by rows.cat y) b (from_work at p user op)) where
-  -- where it comes to its end, with marks of deeds behind those that were taken
-  module _ (does_work : DoesWork at request user op) (ends : WorksEndByRows) (takes : WorksTakeInOrder) (sends : WorksSendNothing) (works : WorkEnds) where
-    our_end : DoneEnds (λ later. from_work at p user op (course_at (place_by rows.cat y) later b false))
-    our_end = works at p (running op) user op (course_at (place_by rows.cat y) [] b false)
-
-    pub short_executes : (new : Seen D A P K) → IsCutShort disk ambient plugin sink source (asked_setting at request before x) from new taken
-        → length new.outside.stores.items ≡ length from.outside.stores.items → (e : Ending)
-        → HasRunOut disk ambient plugin sink source at request before x from new e
-        → (after : Journal) → Executes disk ambient plugin sink source at request before x from new (Err e) after
-    short_executes new short count e out after =
-        cut_executes disk ambient plugin sink source at request before x asked from new taken short count our_end.rest our_end.ran
-        (cut_end at request user op does_work ends takes sends silent (taken ++ our_end.rest) our_end.d (behind our_end.rest ∙ our_end.gives_so) our_end.all)
-        e out after
-
-    -- nothing more was called
-    pub cut_here : (after : Journal) → Executes disk ambient plugin sink source at request before x from mid (Err ending.Memory) after
-    cut_here after =
-        short_executes mid (short_amid disk ambient plugin sink source (asked_setting at request before x) from mid y rows taken amid)
-        amid.passes.frame.stores.count ending.Memory tt after
-
+    (amid : IsAmid disk ambient plugin sink source (asked_setting at request before x (lines_of x.number)) from mid y rows taken)
+    (behind : IsBehind at request taken (place_by rows.cat y) b (from_work at p user (operation op))) where
   -- ---- it was called
 
   module _ (main_last : (disk mid.outside.main).last ≤ mid.outside.moments) (name : user_name rows.cat y.user ≡ user) (new : Seen D A P K) (z : Command)
       (after : Journal) where
-    may : MayCall (asked_setting at request before x) rows.cat y taken (does_op user op) (running op) []
-    may = may_call at request before x asked rows.cat y taken (running op) [] amid.command amid.beside (does_op user op)
+    may : MayCall (asked_setting at request before x (lines_of x.number)) rows.cat y taken (does_op user op) (running op) []
+    may = may_call at request before x asked (lines_of x.number) rows.cat y taken (running op) [] amid.command amid.beside (does_op user op)
         (waits_there at request user op silent p taken (place_by rows.cat y) b behind)
 
     abbrev pub Steps : Text → Result (Result ⊤ Failure) Ending → Type 0
@@ -90,8 +63,8 @@ module _ {D A P K : Type 0} (disk : D → DiskState) (ambient : A → AmbientSta
 
     -- what there is to do behind it
     abbrev pub GoesOn : Result ⊤ Failure → List Mark → Type 0
-    GoesOn (Ok done) marks = IsBehind at request marks (place_by after.cat z) b (from_worked at p (words_of (grid_of rows.cat) user op))
-    GoesOn (Err f) marks = IsEnded at request marks (place_by after.cat z) (end_of f)
+    GoesOn (Ok done) marks = IsBehind at request marks (place_by after.cat z) b (from_worked at p (its_words at request user op silent p taken (place_by rows.cat y) b behind))
+    GoesOn (Err f) marks = IsEnded at request marks (place_by after.cat z) [] None (end_of f)
 
     module _ (ran : Result ⊤ Failure) (its : Steps user (Ok ran)) where
       abbrev step_done : IsStepDone (world disk ambient plugin sink source mid) (world disk ambient plugin sink source new) amid.holds.cat rows y (running op)
@@ -111,7 +84,7 @@ module _ {D A P K : Type 0} (disk : D → DiskState) (ambient : A → AmbientSta
 
     pub record IsOn (ran : Result ⊤ Failure) : Type 0 where
       pub more : List Mark
-      pub amid_so : IsAmid disk ambient plugin sink source (asked_setting at request before x) from new z after (taken ++ more)
+      pub amid_so : IsAmid disk ambient plugin sink source (asked_setting at request before x (lines_of x.number)) from new z after (taken ++ more)
       pub so : GoesOn ran (taken ++ more)
 
     pub is_on : (ran : Result ⊤ Failure) → CallsPass disk plugin sink ⊥ ⊥ mid new → Steps (user_name rows.cat y.user) (Ok ran) → IsOn ran
@@ -119,40 +92,22 @@ module _ {D A P K : Type 0} (disk : D → DiskState) (ambient : A → AmbientSta
         let its = as_user (Ok ran) step in
         record {
           more = its.ends.marks;
-          amid_so = amid_next disk ambient plugin sink source (asked_setting at request before x) from (is_setting at request before x asked) mid new
+          amid_so = amid_next disk ambient plugin sink source (asked_setting at request before x (lines_of x.number)) from (is_setting at request before x asked (lines_of x.number)) mid new
               (running op) [] (does_op user op) y rows taken amid may main_last z after ran passes its None;
           so = goes_on ran its;
         }
 
     -- ---- it was cut short
 
-    told_mid : IsTrue (disk from.outside.main).tells → IsTrue (disk mid.outside.main).tells
-    told_mid told = subst IsTrue (sym amid.passes.frame.main.tells) told
-
-    run_out : (e : Ending)
-        → IsWornSo (world disk ambient plugin sink source mid) (world disk ambient plugin sink source new) amid.holds.cat rows y (running op) [] z after e
-        → HasRunOut disk ambient plugin sink source at request before x from new e
-    run_out (ending.Worn wear.Vaults place) worn = (
-      worn.1,
-      λ told. (
-        amid.holds.cat,
-        subst (λ (t : Text). StandsFor t amid.holds.cat) (sym (worn.2.looks.holds (told_mid told)))
-            (held_stands amid.holds.cat (disk mid.outside.main) rows amid.holds.held (told_mid told)),
-        ap (λ (n : Numbers). n.next_vault) (sym amid.holds.numbers) ∙ sym worn.0,
-      ),
-    )
-    run_out (ending.Worn wear.Log place) worn = (worn.0, λ told. worn.1 (told_mid told))
-    run_out (ending.Worn wear.Runs place) worn = worn
-    run_out ending.Disk worn = tt
-    run_out ending.Sink worn = tt
-    run_out ending.Memory worn = tt
-
-    module _ (does_work : DoesWork at request user op) (ends : WorksEndByRows) (takes : WorksTakeInOrder) (sends : WorksSendNothing) (works : WorkEnds) where
-      pub cut_there : (e : Ending) (failed sink_failed : Type 0) → CallsPass disk plugin sink failed sink_failed mid new
-          → Steps (user_name rows.cat y.user) (Err e) → Executes disk ambient plugin sink source at request before x from new (Err e) after
-      cut_there e failed sink_failed passes step =
-          let its = as_user (Err e) step in
-          short_executes does_work ends takes sends works new
-          (cut_next disk ambient plugin sink source (asked_setting at request before x) from (is_setting at request before x asked) mid new (running op) []
-          (does_op user op) y rows taken amid may main_last z after e failed sink_failed passes its)
-          (passes.frame.stores.count ∙ amid.passes.frame.stores.count) e (run_out e its.ends) after
+    module _ (does_so : DoesSo at request user (operation op)) (ends : WorksEndByRows) (takes : WorksTakeInOrder) (sends : WorksSendBehind) (works : WorkEnds)
+      where
+        pub cut_there : (e : Ending) (failed sink_failed : Type 0) → CallsPass disk plugin sink failed sink_failed mid new
+            → Steps (user_name rows.cat y.user) (Err e) → Executes disk ambient plugin sink source at request before x from new (Err e) after
+        cut_there e failed sink_failed passes step =
+            let its = as_user (Err e) step in
+            short_executes disk ambient plugin sink source at request before x asked from user (operation op) p b mid y rows taken amid behind does_so tt ends
+            takes sends works new
+            (cut_next disk ambient plugin sink source (asked_setting at request before x (lines_of x.number)) from (is_setting at request before x asked (lines_of x.number)) mid new (running op) []
+            (does_op user op) y rows taken amid may main_last z after e failed sink_failed passes its)
+            (passes.frame.stores.count ∙ amid.passes.frame.stores.count) e
+            (worn_out disk ambient plugin sink source at request before x asked from mid y rows taken amid new z after (running op) e its.ends) after

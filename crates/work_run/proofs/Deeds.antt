@@ -1,5 +1,5 @@
 -- A deed that took no mark was refused.
-use Rattle.std.proofs.Common.{◌≡◌, ℕ, Bool, false, List, [], ◌++◌, None, Result, Ok, Err, true, map, refl, sym, ap, ◌∙◌}
+use Rattle.std.proofs.Common.{◌≡◌, ℕ, Bool, false, List, [], ◌++◌, Option, None, Result, Ok, Err, true, map, refl, sym, ap, ◌∙◌, subst}
 use Rattle.std.specs.Prelude.{⊤, IfOk, length}
 use Rattle.grid_model.specs.Names.{Text, Path}
 use Rattle.grid_model.specs.Grid.{Grid, Object}
@@ -13,8 +13,11 @@ use Rattle.grid_model.specs.Meanings.{Meaning, gives, waits}
 use Rattle.grid_model.specs.Operations.Common.{collection_above, needs, object_there, resource_there}
 use Rattle.grid_model.specs.Operations.Objects.{good_on_all, may_put, may_stand, put_row, room_for, writes}
 use Rattle.grid_model.specs.Operations.Replicas.{Source, chksum_row, first_of, lacking, marked_bad, repl_row, with_replicas}
-use Rattle.grid_model.specs.Operations.Table.{Operation, row}
-use Rattle.grid_model.specs.Working.{running}
+use Rattle.grid_model.specs.Operations.Table.{Operation, get as fetch, row}
+use Rattle.grid_model.specs.Orders as orders
+use Rattle.grid_model.specs.QueryOrders.{ReadsQuery}
+use Rattle.grid_model.specs.Working.{running, sent_by}
+use Rattle.grid_model.specs.declared.queries.Query.{Query}
 use Rattle.grid_model.specs.declared.calls.Call.{Call}
 use Rattle.grid_model.specs.declared.grid.Level.TheVariants.{Write}
 use Rattle.grid_model.specs.declared.grid.Mode.{Mode}
@@ -32,10 +35,14 @@ use Rattle.service_run.specs.Commands.{place_by}
 use Rattle.service_run.specs.Steps.{IsStep, IsStepDone}
 use Rattle.service_run.specs.declared.command.Command.{Command}
 use Rattle.service_run.specs.declared.ending.Ending.{Ending}
+use Rattle.point_laws.specs.Works.{IsAskedSo, Work, operation, query}
 use Rattle.row_run.specs.Verbs.{IsRowsVerb, WorksBy}
+use Rattle.row_run.proofs.Rows.{rows_silent}
 use Rattle.grid_model.specs.declared.requests.Verb.{Verb}
 use Rattle.grid_model.specs.declared.requests.Verb.TheVariants as verb
 use Rattle.work_run.specs.Names.{changes_rows}
+use Rattle.run_laws.specs.Ends.{MakesFile}
+use Rattle.work_run.specs.Verbs.{AsksBy, HasWork, IsIdle, MayMakeFile, WorksAs, is_call}
 use Rattle.work_run.proofs.Quiet.{no_marks}
 
 -- it is refused, or a deed
@@ -154,8 +161,82 @@ module _ {B : Type 0} (old new : World B) (kept : Cat) (rows : Journal) (x : Com
 -- ---- verbs
 
 -- the verb of an operation that is no deed changes rows alone
-pub rows_of : (v : Verb) (body : Text) (op : Operation) → changes_rows v ≡ true → WorksBy v body op → IsRowsVerb v op
-rows_of (verb.Put path resource mode count) body op is works = absurd (cc is)
-rows_of (verb.Repl path resource) body op is works = absurd (cc is)
-rows_of (verb.ChkSum path) body op is works = absurd (cc is)
-rows_of other body op is works = works
+pub rows_of : (v : Verb) (body : Text) (op : Operation) → is_call v ≡ true → changes_rows v ≡ true → WorksBy v body op → IsRowsVerb v op
+rows_of (verb.Put path resource mode count) body op call is works = absurd (cc is)
+rows_of (verb.Get path resource) body op call is works = absurd (cc call)
+rows_of (verb.Repl path resource) body op call is works = absurd (cc is)
+rows_of (verb.ChkSum path) body op call is works = absurd (cc is)
+rows_of other body op call is works = works
+
+-- what is done as a call sends no bytes
+pub works_silent : (user : Text) (v : Verb) (body : Text) (op : Operation) → is_call v ≡ true → WorksBy v body op → (s : Course) → sent_by s user op ≡ None
+works_silent user (verb.Put path resource mode count) body op call is s = let S : Operation → Type 0 = λ o. sent_by s user o ≡ None in subst S (sym is) refl
+works_silent user (verb.Get path resource) body op call is s = absurd (cc call)
+works_silent user (verb.Repl path resource) body op call is s = let S : Operation → Type 0 = λ o. sent_by s user o ≡ None in subst S (sym is) refl
+works_silent user (verb.ChkSum path) body op call is s = let S : Operation → Type 0 = λ o. sent_by s user o ≡ None in subst S (sym is) refl
+works_silent user other body op call its s = (rows_silent user other op its).1 s
+
+-- ---- what verbs do
+
+-- a get
+pub get_as : (path : Path) (asked : Option Text) (body : Text) (w : Work) → WorksAs (verb.Get path asked) body w → w ≡ operation (fetch path asked)
+get_as path asked body (operation op) is = ap operation is
+get_as path asked body (query q) is = absurd is
+
+-- a query
+pub query_as : (text body : Text) (w : Work) → WorksAs (verb.Query text) body w → (q : Or Query) × (w ≡ query q) × ReadsQuery text q
+query_as text body (operation op) is = absurd (cc is)
+query_as text body (query q) reads = (q, refl, reads)
+
+-- and any other
+pub call_as : (v : Verb) (body : Text) (w : Work) → is_call v ≡ true → WorksAs v body w → (op : Operation) × (w ≡ operation op) × WorksBy v body op
+call_as v body (operation op) call works = (op, refl, works)
+call_as v body (query q) call asks = absurd (no_query v q call asks)
+  where
+    no_query : (u : Verb) (r : Or Query) → is_call u ≡ true → AsksBy u r → ⊥
+    no_query (verb.Query text) r call asks = cc call
+    no_query other r call asks = asks
+
+-- there is one
+pub has_op : (v : Verb) (body : Text) → is_call v ≡ true → HasWork v body → (op : Operation) × WorksBy v body op
+has_op (verb.Query text) body call has = absurd (cc call)
+has_op other body call has = has
+
+pub has_work : (v : Verb) (body : Text) (op : Operation) → WorksBy v body op → HasWork v body
+has_work (verb.Query text) body op works = tt
+has_work other body op works = (op, works)
+
+-- where it changes nothing
+pub idle_call : (g : Grid) (user : Text) (v : Verb) (body : Text) → is_call v ≡ true → IsIdle g user v body
+    → (op : Operation) × WorksBy v body op × (r : Refusal) × (row g user op ≡ Err r)
+idle_call g user (verb.Query text) body call idle = absurd (cc call)
+idle_call g user other body call idle = idle
+
+pub idle_of : (g : Grid) (user : Text) (v : Verb) (body : Text) (op : Operation) → WorksBy v body op → (r : Refusal) → row g user op ≡ Err r
+    → IsIdle g user v body
+idle_of g user (verb.Query text) body op works r refused = tt
+idle_of g user other body op works r refused = (op, works, r, refused)
+
+-- where it makes files
+pub makes_call : (count : ℕ) (v : Verb) (body : Text) → is_call v ≡ true → ((op : Operation) → WorksBy v body op → MakesFile (orders.works op count))
+    → MayMakeFile count v body
+makes_call count (verb.Query text) body call makes = absurd (cc call)
+makes_call count other body call makes = makes
+
+pub makes_of : (count : ℕ) (v : Verb) (body : Text) (op : Operation) → WorksBy v body op → MayMakeFile count v body → MakesFile (orders.works op count)
+makes_of count (verb.Query text) body op works makes = absurd makes
+makes_of count other body op works makes = makes op works
+
+-- a query that is none is refused by its text alone
+pub query_so : (text : Text) (q : Or Query) → ReadsQuery text q → IsAskedSo (query q)
+query_so text (Ok q) reads = tt
+query_so text (Err (refusal.BadQuery place)) reads = tt
+query_so text (Err other) reads = absurd reads
+
+pub asked_so : (v : Verb) (body : Text) (w : Work) → WorksAs v body w → IsAskedSo w
+asked_so v body (operation op) works = tt
+asked_so v body (query q) asks = by v asks
+  where
+    by : (u : Verb) → AsksBy u q → IsAskedSo (query q)
+    by (verb.Query text) reads = query_so text q reads
+    by other none = absurd none

@@ -1,4 +1,4 @@
--- The point of an operation is named by the verb that does it.
+-- The point of an operation or a query is named by its verb.
 use Rattle.std.proofs.Common.{◌≡◌, Bool, true, false, [], Option, Some, None, codes, refl, sym, ap, ◌∙◌, subst}
 use Rattle.std.specs.Prelude.{option_map}
 use Rattle.grid_model.specs.Maps.{has}
@@ -8,8 +8,12 @@ use Rattle.grid_model.specs.Operations.Table.{Operation, addmeta, rmmeta}
 use Rattle.grid_model.specs.Points.{Point, at_access, at_collection, at_object, at_thing, point_of, post_name, pre_name}
 use Rattle.grid_model.specs.declared.requests.Verb.{Verb}
 use Rattle.grid_model.specs.declared.requests.Verb.TheVariants as verb
+use Rattle.grid_model.specs.Refusing.{Or}
+use Rattle.grid_model.specs.declared.queries.Query.{Query}
+use Rattle.point_laws.specs.Works.{Work, operation, point_at, query}
 use Rattle.row_run.specs.Verbs.{IsRowsVerb, WorksBy, operation_by}
 use Rattle.work_run.specs.Names.{point_name, rules_name}
+use Rattle.work_run.specs.Verbs.{AsksBy, WorksAs}
 
 -- the name of a point
 abbrev pub name_of : Option Point → Option Text
@@ -63,11 +67,20 @@ module _ (g : Grid) (user : Text) where
       ap (λ (o : Operation). name_of (point_of g user o)) its.2 ∙ of_thing (codes "mod_avu_metadata") its.0
   rows_named other op is = subst (IsNamed (point_name other)) is (named_by other)
 
-  pub works_named : (v : Verb) (body : Text) (op : Operation) → WorksBy v body op → name_of (point_of g user op) ≡ point_name v
+  works_named : (v : Verb) (body : Text) (op : Operation) → WorksBy v body op → name_of (point_of g user op) ≡ point_name v
   works_named (verb.Put path resource mode count) body op is = ap (λ (o : Operation). name_of (point_of g user o)) is
+  works_named (verb.Get path resource) body op is = ap (λ (o : Operation). name_of (point_of g user o)) is
   works_named (verb.Repl path resource) body op is = ap (λ (o : Operation). name_of (point_of g user o)) is
   works_named (verb.ChkSum path) body op is = ap (λ (o : Operation). name_of (point_of g user o)) is
   works_named other body op its = rows_named other op its
+
+  asks_named : (v : Verb) (q : Or Query) → AsksBy v q → name_of (point_at g user (query q)) ≡ point_name v
+  asks_named (verb.Query text) q reads = refl
+  asks_named other q none = absurd none
+
+  pub work_named : (v : Verb) (body : Text) (w : Work) → WorksAs v body w → name_of (point_at g user w) ≡ point_name v
+  work_named v body (operation op) works = works_named v body op works
+  work_named v body (query q) asks = asks_named v q asks
 
 -- ---- where it has no rules
 

@@ -16,10 +16,9 @@ use Rattle.grid_model.specs.Values.{Env}
 use Rattle.grid_model.specs.Meanings.{Meaning, Waiting, gives, mapped, waits, ◌>>=◌}
 use Rattle.grid_model.specs.Doing.{Course, Did}
 use Rattle.grid_model.specs.Chains.{Named, Outcome, call_rule, failed, halted}
-use Rattle.grid_model.specs.Operations.Table.{Operation}
 use Rattle.grid_model.specs.Points.{Point, post_name, pre_name}
 use Rattle.grid_model.specs.Sessions.{State}
-use Rattle.grid_model.specs.Working.{Done, after_pre, answered, done, ending, failure_of, running, sent_by, work}
+use Rattle.grid_model.specs.Working.{Done, Sent, after_pre, done, ending, failure_of, rows_shown}
 use Rattle.grid_model.specs.Runs.{Request, does}
 use Rattle.grid_model.specs.declared.marks.Mark.{Mark}
 use Rattle.grid_model.specs.declared.marks.Mark.TheVariants.{Ran}
@@ -35,7 +34,7 @@ use Rattle.chain_core.specs.declared.frames.Frames.{Frames}
 use Rattle.chain_laws.specs.Ending.{leaving}
 use Rattle.chain_run.specs.Places.{Place, course_at, course_from}
 use Rattle.point_laws.specs.Names.{NamesAreStopped, NamesHalt}
-use Rattle.point_laws.specs.Works.{DoneEnds, PreEnds, WorksEndByRows, WorksSendNothing, WorksTakeInOrder}
+use Rattle.point_laws.specs.Works.{DoneEnds, PreEnds, Work, work_of}
 use Rattle.run_laws.specs.Passes.{Seen}
 use Rattle.run_laws.proofs.Lists.{all-append}
 use Rattle.service_run.specs.Commands.{place_by}
@@ -45,11 +44,12 @@ use Rattle.service_run.specs.declared.ending.Ending.TheVariants as ending
 use Rattle.rule_run.specs.Asked.{IsAsked, asked_setting}
 use Rattle.rule_run.specs.Executing.{Executes, HasRunOut}
 use Rattle.rule_run.specs.Running.{HasRunDry, IsRunShort, RunsOn, WaitsWith, point_from}
-use Rattle.rule_run.proofs.Handling.{cut_executes}
-use Rattle.work_run.specs.Behind.{IsBehind, IsEnded, from_start, from_work, from_worked}
-use Rattle.work_run.specs.Pointed.{point_end}
-use Rattle.work_run.specs.Works.{DoesWork}
-use Rattle.work_run.proofs.Ends.{cut_end}
+use Rattle.grid_headline.specs.Files.{IsKnown}
+use Rattle.call_laws.specs.Amid.{world}
+use Rattle.rule_run.proofs.Handling.{IsCutEnd, cut_executes}
+use Rattle.rule_run.proofs.Outcomes.{rows_none}
+use Rattle.work_run.specs.Behind.{IsBehind, IsEnded, Said, from_start, from_work, from_worked}
+use Rattle.work_run.specs.Pointed.{point_end, rows_told}
 use Rattle.work_run.proofs.Worked.{down}
 
 -- what rules left, as a call
@@ -131,27 +131,43 @@ module _ (at : State) (request : Request) (rules : List Rule) (env : Env) (text 
     pub unstopped : failure_of (outcome_of o) ≡ None → k.stopped ≡ false
     unstopped none = down k.stopped (λ on. (let both : Some failure.Stopped ≡ None = ap failure_of (sym (its_halt on)) ∙ none in cc both))
 
-    -- they failed
-    pub ended_failed : (before : Failure → End) (f : Failure) → failure_of (outcome_of o) ≡ Some f
-        → go (gives (did_of (named []))) ≡ gives (done at (course k (course_from r [])) [] [] None (before f))
-        → IsEnded at request (taken ++ more) r (point_end before f)
-    ended_failed before f failed_so done_so = record {
+    -- they failed, where so many rows were found and this was sent
+    pub ended_failed : (before : Failure → End) (found rows : List (List Text)) (sent : Option Sent) (f : Failure) → failure_of (outcome_of o) ≡ Some f
+        → go (gives (did_of (named []))) ≡ gives (done at (course k (course_from r [])) [] found sent (before f))
+        → ((halt : k.stopped ≡ true → f ≡ failure.Stopped) → (stop : f ≡ failure.Stopped → k.stopped ≡ true)
+        → rows_shown (course k (course_from r [])) (before f) found ≡ rows)
+        → IsEnded at request (taken ++ more) r rows sent (point_end before f)
+    ended_failed before found rows sent f failed_so done_so rows_so = record {
       begun = k.begun;
       stopped = k.stopped;
+      found = found;
       told = before f;
       does_so = ap (does at request) (sym (append-nil (taken ++ more))) ∙ goes_on [] ∙ done_so;
-      end_is = ending_point (course k (course_from r [])) before f (λ on. failed_halted (outcome_of o) f (its_halt on) failed_so)
-          (λ e. its_stop (failed_so ∙ ap Some e));
+      rows_are = rows_so halted_so stopped_as;
+      end_is = ending_point (course k (course_from r [])) before f halted_so stopped_as;
     }
+      where
+        halted_so : k.stopped ≡ true → f ≡ failure.Stopped
+        halted_so on = failed_halted (outcome_of o) f (its_halt on) failed_so
+
+        stopped_as : f ≡ failure.Stopped → k.stopped ≡ true
+        stopped_as e = its_stop (failed_so ∙ ap Some e)
 
   -- ---- cut short
 
+  -- with what was run behind them, and what is still to do
+  module _ (our_end : (n : Named) → DoneEnds (λ later. go (gives (did_of (leaving later n))))) (more ran : List Mark) (n : Named)
+      (gives_so : (later : List Mark) → whole (more ++ (ran ++ later)) ≡ gives (leaving later n)) where
+    pub cut_does : does at request ((taken ++ more) ++ (ran ++ (our_end n).rest)) ≡ gives (our_end n).d
+    cut_does = came more (ran ++ (our_end n).rest) (leaving (our_end n).rest n) (gives_so (our_end n).rest) ∙ (our_end n).gives_so
+
   module _ {D A P K : Type 0} (disk : D → DiskState) (ambient : A → AmbientState) (plugin : P → StoreState) (sink : K → SinkState) (source : SourceState)
-      (before : Cat) (x : Command) (asked : IsAsked at request before x) (from new : Seen D A P K) (user : Text) (op : Operation)
-      (silent : (s : Course) → sent_by s user op ≡ None) (does_work : DoesWork at request user op)
-      (ends : WorksEndByRows) (takes : WorksTakeInOrder) (sends : WorksSendNothing)
-      (our_end : (n : Named) → DoneEnds (λ later. go (gives (did_of (leaving later n))))) where
-    out_of : (e : Ending) → HasRunDry disk ambient plugin sink source at request before x from new whole taken e
+      (before : Cat) (x : Command) (asked : IsAsked at request before x) (text_of : List Mark → Text) (from new : Seen D A P K)
+      (our_end : (n : Named) → DoneEnds (λ later. go (gives (did_of (leaving later n)))))
+      (cuts : (more ran : List Mark) (n : Named) → ((later : List Mark) → whole (more ++ (ran ++ later)) ≡ gives (leaving later n))
+      → IsCutEnd x.number text_of at request (IsKnown (world disk ambient plugin sink source from) before) (taken ++ more)
+      ((taken ++ more) ++ (ran ++ (our_end n).rest))) where
+    out_of : (e : Ending) → HasRunDry disk ambient plugin sink source at request before x text_of from new whole taken e
         → HasRunOut disk ambient plugin sink source at request before x from new e
     out_of ending.Disk out = tt
     out_of ending.Sink out = tt
@@ -160,48 +176,46 @@ module _ (at : State) (request : Request) (rules : List Rule) (env : Env) (text 
     out_of (ending.Worn wear.Log place) out = out
     out_of (ending.Worn wear.Runs place) out = out
 
-    pub cut_so : (e : Ending) → IsRunShort disk ambient plugin sink source at request before x from new whole taken
-        → HasRunDry disk ambient plugin sink source at request before x from new whole taken e
+    pub cut_so : (e : Ending) → IsRunShort disk ambient plugin sink source at request before x text_of from new whole taken
+        → HasRunDry disk ambient plugin sink source at request before x text_of from new whole taken e
         → length new.outside.stores.items ≡ length from.outside.stores.items → (after : Journal)
         → Executes disk ambient plugin sink source at request before x from new (Err e) after
     cut_so e short dry count after =
         let our = our_end short.end in
-        cut_executes disk ambient plugin sink source at request before x asked from new (taken ++ short.more) short.cut count (short.rest ++ our.rest)
+        cut_executes disk ambient plugin sink source at request before x asked text_of from new (taken ++ short.more) short.cut count (short.rest ++ our.rest)
         (all-append (λ (k : Mark). k ≡ Ran 0 0 []) short.rest our.rest short.ran our.ran)
-        (cut_end at request user op does_work ends takes sends silent ((taken ++ short.more) ++ (short.rest ++ our.rest)) our.d
-        (came short.more (short.rest ++ our.rest) (leaving our.rest short.end) (short.gives_so our.rest) ∙ our.gives_so) our.all)
-        e (out_of e dry) after
+        (cuts short.more short.rest short.end short.gives_so) e (out_of e dry) after
 
--- ---- the rules before the operation
+-- ---- the rules before the work
 
-module _ (at : State) (p : Point) (user : Text) (op : Operation) where
+module _ (at : State) (p : Point) (user : Text) (w : Work) where
   abbrev pub go_pre : Meaning Did → Meaning Done
-  go_pre n = n >>= after_pre at (Some p) (work (running op) user op)
+  go_pre n = n >>= after_pre at (Some p) (work_of user w)
 
   pub pre_waits : (w : Waiting) → go_pre (waits w) ≡ waits w
   pre_waits w = refl
 
   pub pre_as : (rules : List Rule) (env : Env) (text : Text) → at.rules ≡ rules → p.env ≡ env → pre_name p ≡ text → (s : Course)
-      → from_start at (Some p) user op s ≡ go_pre (mapped did_of (call_rule rules env text [] s))
+      → from_start at (Some p) user w s ≡ go_pre (mapped did_of (call_rule rules env text [] s))
   pre_as rules env text r e t s = λ i. go_pre (mapped did_of (call_rule (r i) (e i) (t i) [] s))
 
   pub pre_end : PreEnds → (n : Named) → DoneEnds (λ later. go_pre (gives (did_of (leaving later n))))
-  pre_end ends n = ends at (Some p) (running op) user op (did_of n)
+  pre_end ends n = ends at (Some p) user w (did_of n)
 
   -- where they did not fail
   pub pre_well : (s : Course) (o : Outcome) → failure_of o ≡ None
-      → go_pre (gives (did_of (record { state = s; outcome = o }))) ≡ from_work at (Some p) user op s
-  pre_well s o none = ap (λ (f : Option Failure). after_pre at (Some p) (work (running op) user op) (record { state = s; failure = f })) none
+      → go_pre (gives (did_of (record { state = s; outcome = o }))) ≡ from_work at (Some p) user w s
+  pre_well s o none = ap (λ (f : Option Failure). after_pre at (Some p) (work_of user w) (record { state = s; failure = f })) none
 
   pub pre_failed : (s : Course) (o : Outcome) (f : Failure) → failure_of o ≡ Some f
       → go_pre (gives (did_of (record { state = s; outcome = o }))) ≡ gives (done at s [] [] None (end.PreFailed f))
-  pre_failed s o f is = ap (λ (g : Option Failure). after_pre at (Some p) (work (running op) user op) (record { state = s; failure = g })) is
+  pre_failed s o f is = ap (λ (g : Option Failure). after_pre at (Some p) (work_of user w) (record { state = s; failure = g })) is
 
 -- ---- the rules behind it
 
-module _ (at : State) (p : Point) (ws : List Text) where
+module _ (at : State) (p : Point) (said : Said) where
   abbrev pub post_done : Did → Done
-  post_done d = done at d.state [] [] None (option_map_or end.PostFailed d.failure (end.Done ws))
+  post_done d = done at d.state [] said.rows said.sent (option_map_or end.PostFailed d.failure (end.Done said.words))
 
   abbrev pub go_post : Meaning Did → Meaning Done
   go_post n = mapped post_done n
@@ -210,16 +224,38 @@ module _ (at : State) (p : Point) (ws : List Text) where
   post_waits w = refl
 
   pub post_as : (rules : List Rule) (env : Env) (text : Text) → at.rules ≡ rules → p.env ≡ env → post_name p ≡ text → (s : Course)
-      → from_worked at (Some p) ws s ≡ go_post (mapped did_of (call_rule rules env text [] s))
+      → from_worked at (Some p) said s ≡ go_post (mapped did_of (call_rule rules env text [] s))
   post_as rules env text r e t s = λ i. go_post (mapped did_of (call_rule (r i) (e i) (t i) [] s))
 
-  pub post_end : (n : Named) → DoneEnds (λ later. go_post (gives (did_of (leaving later n))))
+  abbrev pub post_end : (n : Named) → DoneEnds (λ later. go_post (gives (did_of (leaving later n))))
   post_end n = record { rest = []; ran = tt; d = post_done (did_of (leaving [] n)); gives_so = refl; all = refl }
 
   pub post_well : (s : Course) (o : Outcome) → failure_of o ≡ None
-      → go_post (gives (did_of (record { state = s; outcome = o }))) ≡ gives (done at s [] [] None (end.Done ws))
+      → go_post (gives (did_of (record { state = s; outcome = o }))) ≡ gives (done at s [] said.rows said.sent (end.Done said.words))
   post_well s o none = ap (λ (f : Option Failure). gives (post_done (record { state = s; failure = f }))) none
 
   pub post_failed : (s : Course) (o : Outcome) (f : Failure) → failure_of o ≡ Some f
-      → go_post (gives (did_of (record { state = s; outcome = o }))) ≡ gives (done at s [] [] None (end.PostFailed f))
+      → go_post (gives (did_of (record { state = s; outcome = o }))) ≡ gives (done at s [] said.rows said.sent (end.PostFailed f))
   post_failed s o f is = ap (λ (g : Option Failure). gives (post_done (record { state = s; failure = g }))) is
+
+-- the rows that are shown where rules behind it failed so
+pub post_rows : (s : Course) (f : Failure) (rows : List (List Text)) → (s.stopped ≡ true → f ≡ failure.Stopped) → (f ≡ failure.Stopped → s.stopped ≡ true)
+    → rows_shown s (end.PostFailed f) rows ≡ rows_told (point_end end.PostFailed f) rows
+post_rows s f rows halts stops = by s.stopped refl
+  where
+    never : (b : Bool) → b ≡ false → b ≡ true → ⊥
+    never b off on = let both : true ≡ false = sym on ∙ off in cc both
+
+    others : (g : Failure) → (g ≡ failure.Stopped → ⊥) → rows ≡ rows_told (point_end end.PostFailed g) rows
+    others (failure.Refused r) apart = refl
+    others failure.Stopped apart = absurd (apart refl)
+    others (failure.Code z) apart = refl
+    others failure.NoRule apart = refl
+    others failure.Depth apart = refl
+    others failure.Spent apart = refl
+    others failure.LongText apart = refl
+
+    by : (b : Bool) → s.stopped ≡ b
+        → ◌≡◌ {A = List (List Text)} (elim b [ true ↦ [] | false ↦ rows ]) (rows_told (point_end end.PostFailed f) rows)
+    by true on = sym (ap (λ (g : Failure). rows_told (point_end end.PostFailed g) rows) (halts on))
+    by false off = others f (λ is. never s.stopped off (stops is))

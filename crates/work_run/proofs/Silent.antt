@@ -6,12 +6,12 @@ use Rattle.grid_model.specs.Meanings.{Meaning, gives, waits, unfit, mapped, ◌>
 use Rattle.grid_model.specs.Values.{Env}
 use Rattle.grid_model.specs.Doing.{Course, Did, did_well}
 use Rattle.grid_model.specs.Chains.{Named, call_rule, call_within, none_applied, rules_named, try_rules}
-use Rattle.grid_model.specs.Operations.Table.{Operation}
 use Rattle.grid_model.specs.Points.{Point, post_name, pre_name}
 use Rattle.grid_model.specs.Sessions.{State}
-use Rattle.grid_model.specs.Working.{Done, Worked, after_post, after_pre, after_work, done, end_of, failure_of, run_point, running, work}
+use Rattle.grid_model.specs.Working.{Done, Worked, after_post, after_pre, after_work, done, end_of, failure_of, run_point}
 use Rattle.grid_model.specs.declared.refusal.Failure.{Failure}
 use Rattle.chain_core.specs.Moves.{first_at, next_named}
+use Rattle.point_laws.specs.Works.{Work, work_of}
 use Rattle.work_run.specs.Behind.{from_start, from_work}
 
 -- none of the rules has the name
@@ -35,7 +35,7 @@ pub point_idle : (rules : List Rule) (p : Point) (name : Point → Text) (s : Co
 point_idle rules p name s none =
     ap (mapped (λ (n : Named). record { state = n.state; failure = failure_of n.outcome })) (none_applies 31 rules p.env (name p) [] s none)
 
--- ---- an operation between such points
+-- ---- what is done between such points
 
 next_same : {A B : Type 0} (m : Meaning A) (f g : A → Meaning B) → ((x : A) → f x ≡ g x) → (m >>= f) ≡ (m >>= g)
 next_same (gives x) f g same = same x
@@ -52,10 +52,7 @@ module _ (at : State) (p : Point) (no_pre : next_named at.rules (pre_name p) 0 �
       by (Some x) = refl
       by None = ap (mapped (after_post at w)) (point_idle at.rules p post_name w.state no_post)
 
-  pub alone_some : (user : Text) (op : Operation) (s : Course) → from_start at (Some p) user op s ≡ from_work at None user op s
-  alone_some user op s =
-      ap (λ (m : Meaning Did). m >>= after_pre at (Some p) (work (running op) user op)) (point_idle at.rules p pre_name s no_pre)
-      ∙ next_same (work (running op) user op s) (after_work at (Some p)) (after_work at None) after_same
-
-pub alone_none : (at : State) (user : Text) (op : Operation) (s : Course) → from_start at None user op s ≡ from_work at None user op s
-alone_none at user op s = refl
+  pub alone_some : (user : Text) (w : Work) (s : Course) → from_start at (Some p) user w s ≡ from_work at None user w s
+  alone_some user w s =
+      ap (λ (m : Meaning Did). m >>= after_pre at (Some p) (work_of user w)) (point_idle at.rules p pre_name s no_pre)
+      ∙ next_same (work_of user w s) (after_work at (Some p)) (after_work at None) after_same

@@ -1,5 +1,5 @@
--- Which operations may need a number of a vault file.
-use Rattle.std.proofs.Common.{◌≡◌, ℕ, Result, Err, sym, ap, ◌∙◌, subst}
+-- Which operations may need a number of a vault file, and what else is due of how a request ends.
+use Rattle.std.proofs.Common.{◌≡◌, ℕ, ◌+◌, ◌*◌, ◌^◌, ◌≤◌, Option, None, Some, Result, Err, sym, ap, ◌∙◌, subst, arith}
 use Rattle.std.specs.Prelude.{⊤, IsErrOf}
 use Rattle.grid_outside.specs.Disk.{DiskState}
 use Rattle.grid_outside.specs.Sink.{SinkState}
@@ -14,6 +14,8 @@ use Rattle.service_run.specs.declared.command.Command.{Command}
 use Rattle.service_run.specs.declared.ending.Ending.{Ending}
 use Rattle.service_run.specs.declared.ending.Ending.TheVariants as ending
 use Rattle.rule_run.specs.Finishing.{FinishEnds, Finishes}
+use Rattle.work_run.specs.declared.after.After.{After}
+use Rattle.work_run.specs.Pointed.{draws_by}
 
 -- what needs memory alone needs none
 pub never_worn : (e : Ending) (place : ℕ) → e ≡ ending.Worn wear.Vaults place → e ≡ ending.Memory → ⊥
@@ -34,3 +36,18 @@ pub ends_without : (main_old main_new : DiskState) (sink_old sink_new : SinkStat
 ends_without main_old main_new sink_old sink_new kept from n rows x text result new f place is =
     let ends = subst (λ (r : Result ⊤ Ending). FinishEnds main_old main_new sink_old sink_new f.left text r new) is f.ends in
     let no = ends.0 in absurd (cc no)
+
+-- want of memory is no other error
+pub memory_disk : {T : Type 0} → IsErrOf {T = T} {E = Ending} (Err ending.Memory) ending.Disk → ⊥
+memory_disk is = cc is
+
+pub memory_sink : {T : Type 0} → IsErrOf {T = T} {E = Ending} (Err ending.Memory) ending.Sink → ⊥
+memory_sink is = cc is
+
+pub memory_vaults : {T : Type 0} (place : ℕ) → IsErrOf {T = T} {E = Ending} (Err ending.Memory) (ending.Worn wear.Vaults place) → ⊥
+memory_vaults place is = cc is
+
+-- the end of a command is always within what is still to be drawn
+pub draws_five : (a : Option After) → 5 ≤ draws_by a
+draws_five None = omega arith
+draws_five (Some a) = omega arith

@@ -1,4 +1,4 @@
--- An operation of a request: what there is to do behind it.
+-- An operation of a request that sends no bytes: what there is to do behind it.
 use Rattle.std.proofs.Common.{◌≡◌, ℕ, Bool, true, false, List, [], ◌++◌, Option, Some, None, Result, Ok, Err, refl, sym, ap, ◌∙◌, append_assoc}
 use Rattle.std.specs.Prelude.{⊤}
 use Rattle.std.proofs.lemmas.List.{append-nil}
@@ -18,8 +18,9 @@ use Rattle.chain_run.specs.Places.{Brings, Place, course_at}
 use Rattle.deed_run.specs.Puts.{does_op}
 use Rattle.service_run.specs.Commands.{WaitsAt, waiting_at}
 use Rattle.service_run.specs.Steps.{ComesTo}
-use Rattle.work_run.specs.Behind.{IsBehind, IsEnded, from_work, from_worked}
-use Rattle.work_run.proofs.Ends.{ending_is}
+use Rattle.point_laws.specs.Works.{operation}
+use Rattle.work_run.specs.Behind.{IsBehind, IsEnded, Said, from_work, from_worked}
+use Rattle.work_run.proofs.Ends.{ending_is, rows_failed}
 use Rattle.work_run.proofs.Stopping.{op_halts}
 
 pub down : (b : Bool) → (b ≡ true → ⊥) → b ≡ false
@@ -27,7 +28,7 @@ down true on = absurd (on refl)
 down false on = refl
 
 module _ (at : State) (request : Request) (user : Text) (op : Operation) (silent : (s : Course) → sent_by s user op ≡ None) (p : Option Point)
-    (taken : List Mark) (q : Place) (b : ℕ) (behind : IsBehind at request taken q b (from_work at p user op)) where
+    (taken : List Mark) (q : Place) (b : ℕ) (behind : IsBehind at request taken q b (from_work at p user (operation op))) where
   abbrev worked_in : Course → Did → Worked
   worked_in s d = record { state = d.state; failure = d.failure; words = words_of s.grid user op; rows = []; sent = sent_by s user op }
 
@@ -58,21 +59,27 @@ module _ (at : State) (request : Request) (user : Text) (op : Operation) (silent
         op_halts user op (course_at q (brings.marks ++ later) b false)
         (record { state = course_at r later b (left later); failure = failure_in ran }) refl (brings.did later b false).1
 
+  -- what it says
+  abbrev pub its_words : Said
+  its_words = record { words = words_of q.grid user op; rows = []; sent = None }
+
   -- it was done
   pub worked_well : (r : Place) (brings : Brings (ComesTo (does_op user op) (Ok tt)) q r)
-      → IsBehind at request (taken ++ brings.marks) r b (from_worked at p (words_of q.grid user op))
+      → IsBehind at request (taken ++ brings.marks) r b (from_worked at p its_words)
   worked_well r brings later =
       came r (Ok tt) brings later
-      ∙ ap (λ (t : Bool). from_worked at p (words_of q.grid user op) (course_at r later b t))
+      ∙ ap (λ (t : Bool). from_worked at p its_words (course_at r later b t))
       (down (left r (Ok tt) brings later) (λ on. (let both = halts r (Ok tt) brings later on in cc both)))
 
   -- it failed
   pub worked_failed : (r : Place) (f : Failure) (brings : Brings (ComesTo (does_op user op) (Err f)) q r)
-      → IsEnded at request (taken ++ brings.marks) r (end_of f)
+      → IsEnded at request (taken ++ brings.marks) r [] None (end_of f)
   worked_failed r f brings = record {
     begun = b;
     stopped = left r (Err f) brings [];
+    found = [];
     told = end_of f;
     does_so = ap (does at request) (sym (append-nil (taken ++ brings.marks))) ∙ came r (Err f) brings [];
+    rows_are = rows_failed (course_at r [] b (left r (Err f) brings [])) f;
     end_is = ending_is (course_at r [] b (left r (Err f) brings [])) f (λ on. (let same = halts r (Err f) brings [] on in (let is : f ≡ Stopped = cc same in is)));
   }

@@ -1,5 +1,9 @@
+pub mod Answers
 pub mod Behind
+pub mod Fetched
 pub mod Names
 pub mod Next
 pub mod Pointed
+pub mod Telling
+pub mod Verbs
 pub mod Works

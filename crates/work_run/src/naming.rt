@@ -1,5 +1,6 @@
-//! The rules before and after an operation, by their names.
+//! The rules before and after an operation or a query, by their names.
 ghost use Rattle.std.specs.Prelude.{◌≡◌, [], IfOk, None, Some, codes, false};
+ghost use Rattle.grid_model.specs.Names.{Text as TextOf};
 ghost use Rattle.chain_core.specs.Moves.{next_named};
 ghost use Rattle.chain_core.specs.Seen.{rules_of};
 ghost use Rattle.work_run.specs.Names.{point_name, rules_name};
@@ -8,7 +9,7 @@ use chain_core::RuleBase;
 use grid_model::{Text, Verb};
 use std::alloc::{AllocError, Global};
 
-/// The names of the rules before and after an operation, and what they are made of.
+/// The names of the rules before and after an operation or a query, and what they are made of.
 #[derive(Drop)]
 pub(crate) struct PointNames {
     pub(crate) operation: Text,
@@ -16,8 +17,33 @@ pub(crate) struct PointNames {
     pub(crate) post: Text,
 }
 
-/// The names of the rules of the point of a verb, where it has one. Fails for want of memory alone.
-pub(crate) fn names_of(alloc: Global, verb: &Verb) -> Result<Option<PointNames>, AllocError>
+/// The names of the rules of the point of a verb, where it has one and there is a rule of one of them. Fails for want of memory alone, which
+/// never comes where there are no rules.
+pub(crate) fn names_of(
+    alloc: Global,
+    rules: &RuleBase,
+    verb: &Verb,
+) -> Result<Option<PointNames>, AllocError>
+    ensures none { (operation : TextOf) → IfOk result (λ names. names ≡ None → point_name verb.now ≡ Some operation →
+        (next_named (rules_of rules.now) (rules_name operation (codes "_pre")) 0 ≡ None)
+        × (next_named (rules_of rules.now) (rules_name operation (codes "_post")) 0 ≡ None)) }
+    ensures operation { IfOk result (λ names. (these : _) → names ≡ Some these → point_name verb.now ≡ Some these.operation) }
+    ensures pre { IfOk result (λ names. (these : _) → names ≡ Some these → these.pre ≡ rules_name these.operation (codes "_pre")) }
+    ensures post { IfOk result (λ names. (these : _) → names ≡ Some these → these.post ≡ rules_name these.operation (codes "_post")) }
+    ensures some { rules_of rules.now ≡ [] → IfOk result (λ names. names ≡ None) }
+{
+    if rules.rules().as_slice().is_empty() {
+        return Ok(None);
+    }
+    let names = match point_names(alloc, verb) {
+        Ok(names) => names,
+        Err(AllocError) => return Err(AllocError),
+    };
+    Ok(with_rules(rules, names))
+}
+
+// The names of the rules of the point of a verb, where it has one. Fails for want of memory alone.
+fn point_names(alloc: Global, verb: &Verb) -> Result<Option<PointNames>, AllocError>
     ensures none { IfOk result (λ names. names ≡ None → point_name verb.now ≡ None) }
     ensures operation { IfOk result (λ names. (these : _) → names ≡ Some these → point_name verb.now ≡ Some these.operation) }
     ensures pre { IfOk result (λ names. (these : _) → names ≡ Some these → these.pre ≡ rules_name these.operation (codes "_pre")) }
@@ -38,8 +64,8 @@ pub(crate) fn names_of(alloc: Global, verb: &Verb) -> Result<Option<PointNames>,
     }
 }
 
-/// The names, where there is a rule of one of them.
-pub(crate) fn with_rules(rules: &RuleBase, names: Option<PointNames>) -> Option<PointNames>
+// The names, where there is a rule of one of them.
+fn with_rules(rules: &RuleBase, names: Option<PointNames>) -> Option<PointNames>
     ensures same { (these : _) → result ≡ Some these → names ≡ Some these }
     ensures none { (these : _) → result ≡ None → names ≡ Some these →
         (next_named (rules_of rules.now) these.pre 0 ≡ None) × (next_named (rules_of rules.now) these.post 0 ≡ None) }
@@ -90,6 +116,10 @@ fn point_name(alloc: Global, verb: &Verb) -> Result<Option<Text>, AllocError>
             mode: _,
             count: _,
         } => named(alloc, b"data_obj_put"),
+        Verb::Get {
+            path: _,
+            resource: _,
+        } => named(alloc, b"data_obj_get"),
         Verb::Repl {
             path: _,
             resource: _,
@@ -114,6 +144,7 @@ fn point_name(alloc: Global, verb: &Verb) -> Result<Option<Text>, AllocError>
             value: _,
             unit: _,
         } => named(alloc, b"mod_avu_metadata"),
+        Verb::Query { text: _ } => named(alloc, b"gen_query"),
         _ => Ok(None),
     }
 }

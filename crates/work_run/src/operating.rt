@@ -2,7 +2,7 @@ ghost use Rattle.std.specs.Prelude.{◌≡◌, ℕ, ◌+◌, ◌^◌, ◌≤◌,
 ghost use Rattle.grid_outside.specs.Source.{SourceState};
 ghost use Rattle.grid_model.specs.Applying.{is_user};
 ghost use Rattle.grid_model.specs.Checks.{first_fault, rules_faults};
-ghost use Rattle.grid_model.specs.Deltas.{text as text_part, u32, u64};
+ghost use Rattle.grid_model.specs.Deltas.{text as text_part};
 ghost use Rattle.grid_model.specs.Operations.Table.{Operation, row};
 ghost use Rattle.grid_model.specs.Orders.{works};
 ghost use Rattle.grid_model.specs.Parsed.{rule_of};
@@ -15,27 +15,22 @@ ghost use Rattle.chain_core.specs.Seen.{rules_of};
 ghost use Rattle.row_run.specs.Verbs.{HasGoodWords, WorksBy};
 ghost use Rattle.run_laws.specs.Ends.{MakesFile};
 ghost use Rattle.run_laws.specs.Passes.{AreReady, CallsPass};
-ghost use Rattle.run_laws.specs.Steps.{CallsNoRules};
 ghost use Rattle.service_run.specs.declared.ending.Ending.{Ending};
 ghost use Rattle.rule_run.specs.Asked.{IsAsked};
 ghost use Rattle.rule_run.specs.Executing.{Executes};
 ghost use Rattle.work_run.specs.Works.{DoesWork};
 
-use crate::alone::operate_alone;
-use crate::naming::{names_of, with_rules};
-use crate::ruled::operate_ruled;
+use crate::starting::begin;
 use chain_core::{Frames, RuleBase};
-use chain_laws::names_complete;
 use grid_journal::Store;
 use grid_model::Verb;
 use grid_outside::{Ambient, Disk, Outside, Plugin, Sink, Wear};
-use point_laws::{pre_ends, works_end_by_rows, works_send_nothing, works_take_in_order};
 use service_run::{Command, Ending};
-use std::alloc::{AllocError, Global};
+use std::alloc::Global;
 
 /// Does the operation of a verb with its points for a request, and tells its reply: the rules before it, the operation, which is noted on
-/// main while its deed changes files, the rules after it, then one last commit and the rest of the reply. `body` is what a put puts. The
-/// command has no mark, and the rules are checked ones.
+/// main while its deed changes files, the rules after it, then one last commit and the rest of the reply. The bytes of a get are told as they
+/// are read. `body` is what a put puts. The command has no mark, and the rules are checked ones.
 ///
 /// An error ends the command: `Memory` may come at any time, `Disk` and `Sink` where one of them failed, and `Worn` where the numbers of
 /// vault files or the room behind the log have run out. Draws at most 2^79 moments.
@@ -60,10 +55,8 @@ pub fn operate<D: Disk, K: Sink, A: Ambient, P: Plugin>(
     requires verb { (op : Operation) × WorksBy verb.now body.now op }
     requires checked { first_fault (rules_faults (map rule_of rules.now.rules)) ≡ None }
     requires ready { AreReady D.disk P.plugin K.sink (2 ^ 79) (record { outside = outside.old; sink = sink.old }) }
-    // Where nothing is to be kept of a request that calls no rules main stays as it is, and the state has none.
     ensures executes { (source : SourceState) (at : State) (request : Request) (op : Operation) → IsAsked at request store.old.cat command →
         WorksBy verb.now body.now op → DoesWork at request (user_name store.old.cat command.user) op → at.rules ≡ rules_of rules.now →
-        (CallsNoRules request → at.rules ≡ []) →
         Executes D.disk A.ambient P.plugin K.sink source at request store.old.cat command
         (record { outside = outside.old; sink = sink.old }) (record { outside = outside.new; sink = sink.new }) result store.new }
     ensures passes { CallsPass D.disk P.plugin K.sink (IsErrOf result Ending.Disk) (IsErrOf result Ending.Sink)
@@ -77,26 +70,8 @@ pub fn operate<D: Disk, K: Sink, A: Ambient, P: Plugin>(
         result ≡ Err (Ending.Worn Wear.Vaults place) → MakesFile (works op count) }
     ensures drawn { outside.new.moments ≤ outside.old.moments + 2 ^ 79 }
 {
-    names_complete();
-    pre_ends();
-    works_end_by_rows();
-    works_send_nothing();
-    works_take_in_order();
-    are_kept(command.run, command.number, command.user);
     let frames = Frames::new(alloc);
-    let names = match names_of(alloc, verb) {
-        Ok(names) => names,
-        Err(AllocError) => return Err(Ending::Memory),
-    };
-    match with_rules(rules, names) {
-        Some(names) => operate_ruled(
-            alloc, store, outside, sink, frames, rules, command, verb, body, names,
-        ),
-        None => operate_alone(alloc, store, outside, sink, command, verb, body),
-    }
+    begin(
+        alloc, store, outside, sink, frames, rules, command, verb, body,
+    )
 }
-
-// These numbers may stand in the catalogue. It does nothing.
-fn are_kept(run: u64, number: u64, user: u32)
-    ensures { IsTrue (u64 run).fits × IsTrue (u64 number).fits × IsTrue (u32 user).fits }
-{}

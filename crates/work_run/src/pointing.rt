@@ -1,17 +1,19 @@
-//! The session variables of the point of an operation.
+//! The session variables of the point of an operation or a query.
 ghost use Rattle.std.specs.Prelude.{◌≡◌, [], IfOk, None, Some, codes, length};
 ghost use Rattle.grid_model.specs.Applying.{IsMade};
+ghost use Rattle.std.specs.Option.{option_copied, option_map_or};
 ghost use Rattle.grid_model.specs.Names.{Text as TextOf};
 ghost use Rattle.grid_model.specs.Grid.{Thing};
 ghost use Rattle.grid_model.specs.Maps.{has};
-ghost use Rattle.grid_model.specs.Operations.Table.{Operation};
-ghost use Rattle.grid_model.specs.Points.{Point, at_access, at_collection, at_object, at_thing, parent_text, point, point_of};
+ghost use Rattle.grid_model.specs.Points.{Point, at_access, at_collection, at_object, at_thing, parent_text, point};
 ghost use Rattle.grid_model.specs.RowGrids.{grid_of, user_name};
 ghost use Rattle.cmd_read.specs.Orders.{NamesThing};
-ghost use Rattle.row_run.specs.Verbs.{HasGoodWords, NamesSome, WorksBy};
+ghost use Rattle.point_laws.specs.Works.{Work, point_at};
+ghost use Rattle.row_run.specs.Verbs.{HasGoodWords, NamesSome};
 ghost use Rattle.rule_cond.specs.Scopes.{env_of};
 ghost use Rattle.work_run.specs.Names.{point_name};
 ghost use Rattle.work_run.specs.Pointed.{IsPointOf};
+ghost use Rattle.work_run.specs.Verbs.{WorksAs};
 
 use grid_model::{ItemKind, Path, PathError, Text, Verb};
 use grid_tables::Tables;
@@ -30,8 +32,8 @@ pub(crate) fn variables_of(
 ) -> Result<Env, AllocError>
     requires made { IsMade tables.now }
     requires words { HasGoodWords verb.now }
-    ensures point { (op : Operation) (name : TextOf) → WorksBy verb.now body.now op → point_name verb.now ≡ Some name →
-        IfOk result (λ env. point_of (grid_of tables.now) (user_name tables.now user) op ≡ Some (record { operation = name; env = env_of env })) }
+    ensures point { (w : Work) (name : TextOf) → WorksAs verb.now body.now w → point_name verb.now ≡ Some name →
+        IfOk result (λ env. point_at (grid_of tables.now) (user_name tables.now user) w ≡ Some (record { operation = name; env = env_of env })) }
     ensures user { IfOk result (λ env. env.user ≡ user_name tables.now user) }
 {
     let user = name_of(alloc, tables, user)?;
@@ -58,6 +60,7 @@ pub(crate) fn variables_of(
             resource.as_slice(),
             Some(body.len() as u64),
         ),
+        Verb::Get { path, resource } => at_asked(alloc, user, path, resource.as_ref()),
         Verb::Repl { path, resource } => { at_object(alloc, user, path, resource.as_slice(), None) }
         Verb::ChkSum { path } => at_object(alloc, user, path, b"", None),
         Verb::Trim { path, resource } => { at_object(alloc, user, path, resource.as_slice(), None) }
@@ -111,6 +114,18 @@ fn at_object(
         resc,
         put_size,
     })
+}
+
+// Those of a point at what is at the path, read from the asked resource, if one is asked for.
+fn at_asked(alloc: Global, user: Text, path: &Path, asked: Option<&Text>) -> Result<Env, AllocError>
+    ensures point { (op : TextOf) →
+        IfOk result (λ env. IsPointOf op env (at_object op user path.now (option_map_or (λ r. r) (option_copied asked.entry) []) None)) }
+    ensures user { IfOk result (λ env. env.user ≡ user) }
+{
+    match asked {
+        Some(resource) => at_object(alloc, user, path, resource.as_slice(), None),
+        None => at_object(alloc, user, path, b"", None),
+    }
 }
 
 // Those of a point at a collection.

@@ -1,5 +1,5 @@
 //! The operation of a verb, as a call of a command.
-ghost use Rattle.std.specs.Prelude.{◌≡◌, ℕ, ◌+◌, ◌^◌, ◌<◌, ◌≤◌, [], Err, IfOk, IsErrOf, IsTrue, vec_len};
+ghost use Rattle.std.specs.Prelude.{◌≡◌, ℕ, ◌+◌, ◌^◌, ◌<◌, ◌≤◌, [], Err, IfOk, IsErrOf, IsTrue, true, vec_len};
 ghost use Rattle.std.specs.List.{list_all};
 ghost use Rattle.grid_outside.specs.Source.{SourceState};
 ghost use Rattle.grid_model.specs.Applying.{IsMade, is_user};
@@ -21,6 +21,7 @@ ghost use Rattle.call_laws.specs.OneCall.{AreKeepable, AreShort, IsKeepable};
 ghost use Rattle.deed_run.specs.Puts.{MayBeNoted, does_op};
 ghost use Rattle.work_run.specs.Names.{changes_rows};
 ghost use Rattle.work_run.specs.Next.{CanGoOn};
+ghost use Rattle.work_run.specs.Verbs.{is_call};
 ghost use Rattle.service_run.specs.declared.ending.Ending.{Ending};
 
 use deed_run::{chksum, put, repl, sum_words};
@@ -35,6 +36,7 @@ use std::alloc::{AllocError, Global};
 /// What the operation of a verb says, where it is done. Fails for want of memory alone.
 pub(crate) fn op_words(alloc: Global, tables: &Tables, verb: &Verb) -> Result<Texts, AllocError>
     requires made { IsMade tables.now }
+    requires call { is_call verb.now ≡ true }
     ensures is { (body : TextOf) (op : Operation) (user : TextOf) → WorksBy verb.now body op →
         IfOk result (λ words. words ≡ words_of (grid_of tables.now) user op) }
     ensures words { IfOk result (λ words. IsTrue (list_all is_word words)) }
@@ -62,6 +64,7 @@ pub(crate) fn work<D: Disk, K: Sink, A: Ambient, P: Plugin>(
     requires slots { store.old.cat.stores ≡ vec_len outside.old.stores }
     requires words { HasGoodWords verb.now }
     requires verb { (op : Operation) × WorksBy verb.now body.now op }
+    requires call { is_call verb.now ≡ true }
     requires ready { AreReady D.disk P.plugin K.sink (2 ^ 65) (record { outside = outside.old; sink = sink.old }) }
     ensures step { (source : SourceState) (kept : Cat) (op : Operation) → IsHeld kept (D.disk outside.old.main) store.old → WorksBy verb.now body.now op →
         IsStep (around D.disk A.ambient P.plugin outside.old (K.sink sink.old) source) (around D.disk A.ambient P.plugin outside.new (K.sink sink.new) source)
@@ -103,6 +106,7 @@ fn dispatch<D: Disk, K: Sink, A: Ambient, P: Plugin>(
     requires slots { store.old.cat.stores ≡ vec_len outside.old.stores }
     requires words { HasGoodWords verb.now }
     requires verb { (op : Operation) × WorksBy verb.now body.now op }
+    requires call { is_call verb.now ≡ true }
     requires ready { AreReady D.disk P.plugin K.sink (2 ^ 65) (record { outside = outside.old; sink = sink.old }) }
     ensures step { (source : SourceState) (kept : Cat) (op : Operation) → IsHeld kept (D.disk outside.old.main) store.old → WorksBy verb.now body.now op →
         IsStep (around D.disk A.ambient P.plugin outside.old (K.sink sink.old) source) (around D.disk A.ambient P.plugin outside.new (K.sink sink.new) source)
@@ -169,8 +173,8 @@ fn no_calls(alloc: Global) -> Calls
     Calls::from_vec(Vec::new(alloc))
 }
 
-// Lists in memory are no longer than that. It does nothing.
-fn are_short(command: &Command)
+/// Lists in memory are no longer than that. It does nothing.
+pub(crate) fn are_short(command: &Command)
     ensures { AreShort command.now [] }
 {
     is_size(command.marks.as_slice().len());

@@ -84,9 +84,9 @@ abcdefghijklmnopqrstuvwxyz012345\0\0\0\0\0\0\0\x01",
     // Access to no collection, and the removal of what was not given.
     b"\x0D\x02\0\0\0\0\0\0\0\x09\0\0\0\x01\x01",
     b"\x0E\x02\0\0\0\0\0\0\0\x03\0\0\0\x02",
-    // The resource with the number 0, and rules, of which none are taken.
+    // The resource with the number 0, and rules that do not stand as they are printed.
     b"\x0F\0\0\0\0\0\0\0\0\0\0\0\x01r\x01\0\x01\0\0\0\0\0\0\0\0",
-    b"\x10\0\0\0\0\0\0\0\0",
+    b"\x10\0\0\0\0\0\0\0\x09a ( ) { }",
     // An orphan of a file that was never named, and the removal of one.
     b"\x11\0\0\0\0\0\0\0\x01\0",
     b"\x12\0\0\0\0\0\0\0\x01",
@@ -102,6 +102,42 @@ fn a_delta_that_does_not_fit_is_refused_where_it_begins(rt: HostRuntime) -> Resu
     let alloc = rt.alloc();
     let main = begun(alloc)?;
     for body in UNFIT {
+        refuses_record(&rt, alloc, &main, body, 0)?;
+    }
+    Ok(())
+}
+
+#[test]
+fn rules_are_taken_as_they_are_printed(rt: HostRuntime) -> Result<(), Fail> {
+    let alloc = rt.alloc();
+    let main = begun(alloc)?;
+    for body in [
+        // No rules, one, and two of which the first calls the second.
+        b"\x10\0\0\0\0\0\0\0\0".as_slice(),
+        b"\x10\0\0\0\0\0\0\0\x0Aa ( ) { }\n",
+        b"\x10\0\0\0\0\0\0\0\x1Ca ( ) { b ( ) ; }\nb ( ) { }\n",
+    ] {
+        let longer = with_record(alloc, &main, body)?;
+        assert_eq!(rt; fault_of(alloc, &longer)?, None, "{body:?}");
+    }
+    Ok(())
+}
+
+#[test]
+fn other_texts_of_rules_are_refused_where_the_delta_begins(rt: HostRuntime) -> Result<(), Fail> {
+    let alloc = rt.alloc();
+    let main = begun(alloc)?;
+    for body in [
+        // Two blanks in a row, a comment, and no rules but a blank.
+        b"\x10\0\0\0\0\0\0\0\x0Ba  ( ) { }\n".as_slice(),
+        b"\x10\0\0\0\0\0\0\0\x0Ca ( ) { }\n#\n",
+        b"\x10\0\0\0\0\0\0\0\x01 ",
+        // A text that spells no rules.
+        b"\x10\0\0\0\0\0\0\0\x02a\n",
+        // A rule with the name of a micro-service, and one that calls what is not there.
+        b"\x10\0\0\0\0\0\0\0\x0Cnop ( ) { }\n",
+        b"\x10\0\0\0\0\0\0\0\x12a ( ) { b ( ) ; }\n",
+    ] {
         refuses_record(&rt, alloc, &main, body, 0)?;
     }
     Ok(())

@@ -20,12 +20,9 @@ const PASSED_OVER: [(&[u8], &[u8]); 31] = [
     ),
     (
         b"0 rules \"3\"\n\n\n\n0 login rods\n",
-        b"1 err UnknownCommand\n2 ok\n",
+        b"1 err NoLogin\n2 ok\n",
     ),
-    (
-        b"0 rules 0\n0 login rods\n",
-        b"1 err UnknownCommand\n2 ok\n",
-    ),
+    (b"0 rules 0\n0 login rods\n", b"1 err NoLogin\n2 ok\n"),
     (
         b"0 login rods\n0 put /f d9 new 14\n0 mkdir /never\n0 login x\n",
         b"1 ok\n2 err NoResource\n3 err NoUser\n",

@@ -75,7 +75,7 @@ fn a_log_that_is_cut_off_is_refused_where_it_does_not_go_on(rt: HostRuntime) -> 
 }
 
 // Bodies of a record that are refused, each with the place within it.
-const AT_FAULT: [(&[u8], u64); 15] = [
+const AT_FAULT: [(&[u8], u64); 17] = [
     // No such change, and one that ends too early.
     (b"\0", 0),
     (b"C /tempZone/home/rods/b\n", 0),
@@ -112,9 +112,11 @@ const AT_FAULT: [(&[u8], u64); 15] = [
         b"\x05\0\0\0\0\0\0\0\x09\0\0\0\0\0\0\0\x03\0\0\0\0\0\0\0\x03b/c\0",
         0,
     ),
-    // Rules, which no catalogue has yet, also none at all, and the end of a command where none is begun.
-    (b"\x10\0\0\0\0\0\0\0\x14a ( ) { nop ( ) ; }\n", 0),
-    (b"\x10\0\0\0\0\0\0\0\0", 0),
+    // Rules that do not stand as they are printed, that are not allowed, and that are none, and the end of a command where none is begun.
+    (b"\x10\0\0\0\0\0\0\0\x13a ( ) { nop ( ) ; }", 0),
+    (b"\x10\0\0\0\0\0\0\0\x15a ( ) { nop  ( ) ; }\n", 0),
+    (b"\x10\0\0\0\0\0\0\0\x13a ( ) { zz ( ) ; }\n", 0),
+    (b"\x10\0\0\0\0\0\0\0\x01a", 0),
     (b"\x15", 0),
     // One is taken, and the next one has its name in the same collection.
     (

@@ -1,9 +1,12 @@
-// Commands that were stopped, in a step and in a recovery, and what the run tells and leaves that opens them.
+// Puts whose rules were stopped, in a step and in a recovery, and what the run tells and leaves that opens them.
 use super::catalogues::see;
-use super::images::{Stop, WAYS, left_at, left_behind};
-use super::serving::{Served, serve_failing};
-use super::undone::{IN_A_RECOVERY, IN_A_STEP, opens, stopped_grid};
+use super::images::{Stop, WAYS, Way, left_at, left_behind};
+use super::serving::{Left, Served, Watch, begun, serve, serve_failing};
+use super::session::{replies, requests};
+use super::undone::{IN_A_RECOVERY, IN_A_STEP, opens};
 use grid_mem::{DiskDeed, StoreDeed};
+use std::alloc::Global;
+use std::process::Abort;
 use std::test::Fail;
 
 // The moment of the first write of a run to main.
@@ -16,16 +19,58 @@ fn first_write(served: &Served) -> Result<u128, Fail> {
     Err("no write".into())
 }
 
-// The moment in which a run first creates a file in the second store.
-fn first_create(served: &Served) -> Result<u128, Fail> {
-    let record = served.stores[1].try_borrow()?;
+// The moment in which a store creates a file, behind so many that it created before.
+fn create_behind(store: &Watch, before: usize) -> Result<u128, Fail> {
+    let record = store.try_borrow()?;
+    let mut left = before;
     for call in &record.calls {
         if let StoreDeed::Create { .. } = &call.deed {
-            return Ok(call.moment);
+            if left == 0 {
+                return Ok(call.moment);
+            }
+            left = left.saturating_sub(1);
         }
     }
     Err("no create".into())
 }
+
+// What is left of a run over three leaves and the replication over them, where nothing is sure but what was synced and finished when a
+// store creates a file, behind so many of its own; this was told.
+fn stopped_in(
+    rt: &impl Abort,
+    alloc: Global,
+    input: &[u8],
+    (slot, before): (usize, usize),
+    told: &[u8],
+) -> Result<Left, Fail> {
+    let new = begun(rt, alloc)?;
+    let making = serve(rt, alloc, &new, &requests(alloc, 8)?)?;
+    assert_eq!(rt; making.sink.bytes(), replies(alloc, 8)?.as_slice());
+    let served = serve(rt, alloc, &left_behind(alloc, &making)?, input)?;
+    let store = served.stores.get(slot).ok_or("no store")?;
+    let moment = create_behind(store, before)?;
+    let way = Way::Lost;
+    let left = left_at(alloc, &served, Stop { moment, way })?;
+    assert_eq!(rt; left.told.as_slice(), told);
+    Ok(left)
+}
+
+// What is put is copied to d1 and then to d2; the second copy is stopped. The next rule of the name is never run.
+const COPIED_TWICE: &[u8] = b"0 login rods\n0 rules 244\npep_api_data_obj_put_post() {\n\
+msiDataObjRepl($objPath, \"d1\") ::: msiDataObjTrim($objPath, \"d1\");\n\
+msiDataObjRepl($objPath, \"d2\") ::: msiDataObjTrim($objPath, \"d2\"); }\n\
+pep_api_data_obj_put_post() { msiAddAVU(\"-d\", $objPath, \"late\", \"yes\", \"\"); }\n\
+0 put /tempZone/home/rods/o d0 new 3\nabc";
+
+const TOLD_TWICE: &[u8] = b"1 ok\n2 ok\n3 mark ran 0 1000\n3 mark ran 0 1000\n";
+
+// A replica of what is put is let go, and copied again when the rule fails; that copy is stopped.
+const TAKEN_BACK: &[u8] = b"0 login rods\n0 rules 172\npep_api_data_obj_put_post() { \
+msiCollCreate($collName ++ \"/x\") ::: msiRmColl($collName ++ \"/x\"); \
+msiDataObjTrim($objPath, \"d1\") ::: msiDataObjRepl($objPath, \"d1\"); fail; }\n\
+0 put /tempZone/home/rods/o r new 3\nabc";
+
+const TOLD_ONCE: &[u8] = b"1 ok\n2 ok\n3 mark ran 0 1000\n";
 
 const AFTER_A_STEP: &[u8] = b"stopped 2 3\n3 mark ran 0 1000\n3 mark ran 0 1000\n3 mark stop\n\
 3 passed msiDataObjTrim /tempZone/home/rods/o d2 NoReplica\n3 err Stopped\n";
@@ -34,7 +79,7 @@ const AFTER_A_STEP: &[u8] = b"stopped 2 3\n3 mark ran 0 1000\n3 mark ran 0 1000\
 fn the_steps_before_one_that_is_stopped_are_undone(rt: HostRuntime) -> Result<(), Fail> {
     let alloc = rt.alloc();
     let listed = IN_A_STEP.listed;
-    let left = stopped_grid(&rt, alloc, &IN_A_STEP)?;
+    let left = stopped_in(&rt, alloc, COPIED_TWICE, (2, 0), TOLD_TWICE)?;
     let opened = opens(&rt, alloc, &left, AFTER_A_STEP, 3, listed)?;
     // A second stop, where the run is begun.
     let moment = first_write(&opened)?;
@@ -55,10 +100,10 @@ const AFTER_TWO: &[u8] =
 fn a_recovery_that_is_stopped_is_run_again(rt: HostRuntime) -> Result<(), Fail> {
     let alloc = rt.alloc();
     let listed = IN_A_RECOVERY.listed;
-    let left = stopped_grid(&rt, alloc, &IN_A_RECOVERY)?;
+    let left = stopped_in(&rt, alloc, TAKEN_BACK, (1, 1), TOLD_ONCE)?;
     let opened = opens(&rt, alloc, &left, AFTER_A_RECOVERY, 3, listed)?;
     // A second stop in the same place.
-    let moment = first_create(&opened)?;
+    let moment = create_behind(&opened.stores[1], 0)?;
     for way in WAYS {
         let left = left_at(alloc, &opened, Stop { moment, way })?;
         assert_eq!(rt;
@@ -80,7 +125,7 @@ const WITHOUT_ONE: &[u8] = b"1 ok\n\
 #[test]
 fn a_recovery_that_a_store_refuses_is_passed_over(rt: HostRuntime) -> Result<(), Fail> {
     let alloc = rt.alloc();
-    let left = stopped_grid(&rt, alloc, &IN_A_RECOVERY)?;
+    let left = stopped_in(&rt, alloc, TAKEN_BACK, (1, 1), TOLD_ONCE)?;
     let opened = serve_failing(&rt, alloc, &left, b"")?;
     assert_eq!(rt; opened.sink.bytes(), REFUSED);
     let seen = see(&rt, alloc, left_behind(alloc, &opened)?)?;

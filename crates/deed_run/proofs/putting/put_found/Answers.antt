@@ -1,7 +1,6 @@
 use Rattle.std.proofs.Common.{◌≡◌, IsTrue, Err, Ok, refl, sym, ap, ◌∙◌, subst, arith}
 use Rattle.std.specs.Prelude.{⊤, [], Result, IsErrOf}
 use Rattle.grid_outside.specs.Ambient.{GivesTime}
-use Rattle.grid_outside.specs.declared.outside.Wear.TheVariants as wear
 use Rattle.grid_model.specs.Applying.{is_user}
 use Rattle.grid_model.specs.Deeds.{deed}
 use Rattle.grid_model.specs.Grid.{Grid}
@@ -13,13 +12,12 @@ use Rattle.grid_model.specs.Doing.{take_mark}
 use Rattle.grid_model.specs.Working.{running}
 use Rattle.grid_model.specs.declared.refusal.Failure.{Failure}
 use Rattle.grid_deed.proofs.Keeping.{made_more}
-use Rattle.run_laws.proofs.Draws.{gave-none}
 use Rattle.run_laws.proofs.OneMark.{gave_untold}
 use Rattle.service_run.specs.declared.ending.Ending.{Ending}
 use Rattle.service_run.specs.declared.ending.Ending.TheVariants as ending
 use Rattle.service_run.proofs.Passing.{passes_none, passes_as}
 use Rattle.service_run.proofs.DeedSteps.{grid_before, looks_same}
-use Rattle.service_run.proofs.StillSteps.{step_still, still_same}
+use Rattle.service_run.proofs.StillSteps.{step_still}
 use Rattle.deed_run.proofs.PutSteps.{plan_as, put_step}
 use Rattle.deed_run.proofs.putting.put_found.Goals as goal
 

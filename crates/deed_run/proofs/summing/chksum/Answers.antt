@@ -1,4 +1,4 @@
-use Rattle.std.proofs.Common.{◌≡◌, Err, Ok, sym, ap, ◌∙◌, subst, arith}
+use Rattle.std.proofs.Common.{◌≡◌, Err, sym, ap, ◌∙◌, subst, arith}
 use Rattle.grid_model.specs.RowGrids.{user_name}
 use Rattle.grid_model.specs.Operations.Table.{chksum}
 use Rattle.grid_model.specs.Working.{running}

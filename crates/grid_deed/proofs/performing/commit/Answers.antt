@@ -1,10 +1,14 @@
 use Rattle.std.proofs.Common.{refl}
 use Rattle.std.specs.Prelude.{IsErrOf}
 use Rattle.grid_journal.specs.declared.error.JournalError.TheVariants.{DiskFault}
+use Rattle.grid_journal.proofs.KeptDeltas.{plain_kept}
 use Rattle.grid_deed.proofs.Frames.{frame_main, goes_between}
 use Rattle.grid_deed.proofs.Keeping.{committed_so, rests_where, commit_room}
 use Rattle.grid_deed.proofs.DeedWholes.{keep_first, keep_staged}
 use Rattle.grid_deed.proofs.performing.commit.Goals as goal
+
+pub commit-requires-clause-spelled : goal.commit-requires-clause-spelled
+commit-requires-clause-spelled g c = plain_kept c.args.deltas c.requires.spelled
 
 pub returns-clause-committed : goal.returns-clause-committed
 returns-clause-committed g c kept after held applied =

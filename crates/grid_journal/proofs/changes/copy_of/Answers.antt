@@ -1,6 +1,6 @@
 use Rattle.std.proofs.Common.{sym, subst, List, ℕ}
 use Rattle.grid_model.specs.Deltas.{SpellsDeltas}
-use Rattle.grid_journal.proofs.DeltaLemmas.{fit_of}
+use Rattle.grid_journal.proofs.KeptDeltas.{fit_of}
 use Rattle.grid_journal.proofs.changes.copy_of.Goals as goal
 
 pub encode-requires : goal.encode-requires

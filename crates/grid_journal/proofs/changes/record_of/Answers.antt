@@ -1,4 +1,4 @@
-use Rattle.grid_journal.proofs.DeltaLemmas.{fit_of}
+use Rattle.grid_journal.proofs.KeptDeltas.{fit_of}
 use Rattle.grid_journal.proofs.changes.record_of.Goals as goal
 
 pub encode-requires : goal.encode-requires

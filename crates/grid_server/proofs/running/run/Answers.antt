@@ -59,24 +59,14 @@ returns-in-Init-clause-in_room g c = λ asks. absurd (serve_or_init asks c.in-In
 pub returns-in-Init-clause-serve : goal.returns-in-Init-clause-serve
 returns-in-Init-clause-serve g c = λ asks. absurd (serve_or_init asks c.in-Init.ensures)
 
-pub returns-in-Init-clause-not_plain : goal.returns-in-Init-clause-not_plain
-returns-in-Init-clause-not_plain g c = λ found asks. absurd (serve_or_init asks c.in-Init.ensures)
-
-pub returns-in-Init-clause-not_plain_only : goal.returns-in-Init-clause-not_plain_only
-returns-in-Init-clause-not_plain_only g c = λ found is. absurd (c.init.ensures.no_run.0 is)
-
 pub returns-in-Init-clause-long_only : goal.returns-in-Init-clause-long_only
-returns-in-Init-clause-long_only g c = λ taken is. absurd (c.init.ensures.no_run.1 taken is)
+returns-in-Init-clause-long_only g c = λ taken is. absurd (c.init.ensures.no_run.0 taken is)
 
 pub returns-in-Init-clause-worn_only : goal.returns-in-Init-clause-worn_only
-returns-in-Init-clause-worn_only g c = λ found what place is. absurd (c.init.ensures.no_run.2 what place is)
+returns-in-Init-clause-worn_only g c = λ found what place is. absurd (c.init.ensures.no_run.1 what place is)
 
 pub returns-in-Init-clause-took : goal.returns-in-Init-clause-took
 returns-in-Init-clause-took g c = λ told. took_none (g.S.Source.source c.args.source.now)
-
-pub returns-in-Nothing-clause-not_plain_only : goal.returns-in-Nothing-clause-not_plain_only
-returns-in-Nothing-clause-not_plain_only g c = λ found is.
-    absurd (says_another _ status.Usage c.say.result status.NotPlain (g.K.Sink.sink c.args.sink.now) (g.K.Sink.sink c.say.new.sink) (λ e. cc e) (λ e. cc e) c.say.ensures.says is)
 
 pub returns-in-Nothing-clause-long_only : goal.returns-in-Nothing-clause-long_only
 returns-in-Nothing-clause-long_only g c = λ taken is.
@@ -96,9 +86,8 @@ pub returns-in-Serve-clause-serve : goal.returns-in-Serve-clause-serve
 returns-in-Serve-clause-serve g c = λ asks. c.serve.ensures.serve
 
 pub returns-in-Serve-clause-serve_all : goal.returns-in-Serve-clause-serve_all
-returns-in-Serve-clause-serve_all g c = λ found asks told source_told stood stores plain fits main spare source sink.
+returns-in-Serve-clause-serve_all g c = λ found asks told source_told stood stores fits main spare source sink.
     complete c.serve.result c.serve.ensures.ends (λ e. main (c.serve.ensures.passes.frame.cause e)) (λ e. source (c.serve.ensures.source e)) (λ e. sink (c.serve.ensures.passes.sink_cause e))
-    (λ e. c.serve.ensures.not_plain_only found e told stood plain)
     (λ taken e. let most = (c.serve.ensures.long_only taken e).1 source_told in long_fits (g.S.Source.source c.args.source.now) (g.S.Source.source c.serve.new.source) most.0 most.1 fits)
     (λ side place e. no_both (g.D.Disk.disk c.args.outside.now.main).holds (g.D.Disk.disk c.args.outside.now.spare).holds found side place stood (c.serve.ensures.not_a_catalogue side place e told))
     (λ had given e. let only = c.serve.ensures.stores_only had given e in only.0 (only.2 found told stood ∙ stores ∙ sym only.1))

@@ -5,7 +5,6 @@ use Rattle.grid_model.specs.declared.grid.Side.TheVariants.{Main}
 use Rattle.grid_journal.specs.Journal.{ClosesAt}
 use Rattle.grid_headline.specs.Ends.{HasRunOut}
 use Rattle.run_open.specs.Preparing.{HasRoom}
-use Rattle.grid_server.specs.Running.{IsPlain}
 use Rattle.grid_server.specs.declared.status.Status.TheVariants as status
 use Rattle.grid_server.proofs.OpensLemmas.{serves_looked_memory, serves_looked_fault, serves_held, not_disk}
 use Rattle.grid_server.proofs.RestLemmas.{looked_rests, rests_on, rests_same}
@@ -97,24 +96,6 @@ pub returns-in-Err-Memory-clause-worn : goal.returns-in-Err-Memory-clause-worn
 returns-in-Err-Memory-clause-worn g c = λ found told stood stores none.
     (tt, looked_rests (g.D.Disk.disk c.args.outside.now.main) (g.D.Disk.disk c.open.new.main) c.open.ensures.looks c.open.ensures.later, refl, refl, refl)
 
-pub returns-in-Ok-clause-not_plain : goal.returns-in-Ok-clause-not_plain
-returns-in-Ok-clause-not_plain g c = λ found told stood stores not.
-    let main_old = g.D.Disk.disk c.args.outside.now.main in
-    let main_new = g.D.Disk.disk c.open.new.main in
-    let spare = (g.D.Disk.disk c.args.outside.now.spare).holds in
-    let same : c.in-Ok.store.cat ≡ found = one_cat main_old.holds spare c.in-Ok.store.cat found (c.in-Ok.ensures.stands told spare) stood in
-    let P : Cat → Type 0 = λ x. ¬ IsPlain x in
-    let refused = c.serve_over.ensures.not_plain (ap (λ (x : Cat). x.stores) same ∙ stores) (subst P (sym same) not) in
-    (refused.0, rests_more main_old main_new (g.D.Disk.disk c.serve_over.new.outside.main) (looked_rests main_old main_new c.open.ensures.looks c.open.ensures.later) refused.1, refused.2, refused.3, refused.4)
-
-pub returns-in-Ok-clause-not_plain_only : goal.returns-in-Ok-clause-not_plain_only
-returns-in-Ok-clause-not_plain_only g c = λ found is told stood.
-    let main_old = g.D.Disk.disk c.args.outside.now.main in
-    let spare = (g.D.Disk.disk c.args.outside.now.spare).holds in
-    let same : c.in-Ok.store.cat ≡ found = one_cat main_old.holds spare c.in-Ok.store.cat found (c.in-Ok.ensures.stands told spare) stood in
-    let P : Cat → Type 0 = λ x. ¬ IsPlain x in
-    subst P same (c.serve_over.ensures.not_plain_only is)
-
 pub returns-in-Ok-clause-worn_only : goal.returns-in-Ok-clause-worn_only
 returns-in-Ok-clause-worn_only g c = λ found what place is told stood.
     let main_old = g.D.Disk.disk c.args.outside.now.main in
@@ -124,11 +105,11 @@ returns-in-Ok-clause-worn_only g c = λ found what place is told stood.
     subst R same (c.serve_over.ensures.worn_only what place is (subst IsTrue (sym c.open.ensures.looks.tells) told))
 
 pub returns-in-Ok-clause-serve : goal.returns-in-Ok-clause-serve
-returns-in-Ok-clause-serve g c = λ found end plain its.
+returns-in-Ok-clause-serve g c = λ found end begin its.
     let main_old = g.D.Disk.disk c.args.outside.now.main in
     let spare = (g.D.Disk.disk c.args.outside.now.spare).holds in
-    let same : c.in-Ok.store.cat ≡ found = one_cat main_old.holds spare c.in-Ok.store.cat found (c.in-Ok.ensures.stands plain.begin.main_tells spare) plain.begin.stands in
-    serves_held (record { disk = g.D.Disk.disk; source = g.S.Source.source; sink = g.K.Sink.sink; ambient = g.A.Ambient.ambient; plugin = g.P.Plugin.plugin }) (record { outside = c.args.outside.now; source = c.args.source.now; sink = c.args.sink.now }) (record { outside = c.serve_over.new.outside; source = c.serve_over.new.source; sink = c.serve_over.new.sink }) c.in-Ok.store.cat found end same plain
+    let same : c.in-Ok.store.cat ≡ found = one_cat main_old.holds spare c.in-Ok.store.cat found (c.in-Ok.ensures.stands begin.main_tells spare) begin.stands in
+    serves_held (record { disk = g.D.Disk.disk; source = g.S.Source.source; sink = g.K.Sink.sink; ambient = g.A.Ambient.ambient; plugin = g.P.Plugin.plugin }) (record { outside = c.args.outside.now; source = c.args.source.now; sink = c.args.sink.now }) (record { outside = c.serve_over.new.outside; source = c.serve_over.new.source; sink = c.serve_over.new.sink }) c.in-Ok.store.cat found end same begin
     (λ held. c.serve_over.ensures.serve c.args.outside.now.main c.args.outside.now.spare end held
     (record { main_last = c.requires.ready.outside.main_last; spare_last = c.requires.spare_last; sink_last = c.requires.ready.sink_last; stores_last = c.requires.ready.outside.stores_last })
     (looked_rests main_old (g.D.Disk.disk c.open.new.main) c.open.ensures.looks c.open.ensures.later)
@@ -172,36 +153,22 @@ returns-in-Err-Memory-clause-passes g c =
     passes_main (record { disk = g.D.Disk.disk; source = g.S.Source.source; sink = g.K.Sink.sink; ambient = g.A.Ambient.ambient; plugin = g.P.Plugin.plugin }) _ _ (record { outside = c.args.outside.now; source = c.args.source.now; sink = c.args.sink.now }) c.open.new.main c.open.new.spare c.args.outside.now.moments (omega arith) (omega (arith, rests.last, c.requires.ready.outside.main_last))
     (record { faults = rests.faults; tells = rests.tells; earlier = λ t image le left. rests.left t image left }) c.open.ensures.spare (λ e. cc e) (λ ok told. inl (rests.holds told)) (λ e. cc e)
 
-pub returns-in-Err-NotACatalogue-clause-not_plain : goal.returns-in-Err-NotACatalogue-clause-not_plain
-returns-in-Err-NotACatalogue-clause-not_plain g c = λ found told stood. absurd (no_both (g.D.Disk.disk c.args.outside.now.main).holds (g.D.Disk.disk c.args.outside.now.spare).holds found c.in-Err-NotACatalogue.side c.in-Err-NotACatalogue.at stood (c.in-Err-NotACatalogue.ensures.not_a_catalogue c.in-Err-NotACatalogue.side c.in-Err-NotACatalogue.at (ap Err c.in-Err-NotACatalogue.field-0-is) told (g.D.Disk.disk c.args.outside.now.spare).holds))
-
-pub returns-in-Err-NotACatalogue-clause-not_plain_only : goal.returns-in-Err-NotACatalogue-clause-not_plain_only
-returns-in-Err-NotACatalogue-clause-not_plain_only g c = λ found is told stood. absurd (no_both (g.D.Disk.disk c.args.outside.now.main).holds (g.D.Disk.disk c.args.outside.now.spare).holds found c.in-Err-NotACatalogue.side c.in-Err-NotACatalogue.at stood (c.in-Err-NotACatalogue.ensures.not_a_catalogue c.in-Err-NotACatalogue.side c.in-Err-NotACatalogue.at (ap Err c.in-Err-NotACatalogue.field-0-is) told (g.D.Disk.disk c.args.outside.now.spare).holds))
-
 pub returns-in-Err-NotACatalogue-clause-worn_only : goal.returns-in-Err-NotACatalogue-clause-worn_only
 returns-in-Err-NotACatalogue-clause-worn_only g c = λ found what place is told stood. absurd (no_both (g.D.Disk.disk c.args.outside.now.main).holds (g.D.Disk.disk c.args.outside.now.spare).holds found c.in-Err-NotACatalogue.side c.in-Err-NotACatalogue.at stood (c.in-Err-NotACatalogue.ensures.not_a_catalogue c.in-Err-NotACatalogue.side c.in-Err-NotACatalogue.at (ap Err c.in-Err-NotACatalogue.field-0-is) told (g.D.Disk.disk c.args.outside.now.spare).holds))
 
 pub returns-in-Err-NotACatalogue-clause-serve : goal.returns-in-Err-NotACatalogue-clause-serve
-returns-in-Err-NotACatalogue-clause-serve g c = λ found end plain its. absurd (no_both (g.D.Disk.disk c.args.outside.now.main).holds (g.D.Disk.disk c.args.outside.now.spare).holds found c.in-Err-NotACatalogue.side c.in-Err-NotACatalogue.at plain.begin.stands (c.in-Err-NotACatalogue.ensures.not_a_catalogue c.in-Err-NotACatalogue.side c.in-Err-NotACatalogue.at (ap Err c.in-Err-NotACatalogue.field-0-is) plain.begin.main_tells (g.D.Disk.disk c.args.outside.now.spare).holds))
+returns-in-Err-NotACatalogue-clause-serve g c = λ found end begin its. absurd (no_both (g.D.Disk.disk c.args.outside.now.main).holds (g.D.Disk.disk c.args.outside.now.spare).holds found c.in-Err-NotACatalogue.side c.in-Err-NotACatalogue.at begin.stands (c.in-Err-NotACatalogue.ensures.not_a_catalogue c.in-Err-NotACatalogue.side c.in-Err-NotACatalogue.at (ap Err c.in-Err-NotACatalogue.field-0-is) begin.main_tells (g.D.Disk.disk c.args.outside.now.spare).holds))
 
 pub returns-in-Err-DiskFault-clause-serve : goal.returns-in-Err-DiskFault-clause-serve
-returns-in-Err-DiskFault-clause-serve g c = λ found end plain its.
+returns-in-Err-DiskFault-clause-serve g c = λ found end begin its.
     let main_old = g.D.Disk.disk c.args.outside.now.main in
-    serves_looked_fault (record { disk = g.D.Disk.disk; source = g.S.Source.source; sink = g.K.Sink.sink; ambient = g.A.Ambient.ambient; plugin = g.P.Plugin.plugin }) (record { outside = c.args.outside.now; source = c.args.source.now; sink = c.args.sink.now }) found c.open.new.main c.open.new.spare plain
+    serves_looked_fault (record { disk = g.D.Disk.disk; source = g.S.Source.source; sink = g.K.Sink.sink; ambient = g.A.Ambient.ambient; plugin = g.P.Plugin.plugin }) (record { outside = c.args.outside.now; source = c.args.source.now; sink = c.args.sink.now }) found c.open.new.main c.open.new.spare begin
     (record { main_last = c.requires.ready.outside.main_last; spare_last = c.requires.spare_last; sink_last = c.requires.ready.sink_last; stores_last = c.requires.ready.outside.stores_last })
     (looked_rests main_old (g.D.Disk.disk c.open.new.main) c.open.ensures.looks c.open.ensures.later) c.open.ensures.spare end its (c.in-Err-DiskFault.ensures.cause (ap Err c.in-Err-DiskFault.field-0-is))
 
-pub returns-in-Err-DiskFault-clause-not_plain : goal.returns-in-Err-DiskFault-clause-not_plain
-returns-in-Err-DiskFault-clause-not_plain g c = λ found told stood stores none.
-    (tt, looked_rests (g.D.Disk.disk c.args.outside.now.main) (g.D.Disk.disk c.open.new.main) c.open.ensures.looks c.open.ensures.later, refl, refl, refl)
-
 pub returns-in-Err-Memory-clause-serve : goal.returns-in-Err-Memory-clause-serve
-returns-in-Err-Memory-clause-serve g c = λ found end plain its.
+returns-in-Err-Memory-clause-serve g c = λ found end begin its.
     let main_old = g.D.Disk.disk c.args.outside.now.main in
-    serves_looked_memory (record { disk = g.D.Disk.disk; source = g.S.Source.source; sink = g.K.Sink.sink; ambient = g.A.Ambient.ambient; plugin = g.P.Plugin.plugin }) (record { outside = c.args.outside.now; source = c.args.source.now; sink = c.args.sink.now }) found c.open.new.main c.open.new.spare plain
+    serves_looked_memory (record { disk = g.D.Disk.disk; source = g.S.Source.source; sink = g.K.Sink.sink; ambient = g.A.Ambient.ambient; plugin = g.P.Plugin.plugin }) (record { outside = c.args.outside.now; source = c.args.source.now; sink = c.args.sink.now }) found c.open.new.main c.open.new.spare begin
     (record { main_last = c.requires.ready.outside.main_last; spare_last = c.requires.spare_last; sink_last = c.requires.ready.sink_last; stores_last = c.requires.ready.outside.stores_last })
     (looked_rests main_old (g.D.Disk.disk c.open.new.main) c.open.ensures.looks c.open.ensures.later) c.open.ensures.spare end its
-
-pub returns-in-Err-Memory-clause-not_plain : goal.returns-in-Err-Memory-clause-not_plain
-returns-in-Err-Memory-clause-not_plain g c = λ found told stood stores none.
-    (tt, looked_rests (g.D.Disk.disk c.args.outside.now.main) (g.D.Disk.disk c.open.new.main) c.open.ensures.looks c.open.ensures.later, refl, refl, refl)

@@ -1,4 +1,3 @@
-use Rattle.std.proofs.Common.{Err}
 use Rattle.row_run.proofs.saying.told_thing.Goals as goal
 
 pub unreachable-requires : goal.unreachable-requires

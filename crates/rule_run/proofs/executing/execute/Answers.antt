@@ -4,6 +4,7 @@ use Rattle.grid_model.specs.Names.{Text}
 use Rattle.grid_model.specs.Rows.{Cat}
 use Rattle.grid_model.specs.Writable.{is_word}
 use Rattle.grid_deed.specs.Held.{IsHeld}
+use Rattle.service_run.specs.Steps.{lines_of}
 use Rattle.call_laws.proofs.Joined.{passes_then, passes_well}
 use Rattle.rule_run.specs.Finishing.{Finishes, rest_text}
 use Rattle.rule_run.proofs.Ended.{amid_first, ended_so, keepable_first, passes_err, ready_after, ready_less}
@@ -58,8 +59,8 @@ returns-in-Err-clause-executes g c source at request vs asked values calls does 
     let x = c.args.command in
     let rules = rules_of c.args.rules.now in
     let env = env_of c.args.env.now in
-    let ran = c.in-Err.ensures.runs source at request rows.cat x (record { outside = c.args.outside.now; sink = c.args.sink.now }) [] vs
-    (is_setting at request rows.cat x asked)
+    let ran = c.in-Err.ensures.runs source at request rows.cat x (lines_of x.number) (record { outside = c.args.outside.now; sink = c.args.sink.now }) [] vs
+    (is_setting at request rows.cat x asked (lines_of x.number))
     (amid_first disk ambient plugin sink source at request rows.cat x asked (record { outside = c.args.outside.now; sink = c.args.sink.now }) rows
     c.requires.held refl (2 ^ 78 + 2 ^ 10) c.requires.ready)
     values (waits_with at request rows.cat x asked rules env c.args.call vs does) asked in
@@ -105,15 +106,15 @@ returns-clause-executes g c source at request vs asked values calls does =
     let left = c.run_alone.new.store in
     let rules = rules_of c.args.rules.now in
     let env = env_of c.args.env.now in
-    let ran = c.in-Ok.ensures.runs source at request rows.cat x (record { outside = c.args.outside.now; sink = c.args.sink.now }) [] vs
-    (is_setting at request rows.cat x asked)
+    let ran = c.in-Ok.ensures.runs source at request rows.cat x (lines_of x.number) (record { outside = c.args.outside.now; sink = c.args.sink.now }) [] vs
+    (is_setting at request rows.cat x asked (lines_of x.number))
     (amid_first disk ambient plugin sink source at request rows.cat x asked (record { outside = c.args.outside.now; sink = c.args.sink.now }) rows
     c.requires.held refl (2 ^ 78 + 2 ^ 10) c.requires.ready)
     values (waits_with at request rows.cat x asked rules env c.args.call vs does) asked in
     let F : List (List Text) → Type 0 = λ shown_rows. (kept : Cat) → IsHeld kept (disk c.run_alone.new.outside.main) left
     → Finishes (disk c.run_alone.new.outside.main) (disk c.finish.new.outside.main) (sink c.run_alone.new.sink) (sink c.finish.new.sink) kept
     c.run_alone.new.outside.moments y.number left y (y.untold ++ rest_text y.number y.passed shown_rows c.end_of.result) c.finish.result c.finish.new.store in
-    ended_so disk ambient plugin sink source at request rows.cat x asked (record { outside = c.args.outside.now; sink = c.args.sink.now })
+    ended_so disk ambient plugin sink source at request rows.cat x asked (lines_of x.number) (record { outside = c.args.outside.now; sink = c.args.sink.now })
     (record { outside = c.run_alone.new.outside; sink = c.run_alone.new.sink }) y left ran.1.more ran.1.amid
     (c.run_alone.ensures.passes.frame.main_last c.requires.ready.outside.main_last) [] c.end_of.result
     (record { outside = c.finish.new.outside; sink = c.finish.new.sink }) c.finish.result c.finish.new.store _ _ c.finish.ensures.passes

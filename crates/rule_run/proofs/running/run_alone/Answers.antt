@@ -66,7 +66,7 @@ run_rule-ran-requires-clause-ready g c =
     (omega (arith, c.requires.slots, c.args.outside.now.stores.ok.0)) c.requires.words c.requires.kept c.requires.ready)
 
 pub returns-clause-runs : goal.returns-clause-runs
-returns-clause-runs g c source at request before x from taken vs setting amid has waits asked = (
+returns-clause-runs g c source at request before x text_of from taken vs setting amid has waits asked = (
   c.run_rule-ran.new.frames,
   shows g.D.Disk.disk g.A.Ambient.ambient g.P.Plugin.plugin g.K.Sink.sink (rules_of c.args.rules.now) (env_of c.args.env.now)
       (alone_from (rules_of c.args.rules.now) (env_of c.args.env.now) c.args.call vs) (entry g c) (last g c) c.machines_complete.ensures
@@ -74,7 +74,7 @@ returns-clause-runs g c source at request before x from taken vs setting amid ha
       c.new-frames.ensures.stopped (place_at (entry g c)))
       (c.calls_complete.ensures (rules_of c.args.rules.now) (env_of c.args.env.now) c.args.call vs c.new-frames.result (place_at (entry g c))))
       c.ended_by.result c.run_rule-ran.new.frames
-      (ran g c vs has) c.requires.name c.requires.ready.outside.main_last source at request before x from taken setting amid waits asked,
+      (ran g c vs has) c.requires.name c.requires.ready.outside.main_last source at request before x text_of from taken setting amid waits asked,
 )
 
 pub returns-clause-held : goal.returns-clause-held

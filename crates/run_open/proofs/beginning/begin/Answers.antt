@@ -2,6 +2,7 @@ use Rattle.std.proofs.Common.{ap, ◌∙◌, arith}
 use Rattle.std.specs.Prelude.{is_ok, is_some}
 use Rattle.grid_model.specs.Rows.{Cat}
 use Rattle.grid_outside.proofs.Spans.{leaves_start}
+use Rattle.grid_journal.proofs.KeptDeltas.{plain_kept}
 use Rattle.grid_deed.proofs.Frames.{goes_between, goes_nowhere}
 use Rattle.grid_deed.proofs.Keeping.{commit_room, committed_so, held_stands, rests_where}
 use Rattle.run_open.proofs.Commits.{is_begun, made_now, more_where, of_commit_where}
@@ -19,6 +20,9 @@ returns-in_default-clause-goes g c = goes_nowhere c.args.moments.now (g.D.Disk.d
 pub commit-requires-clause-apply : goal.commit-requires-clause-apply
 commit-requires-clause-apply g c =
     ap is_ok (is_begun c.args.store.now.cat (made_now c.requires.held.0 (g.D.Disk.disk c.args.main.now) c.args.store.now c.requires.held.1) c.tables-tables.result.now c.tables-tables.ensures c.numbers-last.result c.numbers-last.ensures c.has_pending-is_pending.result (c.has_pending-is_pending.ensures ∙ ap (λ (c : Cat). is_some c.pending) c.tables-tables.ensures) c.in-Ok.deltas c.in-Ok.ensures.is)
+
+pub commit-requires-clause-spelled : goal.commit-requires-clause-spelled
+commit-requires-clause-spelled g c = plain_kept c.in-Ok.deltas c.in-Ok.ensures.spelled
 
 pub commit-requires-clause-log : goal.commit-requires-clause-log
 commit-requires-clause-log g c = λ told. (c.requires.held.0, c.requires.held.1.keeps told)

@@ -24,7 +24,9 @@ use Rattle.run_open.proofs.opening.open_run.Goals as goal
 -- ---- nothing was touched
 
 pub returns-then-run-clause-opens : goal.returns-then-run-clause-opens
-returns-then-run-clause-opens g c = λ source order plain. opens-still (around g.D.Disk.disk g.A.Ambient.ambient g.P.Plugin.plugin c.args.outside.now (g.K.Sink.sink c.args.sink.now) source) c.args.store.now.cat plain.begin order
+returns-then-run-clause-opens g c = λ source rules order begin rules_are.
+    opens-still (around g.D.Disk.disk g.A.Ambient.ambient g.P.Plugin.plugin c.args.outside.now (g.K.Sink.sink c.args.sink.now) source) c.args.store.now.cat
+    rules begin order rules_are
 
 pub returns-then-run-clause-stops : goal.returns-then-run-clause-stops
 returns-then-run-clause-stops g c = λ e is.
@@ -38,7 +40,9 @@ pub returns-then-run-clause-no_room : goal.returns-then-run-clause-no_room
 returns-then-run-clause-no_room g c = λ none. ((_, inl refl), refl, refl)
 
 pub returns-in-Some-clause-opens : goal.returns-in-Some-clause-opens
-returns-in-Some-clause-opens g c = λ source order plain. opens-still (around g.D.Disk.disk g.A.Ambient.ambient g.P.Plugin.plugin c.args.outside.now (g.K.Sink.sink c.args.sink.now) source) c.args.store.now.cat plain.begin order
+returns-in-Some-clause-opens g c = λ source rules order begin rules_are.
+    opens-still (around g.D.Disk.disk g.A.Ambient.ambient g.P.Plugin.plugin c.args.outside.now (g.K.Sink.sink c.args.sink.now) source) c.args.store.now.cat
+    rules begin order rules_are
 
 pub returns-in-Some-clause-stops : goal.returns-in-Some-clause-stops
 returns-in-Some-clause-stops g c = λ e is.
@@ -84,11 +88,13 @@ pub error_of-requires : goal.error_of-requires
 error_of-requires g c = c.in-Err-begin.ensures.of_commit c.in-Err-begin.error refl
 
 pub returns-in-Err-begin-clause-opens : goal.returns-in-Err-begin-clause-opens
-returns-in-Err-begin-clause-opens g c = λ source order plain.
-    let prepared = c.in-Ok.ensures.prepares source order plain in
-    opens-begun (around g.D.Disk.disk g.A.Ambient.ambient g.P.Plugin.plugin c.args.outside.now (g.K.Sink.sink c.args.sink.now) source) (around g.D.Disk.disk g.A.Ambient.ambient g.P.Plugin.plugin c.prepare.new.outside (g.K.Sink.sink c.prepare.new.sink) source) c.args.store.now.cat plain.begin plain.rules c.prepare.new.store c.in-Ok.rest prepared
-    (order-after g.D.Disk.disk g.P.Plugin.plugin g.K.Sink.sink _ _ (record { outside = c.args.outside.now; sink = c.args.sink.now }) (record { outside = c.prepare.new.outside; sink = c.prepare.new.sink }) c.in-Ok.ensures.passes g.A.Ambient.ambient source order) (g.D.Disk.disk c.begin.new.main) (g.D.Disk.disk c.begin.new.spare) c.begin.new.moments c.begin.ensures.drawn_from c.begin.ensures.goes
-    (rests-where g.D.Disk.disk c.prepare.new.outside.spare c.begin.new.spare c.begin.ensures.spare) (Err c.in-Err-begin.error) c.begin.new.store (c.in-Err-begin.ensures.committed prepared.kept prepared.held)
+returns-in-Err-begin-clause-opens g c = λ source rules order begin rules_are.
+    let prepared = c.in-Ok.ensures.prepares source rules order begin rules_are in (
+      opens-begun (around g.D.Disk.disk g.A.Ambient.ambient g.P.Plugin.plugin c.args.outside.now (g.K.Sink.sink c.args.sink.now) source) (around g.D.Disk.disk g.A.Ambient.ambient g.P.Plugin.plugin c.prepare.new.outside (g.K.Sink.sink c.prepare.new.sink) source) c.args.store.now.cat rules begin c.prepare.new.store c.in-Ok.rest prepared
+          (order-after g.D.Disk.disk g.P.Plugin.plugin g.K.Sink.sink _ _ (record { outside = c.args.outside.now; sink = c.args.sink.now }) (record { outside = c.prepare.new.outside; sink = c.prepare.new.sink }) c.in-Ok.ensures.passes g.A.Ambient.ambient source order) (g.D.Disk.disk c.begin.new.main) (g.D.Disk.disk c.begin.new.spare) c.begin.new.moments c.begin.ensures.drawn_from c.begin.ensures.goes
+          (rests-where g.D.Disk.disk c.prepare.new.outside.spare c.begin.new.spare c.begin.ensures.spare) (Err c.in-Err-begin.error) c.begin.new.store (c.in-Err-begin.ensures.committed prepared.kept prepared.held),
+      prepared.rules_are,
+    )
 
 pub returns-in-Err-begin-clause-stops : goal.returns-in-Err-begin-clause-stops
 returns-in-Err-begin-clause-stops g c = λ e is.
@@ -129,10 +135,10 @@ pub tell-requires-clause-room : goal.tell-requires-clause-room
 tell-requires-clause-room g c = omega (arith, c.requires.ready.outside.room, c.in-Ok.ensures.drawn, c.begin.ensures.drawn)
 
 pub returns-in-Ok-tell-clause-opens : goal.returns-in-Ok-tell-clause-opens
-returns-in-Ok-tell-clause-opens g c = λ source order plain.
-    let prepared = c.in-Ok.ensures.prepares source order plain in
-    let told = subst IsTrue (sym c.in-Ok.ensures.passes.frame.main.tells) plain.begin.main_tells in
-    opened-last (around g.D.Disk.disk g.A.Ambient.ambient g.P.Plugin.plugin c.args.outside.now (g.K.Sink.sink c.args.sink.now) source) (around g.D.Disk.disk g.A.Ambient.ambient g.P.Plugin.plugin c.prepare.new.outside (g.K.Sink.sink c.prepare.new.sink) source) c.args.store.now.cat plain.begin plain.rules c.prepare.new.store c.in-Ok.rest prepared
+returns-in-Ok-tell-clause-opens g c = λ source rules order begin rules_are.
+    let prepared = c.in-Ok.ensures.prepares source rules order begin rules_are in
+    let told = subst IsTrue (sym c.in-Ok.ensures.passes.frame.main.tells) begin.main_tells in
+    opened-last (around g.D.Disk.disk g.A.Ambient.ambient g.P.Plugin.plugin c.args.outside.now (g.K.Sink.sink c.args.sink.now) source) (around g.D.Disk.disk g.A.Ambient.ambient g.P.Plugin.plugin c.prepare.new.outside (g.K.Sink.sink c.prepare.new.sink) source) c.args.store.now.cat rules begin c.prepare.new.store c.in-Ok.rest prepared
     (order-after g.D.Disk.disk g.P.Plugin.plugin g.K.Sink.sink _ _ (record { outside = c.args.outside.now; sink = c.args.sink.now }) (record { outside = c.prepare.new.outside; sink = c.prepare.new.sink }) c.in-Ok.ensures.passes g.A.Ambient.ambient source order) (g.D.Disk.disk c.begin.new.main) (g.D.Disk.disk c.begin.new.spare) c.begin.new.moments c.begin.ensures.drawn_from c.begin.ensures.main_last c.begin.ensures.goes
     (rests-where g.D.Disk.disk c.prepare.new.outside.spare c.begin.new.spare c.begin.ensures.spare) c.begin.new.store (c.in-Ok-begin.ensures.committed prepared.kept prepared.held)
     (g.K.Sink.sink c.tell.new.sink) c.tell.new.moments c.tell.ensures.drawn_from
@@ -148,7 +154,7 @@ returns-in-Ok-tell-clause-holds g c =
       held = subst H (sym kept.cat) kept.held;
       staged = kept.staged;
       pending = ap (λ (x : Cat). x.pending) kept.cat;
-      rules = ap (λ (x : Cat). x.rules) kept.cat ∙ c.in-Ok.ensures.rows.1 ∙ c.requires.rules;
+      rules = ap (λ (x : Cat). x.rules) kept.cat ∙ c.in-Ok.ensures.rows.1;
       stores = ap (λ (x : Cat). x.stores) kept.cat ∙ c.in-Ok.ensures.rows.2;
     }
 
@@ -168,13 +174,15 @@ pub returns-in-Ok-tell-clause-silent : goal.returns-in-Ok-tell-clause-silent
 returns-in-Ok-tell-clause-silent g c = λ none. (let was = c.in-Ok.ensures.none none in c.tell.ensures.none (c.as_slice.ensures ∙ was.0) ∙ was.1)
 
 pub returns-clause-opens : goal.returns-clause-opens
-returns-clause-opens g c = λ source order plain.
-    let prepared = c.in-Ok.ensures.prepares source order plain in
-    opens-last (around g.D.Disk.disk g.A.Ambient.ambient g.P.Plugin.plugin c.args.outside.now (g.K.Sink.sink c.args.sink.now) source) (around g.D.Disk.disk g.A.Ambient.ambient g.P.Plugin.plugin c.prepare.new.outside (g.K.Sink.sink c.prepare.new.sink) source) c.args.store.now.cat plain.begin plain.rules c.prepare.new.store c.in-Ok.rest prepared
-    (order-after g.D.Disk.disk g.P.Plugin.plugin g.K.Sink.sink _ _ (record { outside = c.args.outside.now; sink = c.args.sink.now }) (record { outside = c.prepare.new.outside; sink = c.prepare.new.sink }) c.in-Ok.ensures.passes g.A.Ambient.ambient source order) (g.D.Disk.disk c.begin.new.main) (g.D.Disk.disk c.begin.new.spare) c.begin.new.moments c.begin.ensures.drawn_from c.begin.ensures.main_last c.begin.ensures.goes
-    (rests-where g.D.Disk.disk c.prepare.new.outside.spare c.begin.new.spare c.begin.ensures.spare) c.begin.new.store (c.in-Ok-begin.ensures.committed prepared.kept prepared.held)
-    (g.K.Sink.sink c.tell.new.sink) c.tell.new.moments c.tell.ensures.drawn_from
-    (told_as c.begin.new.moments c.tell.new.moments c.as_slice.result.now c.in-Ok.rest (g.K.Sink.sink c.prepare.new.sink) (g.K.Sink.sink c.tell.new.sink) c.as_slice.ensures c.tell.ensures.told)
+returns-clause-opens g c = λ source rules order begin rules_are.
+    let prepared = c.in-Ok.ensures.prepares source rules order begin rules_are in (
+      opens-last (around g.D.Disk.disk g.A.Ambient.ambient g.P.Plugin.plugin c.args.outside.now (g.K.Sink.sink c.args.sink.now) source) (around g.D.Disk.disk g.A.Ambient.ambient g.P.Plugin.plugin c.prepare.new.outside (g.K.Sink.sink c.prepare.new.sink) source) c.args.store.now.cat rules begin c.prepare.new.store c.in-Ok.rest prepared
+          (order-after g.D.Disk.disk g.P.Plugin.plugin g.K.Sink.sink _ _ (record { outside = c.args.outside.now; sink = c.args.sink.now }) (record { outside = c.prepare.new.outside; sink = c.prepare.new.sink }) c.in-Ok.ensures.passes g.A.Ambient.ambient source order) (g.D.Disk.disk c.begin.new.main) (g.D.Disk.disk c.begin.new.spare) c.begin.new.moments c.begin.ensures.drawn_from c.begin.ensures.main_last c.begin.ensures.goes
+          (rests-where g.D.Disk.disk c.prepare.new.outside.spare c.begin.new.spare c.begin.ensures.spare) c.begin.new.store (c.in-Ok-begin.ensures.committed prepared.kept prepared.held)
+          (g.K.Sink.sink c.tell.new.sink) c.tell.new.moments c.tell.ensures.drawn_from
+          (told_as c.begin.new.moments c.tell.new.moments c.as_slice.result.now c.in-Ok.rest (g.K.Sink.sink c.prepare.new.sink) (g.K.Sink.sink c.tell.new.sink) c.as_slice.ensures c.tell.ensures.told),
+      prepared.rules_are,
+    )
 
 pub returns-clause-stops : goal.returns-clause-stops
 returns-clause-stops g c = λ e is. stops_as c.args.store.now.cat (g.D.Disk.disk c.args.outside.now.main) (g.D.Disk.disk c.begin.new.main) error.Sink e tt is

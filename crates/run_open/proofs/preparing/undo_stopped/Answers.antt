@@ -34,12 +34,14 @@ pub tell-requires-clause-room : goal.tell-requires-clause-room
 tell-requires-clause-room g c = omega (arith, c.requires.ready.outside.room)
 
 pub returns-in-Err-clause-prepares : goal.returns-in-Err-clause-prepares
-returns-in-Err-clause-prepares g c = λ source order plain.
+returns-in-Err-clause-prepares g c = λ source rules order begin rules_are.
     let cat = c.args.store.now.cat in
-    let u = some-undone cat in
-    let is = c.as_slice.ensures ∙ c.requires.stopped.4 ∙ front_is cat c.requires.stopped.0 c.requires.stopped.1 in
-    opens-front (around g.D.Disk.disk g.A.Ambient.ambient g.P.Plugin.plugin c.args.outside.now (g.K.Sink.sink c.args.sink.now) source) cat plain.begin order (g.K.Sink.sink c.tell.new.sink) c.tell.new.moments c.tell.ensures.drawn_from
-    (told_as c.args.outside.now.moments c.tell.new.moments c.as_slice.result.now (front_of cat) (g.K.Sink.sink c.args.sink.now) (g.K.Sink.sink c.tell.new.sink) is c.tell.ensures.told) u.0 u.1
+    let u = some-undone cat rules rules_are in
+    let is = c.as_slice.ensures ∙ c.requires.stopped.4 ∙ front_is cat c.requires.stopped.0 c.requires.stopped.1 in (
+      opens-front (around g.D.Disk.disk g.A.Ambient.ambient g.P.Plugin.plugin c.args.outside.now (g.K.Sink.sink c.args.sink.now) source) cat begin order (g.K.Sink.sink c.tell.new.sink) c.tell.new.moments c.tell.ensures.drawn_from
+          (told_as c.args.outside.now.moments c.tell.new.moments c.as_slice.result.now (front_of cat) (g.K.Sink.sink c.args.sink.now) (g.K.Sink.sink c.tell.new.sink) is c.tell.ensures.told) u.0 u.1,
+      u.2,
+    )
 
 pub returns-in-Err-clause-stops : goal.returns-in-Err-clause-stops
 returns-in-Err-clause-stops g c = λ e is. stops_as c.args.store.now.cat (g.D.Disk.disk c.args.outside.now.main) (g.D.Disk.disk c.args.outside.now.main) error.Sink e tt is
@@ -59,15 +61,16 @@ undo_all-requires-clause-ready g c =
     (2 ^ 120 + 1) (2 ^ 120) c.requires.ready (omega (arith, c.tell.ensures.drawn))
 
 pub returns-in-Err-undo_all-clause-prepares : goal.returns-in-Err-undo_all-clause-prepares
-returns-in-Err-undo_all-clause-prepares g c = λ source order plain.
+returns-in-Err-undo_all-clause-prepares g c = λ source rules order begin rules_are.
     let cat = c.args.store.now.cat in
     let is = c.as_slice.ensures ∙ c.requires.stopped.4 ∙ front_is cat c.requires.stopped.0 c.requires.stopped.1 in
-    opens-at (around g.D.Disk.disk g.A.Ambient.ambient g.P.Plugin.plugin c.args.outside.now (g.K.Sink.sink c.args.sink.now) source) cat c.requires.stopped.0 c.requires.stopped.1 plain.begin order (g.K.Sink.sink c.tell.new.sink) c.tell.new.moments c.tell.ensures.drawn_from
+    opens-at (around g.D.Disk.disk g.A.Ambient.ambient g.P.Plugin.plugin c.args.outside.now (g.K.Sink.sink c.args.sink.now) source) cat c.requires.stopped.0 c.requires.stopped.1 begin order (g.K.Sink.sink c.tell.new.sink) c.tell.new.moments c.tell.ensures.drawn_from
     (told_as c.args.outside.now.moments c.tell.new.moments c.as_slice.result.now (front_of cat) (g.K.Sink.sink c.args.sink.now) (g.K.Sink.sink c.tell.new.sink) is c.tell.ensures.told)
     (all_as c.as_slice.result.now (front_of cat) (g.K.Sink.sink c.args.sink.now) (g.K.Sink.sink c.tell.new.sink) is c.in-Ok.ensures.all) c.tell.ensures.settled
     (around g.D.Disk.disk g.A.Ambient.ambient g.P.Plugin.plugin c.undo_all.new.outside (g.K.Sink.sink c.undo_all.new.sink) source)
     (went_of g.D.Disk.disk g.P.Plugin.plugin g.K.Sink.sink _ _ g.A.Ambient.ambient source (record { outside = record c.args.outside.now { moments = c.tell.new.moments }; sink = c.tell.new.sink }) (record { outside = c.undo_all.new.outside; sink = c.undo_all.new.sink }) c.undo_all.ensures.passes)
-    c.undo_all.new.command c.undo_all.new.store (Err c.in-Err-undo_all.ending) (c.in-Err-undo_all.ensures.undoes source c.requires.stopped.0 c.requires.stopped.1)
+    rules c.undo_all.new.command c.undo_all.new.store (Err c.in-Err-undo_all.ending)
+    (c.in-Err-undo_all.ensures.undoes source c.requires.stopped.0 rules c.requires.stopped.1 rules_are)
 
 pub returns-in-Err-undo_all-clause-stops : goal.returns-in-Err-undo_all-clause-stops
 returns-in-Err-undo_all-clause-stops g c = λ e is.
@@ -77,7 +80,7 @@ returns-in-Err-undo_all-clause-stops g c = λ e is.
     let some : HasRecovery (Some p) = λ none. (let ok = (c.in-Err-undo_all.ensures.none (c.requires.stopped.3 ∙ none)).0 in cc ok) in
     let stops = stops_so (around g.D.Disk.disk g.A.Ambient.ambient g.P.Plugin.plugin (record c.args.outside.now { moments = c.tell.new.moments }) (g.K.Sink.sink c.tell.new.sink) source)
     (around g.D.Disk.disk g.A.Ambient.ambient g.P.Plugin.plugin c.undo_all.new.outside (g.K.Sink.sink c.undo_all.new.sink) source) cat p c.in-Err-undo_all.ending
-    (subst HasRecovery (sym c.requires.stopped.1) some) (c.in-Err-undo_all.ensures.undoes source p c.requires.stopped.1).ends in
+    (subst HasRecovery (sym c.requires.stopped.1) some) (c.in-Err-undo_all.ensures.undoes source p c.requires.rules.0 c.requires.stopped.1 c.requires.rules.1).ends in
     stops_as cat (g.D.Disk.disk c.args.outside.now.main) (g.D.Disk.disk c.undo_all.new.outside.main) c.error_by.result e
     (subst (OpenStops cat (g.D.Disk.disk c.args.outside.now.main) (g.D.Disk.disk c.undo_all.new.outside.main)) (sym c.error_by.ensures) stops) is
 
@@ -91,28 +94,28 @@ returns-in-Err-undo_all-clause-passes g c =
     (λ e. (let is : c.error_by.result ≡ error.Sink = cc in ap Err (sink_by c.in-Err-undo_all.ending (sym c.error_by.ensures ∙ is)))))
 
 pub returns-in-Ok-rest_of-clause-prepares : goal.returns-in-Ok-rest_of-clause-prepares
-returns-in-Ok-rest_of-clause-prepares g c = λ source order plain.
+returns-in-Ok-rest_of-clause-prepares g c = λ source rules order begin rules_are.
     let cat = c.args.store.now.cat in
     let is = c.as_slice.ensures ∙ c.requires.stopped.4 ∙ front_is cat c.requires.stopped.0 c.requires.stopped.1 in
     let passes = c.undo_all.ensures.passes in
     let mid_last : (g.D.Disk.disk c.args.outside.now.main).last ≤ c.tell.new.moments = omega (arith, c.requires.ready.outside.main_last, c.tell.ensures.drawn_from) in
-    prepared-at (around g.D.Disk.disk g.A.Ambient.ambient g.P.Plugin.plugin c.args.outside.now (g.K.Sink.sink c.args.sink.now) source) cat c.requires.stopped.0 c.requires.stopped.1 plain.begin order (g.K.Sink.sink c.tell.new.sink) c.tell.new.moments c.tell.ensures.drawn_from
+    prepared-at (around g.D.Disk.disk g.A.Ambient.ambient g.P.Plugin.plugin c.args.outside.now (g.K.Sink.sink c.args.sink.now) source) cat c.requires.stopped.0 c.requires.stopped.1 begin order (g.K.Sink.sink c.tell.new.sink) c.tell.new.moments c.tell.ensures.drawn_from
     (told_as c.args.outside.now.moments c.tell.new.moments c.as_slice.result.now (front_of cat) (g.K.Sink.sink c.args.sink.now) (g.K.Sink.sink c.tell.new.sink) is c.tell.ensures.told)
     (all_as c.as_slice.result.now (front_of cat) (g.K.Sink.sink c.args.sink.now) (g.K.Sink.sink c.tell.new.sink) is c.in-Ok.ensures.all) c.tell.ensures.settled
     (around g.D.Disk.disk g.A.Ambient.ambient g.P.Plugin.plugin c.undo_all.new.outside (g.K.Sink.sink c.undo_all.new.sink) source)
     (went_of g.D.Disk.disk g.P.Plugin.plugin g.K.Sink.sink _ _ g.A.Ambient.ambient source (record { outside = record c.args.outside.now { moments = c.tell.new.moments }; sink = c.tell.new.sink }) (record { outside = c.undo_all.new.outside; sink = c.undo_all.new.sink }) passes)
-    c.undo_all.new.command c.undo_all.new.store (passes.frame.main_last mid_last) (passes.sink_last c.tell.ensures.told.last)
-    (c.in-Ok-undo_all.ensures.undoes source c.requires.stopped.0 c.requires.stopped.1)
+    rules c.undo_all.new.command c.undo_all.new.store (passes.frame.main_last mid_last) (passes.sink_last c.tell.ensures.told.last)
+    (c.in-Ok-undo_all.ensures.undoes source c.requires.stopped.0 rules c.requires.stopped.1 rules_are)
     (λ none. ap (λ (j : Journal). j.cat) ((c.in-Ok-undo_all.ensures.none (c.requires.stopped.3 ∙ none)).1)) c.in-Ok-rest_of.rest c.in-Ok-rest_of.ensures
 
 pub returns-in-Ok-rest_of-clause-held : goal.returns-in-Ok-rest_of-clause-held
 returns-in-Ok-rest_of-clause-held g c =
-    let ends = (c.in-Ok-undo_all.ensures.undoes no_source c.requires.stopped.0 c.requires.stopped.1).ends in
+    let ends = (c.in-Ok-undo_all.ensures.undoes no_source c.requires.stopped.0 c.requires.rules.0 c.requires.stopped.1 c.requires.rules.1).ends in
     (ends.0, ends.1.held)
 
 pub returns-in-Ok-rest_of-clause-rows : goal.returns-in-Ok-rest_of-clause-rows
 returns-in-Ok-rest_of-clause-rows g c =
-    let d = (c.in-Ok-undo_all.ensures.undoes no_source c.requires.stopped.0 c.requires.stopped.1).ends.1 in
+    let d = (c.in-Ok-undo_all.ensures.undoes no_source c.requires.stopped.0 c.requires.rules.0 c.requires.stopped.1 c.requires.rules.1).ends.1 in
     (d.run, d.rules, d.stores)
 
 pub returns-in-Ok-rest_of-clause-passes : goal.returns-in-Ok-rest_of-clause-passes
@@ -122,15 +125,16 @@ returns-in-Ok-rest_of-clause-passes g c =
     (passes-as g.D.Disk.disk g.P.Plugin.plugin g.K.Sink.sink _ _ (record { outside = record c.args.outside.now { moments = c.tell.new.moments }; sink = c.tell.new.sink }) (record { outside = c.undo_all.new.outside; sink = c.undo_all.new.sink }) c.in-Ok-undo_all.ensures.passes _ _ (λ e. absurd (cc e)) (λ e. absurd (cc e)) (λ e. absurd (cc e)))
 
 pub returns-in-Err-rest_of-clause-prepares : goal.returns-in-Err-rest_of-clause-prepares
-returns-in-Err-rest_of-clause-prepares g c = λ source order plain.
+returns-in-Err-rest_of-clause-prepares g c = λ source rules order begin rules_are.
     let cat = c.args.store.now.cat in
     let is = c.as_slice.ensures ∙ c.requires.stopped.4 ∙ front_is cat c.requires.stopped.0 c.requires.stopped.1 in
-    opens-at (around g.D.Disk.disk g.A.Ambient.ambient g.P.Plugin.plugin c.args.outside.now (g.K.Sink.sink c.args.sink.now) source) cat c.requires.stopped.0 c.requires.stopped.1 plain.begin order (g.K.Sink.sink c.tell.new.sink) c.tell.new.moments c.tell.ensures.drawn_from
+    opens-at (around g.D.Disk.disk g.A.Ambient.ambient g.P.Plugin.plugin c.args.outside.now (g.K.Sink.sink c.args.sink.now) source) cat c.requires.stopped.0 c.requires.stopped.1 begin order (g.K.Sink.sink c.tell.new.sink) c.tell.new.moments c.tell.ensures.drawn_from
     (told_as c.args.outside.now.moments c.tell.new.moments c.as_slice.result.now (front_of cat) (g.K.Sink.sink c.args.sink.now) (g.K.Sink.sink c.tell.new.sink) is c.tell.ensures.told)
     (all_as c.as_slice.result.now (front_of cat) (g.K.Sink.sink c.args.sink.now) (g.K.Sink.sink c.tell.new.sink) is c.in-Ok.ensures.all) c.tell.ensures.settled
     (around g.D.Disk.disk g.A.Ambient.ambient g.P.Plugin.plugin c.undo_all.new.outside (g.K.Sink.sink c.undo_all.new.sink) source)
     (went_of g.D.Disk.disk g.P.Plugin.plugin g.K.Sink.sink _ _ g.A.Ambient.ambient source (record { outside = record c.args.outside.now { moments = c.tell.new.moments }; sink = c.tell.new.sink }) (record { outside = c.undo_all.new.outside; sink = c.undo_all.new.sink }) c.undo_all.ensures.passes)
-    c.undo_all.new.command c.undo_all.new.store (Ok tt) (c.in-Ok-undo_all.ensures.undoes source c.requires.stopped.0 c.requires.stopped.1)
+    rules c.undo_all.new.command c.undo_all.new.store (Ok tt)
+    (c.in-Ok-undo_all.ensures.undoes source c.requires.stopped.0 rules c.requires.stopped.1 rules_are)
 
 pub returns-in-Err-rest_of-clause-stops : goal.returns-in-Err-rest_of-clause-stops
 returns-in-Err-rest_of-clause-stops g c = λ e is. stops_as c.args.store.now.cat (g.D.Disk.disk c.args.outside.now.main) (g.D.Disk.disk c.undo_all.new.outside.main) error.Memory e tt is

@@ -1,5 +1,6 @@
 use Rattle.std.proofs.Common.{ap}
 use Rattle.std.specs.Prelude.{is_ok}
+use Rattle.grid_journal.proofs.KeptDeltas.{plain_kept}
 use Rattle.service_run.proofs.ChangeSteps.{changes_cut, changes_made}
 use Rattle.service_run.proofs.changing.change.Goals as goal
 
@@ -7,7 +8,7 @@ pub stage-requires-clause-apply : goal.stage-requires-clause-apply
 stage-requires-clause-apply g c = ap is_ok c.requires.led.1.applied
 
 pub stage-requires-clause-spelled : goal.stage-requires-clause-spelled
-stage-requires-clause-spelled g c = c.requires.led.1.spelled
+stage-requires-clause-spelled g c = plain_kept c.args.deltas c.requires.led.1.spelled
 
 pub returns-in-Err-clause-step : goal.returns-in-Err-clause-step
 returns-in-Err-clause-step g c = λ source kept after call undo does held led makes.

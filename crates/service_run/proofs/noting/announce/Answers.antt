@@ -3,6 +3,7 @@ use Rattle.std.specs.Result.{is_ok}
 use Rattle.grid_model.specs.declared.deltas.Delta.TheVariants as delta
 use Rattle.grid_model.specs.declared.deltas.Pending.{Pending}
 use Rattle.grid_journal.specs.Journal.{can_be_kept}
+use Rattle.grid_journal.proofs.KeptDeltas.{plain_kept}
 use Rattle.service_run.specs.Commands.{noted_in}
 use Rattle.service_run.specs.Noting.{with_pending}
 use Rattle.service_run.proofs.SameRows.{applied_noted}
@@ -13,7 +14,8 @@ stage-requires-clause-apply g c =
     ap is_ok (applied_noted c.args.store.now.cat (noted_in c.args.command.now c.args.call.now c.args.undo.now) c.requires.user c.in_ok-pending.pending c.in_ok-pending.ensures c.in_ok-deltas.deltas c.in_ok-deltas.ensures.is)
 
 pub stage-requires-clause-spelled : goal.stage-requires-clause-spelled
-stage-requires-clause-spelled g c = c.in_ok-deltas.ensures.spelled (subst (λ (p : Pending). IsTrue (can_be_kept (delta.Pending p))) (sym c.in_ok-pending.ensures) c.requires.spelled)
+stage-requires-clause-spelled g c =
+    plain_kept c.in_ok-deltas.deltas (c.in_ok-deltas.ensures.spelled (subst (λ (p : Pending). IsTrue (can_be_kept (delta.Pending p))) (sym c.in_ok-pending.ensures) c.requires.spelled))
 
 pub returns : goal.returns
 returns g c kept held =

@@ -4,6 +4,7 @@ use Rattle.grid_model.specs.Names.{Text}
 use Rattle.grid_model.specs.Rows.{Cat}
 use Rattle.grid_model.specs.Applying.{IsMade}
 use Rattle.grid_model.specs.declared.plans.OldFile.{OldFile}
+use Rattle.grid_journal.proofs.KeptDeltas.{plain_kept}
 use Rattle.grid_deed.proofs.Keeping.{made_more}
 use Rattle.plan_object.specs.ChksumPlans.{MayChksum}
 use Rattle.service_run.proofs.SumSteps.{bad_plan, led_on}
@@ -27,7 +28,8 @@ stage-requires-clause-apply g c =
 pub stage-requires-clause-spelled : goal.stage-requires-clause-spelled
 stage-requires-clause-spelled g c =
     let may = c.requires.may in
-    (bad_plan c.args.store.now.cat c.tables.result.now c.tables.ensures c.args.path.now c.as_slice.result.now c.in_ok-deltas.deltas c.args.bad.now (c.as_slice.ensures.value ∙ c.in_ok-numbers.ensures) c.in_ok-deltas.ensures may.0 may.1 may.2 0 0).spelled
+    let plan = bad_plan c.args.store.now.cat c.tables.result.now c.tables.ensures c.args.path.now c.as_slice.result.now c.in_ok-deltas.deltas c.args.bad.now (c.as_slice.ensures.value ∙ c.in_ok-numbers.ensures) c.in_ok-deltas.ensures may.0 may.1 may.2 0 0 in
+    plain_kept c.in_ok-deltas.deltas plan.spelled
 
 pub returns : goal.returns
 returns g c = λ kept user files word now held may.

@@ -5,17 +5,17 @@ use Rattle.service_run.specs.declared.command.Command.{Command}
 use Rattle.call_laws.proofs.Joined.{passes_then}
 use Rattle.call_laws.proofs.Keepable.{args_words, noted_kept, words_kept}
 use Rattle.undo_run.specs.Undoing.{stopped_command}
-use Rattle.undo_run.proofs.Loop.{amid_left, amid_start, keepable_after, keepable_start, last_fits, last_split, no_source, none_left, one_shorter, passes_done, passes_err}
-use Rattle.undo_run.proofs.Loop.{ready_now, round_cut, round_done, undoes_all, user_now}
+use Rattle.undo_run.proofs.Loop.{amid_left, amid_start, keepable_after, keepable_start, last_fits, last_split, no_source, none_left, one_shorter}
+use Rattle.undo_run.proofs.Loop.{passes_done, passes_err, ready_now, round_cut, round_done, undoes_all, user_now}
 use Rattle.undo_run.proofs.Results.{undoes_amid}
 use Rattle.undo_run.proofs.undoing.undo_all.Goals as goal
 
 pub returns-then-as_slice-clause-undoes : goal.returns-then-as_slice-clause-undoes
-returns-then-as_slice-clause-undoes g c source p has =
+returns-then-as_slice-clause-undoes g c source p rules has rules_are =
     let disk = g.D.Disk.disk in
     let rows = c.args.store.now in
     undoes_amid disk g.A.Ambient.ambient g.P.Plugin.plugin g.K.Sink.sink source (record { outside = c.args.outside.now; sink = c.args.sink.now }) rows.cat p
-    (record { outside = c.args.outside.now; sink = c.args.sink.now }) c.args.undo c.args.command.now rows []
+    rules rules_are (record { outside = c.args.outside.now; sink = c.args.sink.now }) c.args.undo c.args.command.now rows []
     (amid_start disk g.A.Ambient.ambient g.P.Plugin.plugin g.K.Sink.sink source (record { outside = c.args.outside.now; sink = c.args.sink.now }) rows p
     c.requires.stopped.0 c.args.command.now c.args.undo (2 ^ 120) has c.requires.stopped.1 c.requires.stopped.2
     c.requires.stopped.3 c.requires.held c.requires.ready)
@@ -86,7 +86,7 @@ undo_one-requires-clause-ready g c =
     (omega (arith, some, c.loop-call.invariant.drawn, c.requires.ready.outside.room, c.if-as_slice.false, ap length c.as_slice.ensures))
 
 pub returns-in-Err-clause-undoes : goal.returns-in-Err-clause-undoes
-returns-in-Err-clause-undoes g c source p has =
+returns-in-Err-clause-undoes g c source p rules has rules_are =
     let amid = c.loop-call.invariant.amid source p has in
     let left = c.loop-call.left in
     let split = last_split left c.as_slice-in-loop-call.result.now c.in-Some.call.now c.as_slice-in-loop-call.ensures c.in-Some.ensures.value in
@@ -94,7 +94,7 @@ returns-in-Err-clause-undoes g c source p has =
     c.args.store.now.cat p (2 ^ 120) c.requires.ready
     (record { outside = c.loop-call.outside; sink = c.loop-call.sink }) (record { outside = c.undo_one.new.outside; sink = c.undo_one.new.sink })
     (take (length left - 1) left) c.in-Some.call.now
-    c.loop-call.command c.loop-call.store amid.0 c.undo_one.new.command c.undo_one.new.store left split c.in-Err.error
+    c.loop-call.command c.loop-call.store amid.0 c.undo_one.new.command c.undo_one.new.store rules rules_are left split c.in-Err.error
     (passes_err g.D.Disk.disk g.P.Plugin.plugin g.K.Sink.sink c.in-Err.error (record { outside = c.loop-call.outside; sink = c.loop-call.sink })
     (record { outside = c.undo_one.new.outside; sink = c.undo_one.new.sink }) c.in-Err.ensures.passes) amid.1
     (c.in-Err.ensures.ends source amid.1.amid.holds.cat amid.1.amid.holds.held)
@@ -139,11 +139,11 @@ loop-call-preserved g c =
     }
 
 pub returns-clause-undoes : goal.returns-clause-undoes
-returns-clause-undoes g c source p has =
+returns-clause-undoes g c source p rules has rules_are =
     let amid = c.loop-call.invariant.amid source p has in
     undoes_all g.D.Disk.disk g.A.Ambient.ambient g.P.Plugin.plugin g.K.Sink.sink source (record { outside = c.args.outside.now; sink = c.args.sink.now })
     c.args.store.now.cat p
-    (record { outside = c.loop-call.outside; sink = c.loop-call.sink }) c.loop-call.left c.loop-call.command c.loop-call.store amid.0 amid.1
+    (record { outside = c.loop-call.outside; sink = c.loop-call.sink }) c.loop-call.left c.loop-call.command c.loop-call.store amid.0 amid.1 rules rules_are
     (none_left c.loop-call.left c.as_slice-in-loop-call.result.now c.as_slice-in-loop-call.ensures c.in_default.ensures.item.3)
 
 pub returns-clause-passes : goal.returns-clause-passes

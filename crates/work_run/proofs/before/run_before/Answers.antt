@@ -1,14 +1,19 @@
-use Rattle.std.proofs.Common.{◌+◌, ◌*◌, ◌^◌, List, [], ◌++◌, refl, sym, ◌∙◌, subst, arith}
+use Rattle.std.proofs.Common.{◌+◌, ◌*◌, ◌^◌, List, [], ◌++◌, None, Some, refl, sym, ◌∙◌, subst, arith}
+use Rattle.grid_model.specs.Names.{Text}
 use Rattle.grid_model.specs.declared.marks.Mark.{Mark}
 use Rattle.grid_model.specs.declared.replies.End.{End}
 use Rattle.chain_core.specs.Seen.{rules_of}
 use Rattle.rule_cond.specs.Scopes.{env_of}
 use Rattle.service_run.specs.Commands.{place_by}
+use Rattle.service_run.specs.Steps.{lines_of}
 use Rattle.call_laws.proofs.Joined.{passes_then, passes_well}
 use Rattle.rule_run.proofs.Ended.{amid_first, passes_err, ready_after, ready_less}
-use Rattle.row_run.proofs.Rows.{works_silent}
 use Rattle.rule_run.proofs.Settings.{is_setting}
-use Rattle.work_run.specs.Behind.{IsEnded}
+use Rattle.work_run.specs.Behind.{IsBehind, IsEnded, from_work}
+use Rattle.work_run.specs.Telling.{tells_lines}
+use Rattle.work_run.specs.Works.{DoesSo}
+use Rattle.work_run.proofs.Cut.{marks_are}
+use Rattle.work_run.proofs.Deeds.{asked_so}
 use Rattle.work_run.proofs.Points.{pre_cut, pre_ended, pre_goes, pre_off, pre_waits_with}
 use Rattle.work_run.proofs.before.run_before.Goals as goal
 
@@ -43,23 +48,26 @@ run_point-requires-clause-ready g c =
 -- ---- they were cut short
 
 pub returns-in-Err-clause-executes : goal.returns-in-Err-clause-executes
-returns-in-Err-clause-executes g c source at request op p asked works does_work rules_is rules_called has behind =
+returns-in-Err-clause-executes g c source at request w p asked works does_so rules_is rules_called has behind =
     let rules = rules_of c.args.rules.now in
-    let env = env_of c.args.env.now in
+    let env = env_of c.args.env in
     let before = c.args.store.now.cat in
     let x = c.args.command in
     let place = place_by before x in
     let amid = amid_first g.D.Disk.disk g.A.Ambient.ambient g.P.Plugin.plugin g.K.Sink.sink source at request before x asked
     (record { outside = c.args.outside.now; sink = c.args.sink.now }) c.args.store.now c.requires.held refl (2 ^ 79) c.requires.ready in
-    let ends = c.in-Err.ensures.runs source at request before x (record { outside = c.args.outside.now; sink = c.args.sink.now }) [] (is_setting at request before x asked) amid
-    (pre_waits_with at request rules env p rules_is has.env_is c.args.frames place [] c.requires.frames c.args.pre has.pre_is c.args.env.now.user op behind)
+    let ends = c.in-Err.ensures.runs source at request before x (lines_of x.number) (record { outside = c.args.outside.now; sink = c.args.sink.now }) [] (is_setting at request before x asked (lines_of x.number)) amid
+    (pre_waits_with at request rules env p rules_is has.env_is c.args.frames place [] c.requires.frames c.args.pre has.pre_is c.args.env.user w behind)
     asked in
-    pre_cut at request rules env p rules_is has.env_is c.args.frames place [] c.requires.frames c.args.pre has.pre_is c.args.env.now.user op behind
+    pre_cut at request rules env p rules_is has.env_is c.args.frames place [] c.requires.frames c.args.pre has.pre_is c.args.env.user w behind
     g.D.Disk.disk g.A.Ambient.ambient g.P.Plugin.plugin g.K.Sink.sink source before x asked
     (record { outside = c.args.outside.now; sink = c.args.sink.now })
     (record { outside = c.run_point.new.outside; sink = c.run_point.new.sink })
-    (works_silent c.args.env.now.user c.args.verb.now c.args.body.now op works) does_work c.works_end_by_rows.ensures
-    c.works_take_in_order.ensures c.works_send_nothing.ensures c.pre_ends.ensures c.in-Err.ending ends.0 ends.1
+    does_so (asked_so c.args.verb.now c.args.body.now w works) c.works_end_by_rows.ensures c.works_take_in_order.ensures c.works_send_behind.ensures
+    c.names_take_in_order.ensures c.pre_ends.ensures
+    (marks_are g.D.Disk.disk g.A.Ambient.ambient g.P.Plugin.plugin g.K.Sink.sink source at request before x asked
+    (record { outside = c.args.outside.now; sink = c.args.sink.now }) (lines_of x.number) (record { outside = c.args.outside.now; sink = c.args.sink.now }) x
+    c.args.store.now [] amid) c.in-Err.ending ends.0 ends.1
     c.run_point.ensures.passes.frame.stores.count c.run_point.new.store
 
 pub returns-in-Err-clause-passes : goal.returns-in-Err-clause-passes
@@ -78,6 +86,9 @@ conclude-requires-clause-held g c = c.in-Ok.ensures.held
 pub conclude-requires-clause-writable : goal.conclude-requires-clause-writable
 conclude-requires-clause-writable g c = c.failed_before-end.ensures.writable
 
+pub conclude-requires-clause-rows : goal.conclude-requires-clause-rows
+conclude-requires-clause-rows g c = c.no_rows.ensures.words
+
 pub conclude-requires-clause-ready : goal.conclude-requires-clause-ready
 conclude-requires-clause-ready g c =
     ready_after g.D.Disk.disk g.P.Plugin.plugin g.K.Sink.sink _ _ (record { outside = c.args.outside.now; sink = c.args.sink.now })
@@ -85,24 +96,26 @@ conclude-requires-clause-ready g c =
     (omega (arith, c.run_point.ensures.drawn))
 
 pub returns-in-Some-clause-executes : goal.returns-in-Some-clause-executes
-returns-in-Some-clause-executes g c source at request op p asked works does_work rules_is rules_called has behind =
+returns-in-Some-clause-executes g c source at request w p asked works does_so rules_is rules_called has behind =
     let rules = rules_of c.args.rules.now in
-    let env = env_of c.args.env.now in
+    let env = env_of c.args.env in
     let before = c.args.store.now.cat in
     let x = c.args.command in
     let place = place_by before x in
     let amid = amid_first g.D.Disk.disk g.A.Ambient.ambient g.P.Plugin.plugin g.K.Sink.sink source at request before x asked
     (record { outside = c.args.outside.now; sink = c.args.sink.now }) c.args.store.now c.requires.held refl (2 ^ 79) c.requires.ready in
-    let runs = c.in-Ok.ensures.runs source at request before x (record { outside = c.args.outside.now; sink = c.args.sink.now }) [] (is_setting at request before x asked) amid
-    (pre_waits_with at request rules env p rules_is has.env_is c.args.frames place [] c.requires.frames c.args.pre has.pre_is c.args.env.now.user op behind)
+    let runs = c.in-Ok.ensures.runs source at request before x (lines_of x.number) (record { outside = c.args.outside.now; sink = c.args.sink.now }) [] (is_setting at request before x asked (lines_of x.number)) amid
+    (pre_waits_with at request rules env p rules_is has.env_is c.args.frames place [] c.requires.frames c.args.pre has.pre_is c.args.env.user w behind)
     asked in
+    let E : List (List Text) → End → Type 0 = λ rs e.
+    IsEnded at request ([] ++ runs.more) (place_by c.run_point.new.store.cat c.run_point.new.command) rs None e in
     c.conclude.ensures.executes source at request before x (record { outside = c.args.outside.now; sink = c.args.sink.now }) ([] ++ runs.more)
-    c.args.env.now.user op asked does_work runs.amid
-    (subst (λ (e : End). IsEnded at request ([] ++ runs.more) (place_by c.run_point.new.store.cat c.run_point.new.command) e)
-    (sym c.failed_before-end.ensures.is)
-    (pre_ended at request rules env p rules_is has.env_is c.args.frames place [] c.requires.frames c.args.pre has.pre_is c.args.env.now.user op behind
+    c.args.env.user w (lines_of x.number) None asked does_so (asked_so c.args.verb.now c.args.body.now w works) runs.amid (tells_lines refl refl)
+    (subst (λ (rs : List (List Text)). E rs c.failed_before-end.result) (sym c.no_rows.ensures.is)
+    (subst (E []) (sym c.failed_before-end.ensures.is)
+    (pre_ended at request rules env p rules_is has.env_is c.args.frames place [] c.requires.frames c.args.pre has.pre_is c.args.env.user w behind
     c.names_halt.ensures c.names_are_stopped.ensures runs.more c.in-Ok.outcome c.run_point.new.frames
-    (place_by c.run_point.new.store.cat c.run_point.new.command) runs.gives_so c.in-Some.failure (sym c.failure_of.ensures ∙ c.in-Some.is)))
+    (place_by c.run_point.new.store.cat c.run_point.new.command) runs.gives_so c.in-Some.failure (sym c.failure_of.ensures ∙ c.in-Some.is))))
     (λ calls. absurd (rules_called calls))
 
 pub returns-in-Some-clause-passes : goal.returns-in-Some-clause-passes
@@ -158,26 +171,38 @@ do_work-requires-clause-ready g c =
     c.run_point.ensures.passes c.requires.ready (omega (arith, c.run_point.ensures.drawn))
 
 pub returns-in-None-clause-executes : goal.returns-in-None-clause-executes
-returns-in-None-clause-executes g c source at request op p asked works does_work rules_is rules_called has behind =
+returns-in-None-clause-executes g c source at request w p asked works does_so rules_is rules_called has behind =
     let rules = rules_of c.args.rules.now in
-    let env = env_of c.args.env.now in
+    let env = env_of c.args.env in
     let before = c.args.store.now.cat in
     let x = c.args.command in
     let place = place_by before x in
     let amid = amid_first g.D.Disk.disk g.A.Ambient.ambient g.P.Plugin.plugin g.K.Sink.sink source at request before x asked
     (record { outside = c.args.outside.now; sink = c.args.sink.now }) c.args.store.now c.requires.held refl (2 ^ 79) c.requires.ready in
-    let runs = c.in-Ok.ensures.runs source at request before x (record { outside = c.args.outside.now; sink = c.args.sink.now }) [] (is_setting at request before x asked) amid
-    (pre_waits_with at request rules env p rules_is has.env_is c.args.frames place [] c.requires.frames c.args.pre has.pre_is c.args.env.now.user op behind)
+    let runs = c.in-Ok.ensures.runs source at request before x (lines_of x.number) (record { outside = c.args.outside.now; sink = c.args.sink.now }) [] (is_setting at request before x asked (lines_of x.number)) amid
+    (pre_waits_with at request rules env p rules_is has.env_is c.args.frames place [] c.requires.frames c.args.pre has.pre_is c.args.env.user w behind)
     asked in
-    c.do_work.ensures.executes source at request before x (record { outside = c.args.outside.now; sink = c.args.sink.now }) ([] ++ runs.more) op p
-    c.args.pre asked works does_work rules_is rules_called has
-    (pre_off at request rules env p rules_is has.env_is c.args.frames place [] c.requires.frames c.args.pre has.pre_is c.args.env.now.user op behind
-    c.names_halt.ensures c.names_are_stopped.ensures runs.more c.in-Ok.outcome c.run_point.new.frames
-    (place_by c.run_point.new.store.cat c.run_point.new.command) runs.gives_so (sym c.failure_of.ensures ∙ c.in-None.is))
+    c.do_work.ensures.executes source at request before x (record { outside = c.args.outside.now; sink = c.args.sink.now }) ([] ++ runs.more) w (Some p) asked
+    works (subst (λ (u : Text). DoesSo at request u w) (sym c.in-Ok.ensures.kept.3) does_so) (
+      p,
+      refl,
+      record {
+        rules_are = rules_is;
+        calls = rules_called;
+        unstopped = pre_off at request rules env p rules_is has.env_is c.args.frames place [] c.requires.frames c.args.pre has.pre_is c.args.env.user w behind
+            c.names_halt.ensures c.names_are_stopped.ensures runs.more c.in-Ok.outcome c.run_point.new.frames
+            (place_by c.run_point.new.store.cat c.run_point.new.command) runs.gives_so (sym c.failure_of.ensures ∙ c.in-None.is);
+        env_is = has.env_is;
+        name_is = has.post_is;
+      },
+    )
     runs.amid
-    (pre_goes at request rules env p rules_is has.env_is c.args.frames place [] c.requires.frames c.args.pre has.pre_is c.args.env.now.user op behind
+    (subst (λ (u : Text). IsBehind at request ([] ++ runs.more) (place_by c.run_point.new.store.cat c.run_point.new.command) c.run_point.new.frames.begun
+    (from_work at (Some p) u w)) (sym c.in-Ok.ensures.kept.3)
+    (pre_goes at request rules env p rules_is has.env_is c.args.frames place [] c.requires.frames c.args.pre has.pre_is c.args.env.user w behind
     c.names_halt.ensures c.names_are_stopped.ensures runs.more c.in-Ok.outcome c.run_point.new.frames
-    (place_by c.run_point.new.store.cat c.run_point.new.command) runs.gives_so (sym c.failure_of.ensures ∙ c.in-None.is))
+    (place_by c.run_point.new.store.cat c.run_point.new.command) runs.gives_so (sym c.failure_of.ensures ∙ c.in-None.is)))
+    (λ calls. absurd (rules_called calls))
 
 pub returns-in-None-clause-passes : goal.returns-in-None-clause-passes
 returns-in-None-clause-passes g c =

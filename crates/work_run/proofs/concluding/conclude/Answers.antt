@@ -1,10 +1,3 @@
-use Rattle.std.proofs.Common.{List, ◌++◌, ap, subst}
-use Rattle.std.specs.List.{list_all}
-use Rattle.grid_model.specs.Names.{Text}
-use Rattle.grid_model.specs.Rows.{Cat}
-use Rattle.grid_model.specs.Writable.{is_word}
-use Rattle.grid_deed.specs.Held.{IsHeld}
-use Rattle.rule_run.specs.Finishing.{Finishes, rest_text}
 use Rattle.work_run.proofs.Concluded.{concluded}
 use Rattle.work_run.proofs.VaultNeeds.{ends_without}
 use Rattle.work_run.proofs.concluding.conclude.Goals as goal
@@ -16,21 +9,17 @@ pub finish-requires-clause-writable : goal.finish-requires-clause-writable
 finish-requires-clause-writable g c = c.requires.writable
 
 pub finish-requires-clause-rows : goal.finish-requires-clause-rows
-finish-requires-clause-rows g c = ap (λ (rs : List (List Text)). list_all (list_all is_word) rs) c.no_rows.ensures
+finish-requires-clause-rows g c = c.requires.rows
 
 pub finish-requires-clause-ready : goal.finish-requires-clause-ready
 finish-requires-clause-ready g c = c.requires.ready
 
 pub returns-clause-executes : goal.returns-clause-executes
-returns-clause-executes g c source at request before x from taken user op asked does_work amid its nothing =
-    let F : List (List Text) → Type 0 = λ shown. (kept : Cat) → IsHeld kept (g.D.Disk.disk c.args.outside.now.main) c.args.store.now
-    → Finishes (g.D.Disk.disk c.args.outside.now.main) (g.D.Disk.disk c.finish.new.outside.main) (g.K.Sink.sink c.args.sink.now)
-    (g.K.Sink.sink c.finish.new.sink) kept c.args.outside.now.moments c.args.command.number c.args.store.now c.args.command
-    (c.args.command.untold ++ rest_text c.args.command.number c.args.command.passed shown c.args.end) c.finish.result c.finish.new.store in
-    concluded g.D.Disk.disk g.A.Ambient.ambient g.P.Plugin.plugin g.K.Sink.sink source at request before x asked from user op does_work
-    c.works_end_by_rows.ensures (record { outside = c.args.outside.now; sink = c.args.sink.now }) c.args.command c.args.store.now taken amid
+returns-clause-executes g c source at request before x from taken user w text_of sent asked does_so asked_so amid tells its nothing =
+    concluded g.D.Disk.disk g.A.Ambient.ambient g.P.Plugin.plugin g.K.Sink.sink source at request before x asked from user w does_so asked_so
+    c.works_end_by_rows.ensures text_of sent (record { outside = c.args.outside.now; sink = c.args.sink.now }) c.args.command c.args.store.now taken amid tells
     c.requires.ready.outside.main_last (record { outside = c.finish.new.outside; sink = c.finish.new.sink }) c.finish.result c.finish.new.store _ _
-    c.finish.ensures.passes c.finish.ensures.ambient c.args.end (subst F c.no_rows.ensures c.finish.ensures.finishes) c.finish.ensures.whole c.finish.ensures.idle its nothing
+    c.finish.ensures.passes c.finish.ensures.ambient c.args.rows c.args.end c.finish.ensures.finishes c.finish.ensures.whole c.finish.ensures.idle its nothing
 
 pub returns-clause-vaults : goal.returns-clause-vaults
 returns-clause-vaults g c place is =

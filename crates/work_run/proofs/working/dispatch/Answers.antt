@@ -33,7 +33,7 @@ change_rows-requires-clause-words g c = c.requires.words
 pub change_rows-requires-clause-verb : goal.change_rows-requires-clause-verb
 change_rows-requires-clause-verb g c =
     let its = c.requires.verb in
-    (its.0, rows_of c.args.verb.now c.args.body.now its.0 (sym c.changes_rows.ensures ∙ c.if-changes_rows.true) its.1)
+    (its.0, rows_of c.args.verb.now c.args.body.now its.0 c.requires.call (sym c.changes_rows.ensures ∙ c.if-changes_rows.true) its.1)
 
 pub change_rows-requires-clause-ready : goal.change_rows-requires-clause-ready
 change_rows-requires-clause-ready g c =
@@ -43,11 +43,11 @@ change_rows-requires-clause-ready g c =
 pub returns-then-changes_rows-clause-step : goal.returns-then-changes_rows-clause-step
 returns-then-changes_rows-clause-step g c source kept op held works =
     c.change_rows.ensures.step source kept op (running op) [] held
-    (rows_of c.args.verb.now c.args.body.now op (sym c.changes_rows.ensures ∙ c.if-changes_rows.true) works)
+    (rows_of c.args.verb.now c.args.body.now op c.requires.call (sym c.changes_rows.ensures ∙ c.if-changes_rows.true) works)
 
 pub returns-then-changes_rows-clause-refused : goal.returns-then-changes_rows-clause-refused
 returns-then-changes_rows-clause-refused g c op r works refused = (
-  c.change_rows.ensures.refused op r (rows_of c.args.verb.now c.args.body.now op (sym c.changes_rows.ensures ∙ c.if-changes_rows.true) works) refused,
+  c.change_rows.ensures.refused op r (rows_of c.args.verb.now c.args.body.now op c.requires.call (sym c.changes_rows.ensures ∙ c.if-changes_rows.true) works) refused,
   refl,
   refl,
 )

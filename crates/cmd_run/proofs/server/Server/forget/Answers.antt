@@ -29,7 +29,8 @@ pub returns-clause-forgets : goal.returns-clause-forgets
 returns-clause-forgets g c =
     let o = c.args.outside.now in
     let n = c.discard_all.new.outside in
-    forgot g.D.Disk.disk g.P.Plugin.plugin c.args.self.now.store c.args.files.now o.moments o.main n.main o.stores.items n.stores.items _ c.discard_all.new.store c.requires.fits.staged _ refl c.in-Ok.ensures.done
+    forgot g.D.Disk.disk g.P.Plugin.plugin c.args.self.now.store c.args.files.now o.moments o.main n.main o.stores.items n.stores.items _
+    c.discard_all.new.store c.requires.fits.staged _ refl c.in-Ok.ensures.done
 
 pub returns-clause-few : goal.returns-clause-few
 returns-clause-few g c =
@@ -37,26 +38,32 @@ returns-clause-few g c =
     let n = c.discard_all.new.outside in
     let s = c.args.self.now.store in
     let done = c.in-Ok.ensures.done in
-    let cat_is = forgot_cat g.D.Disk.disk g.P.Plugin.plugin s c.args.files.now o.moments o.main n.main o.stores.items n.stores.items _ c.discard_all.new.store done in
+    let cat_is = forgot_cat g.D.Disk.disk g.P.Plugin.plugin s c.args.files.now o.moments o.main n.main o.stores.items n.stores.items _ c.discard_all.new.store
+    done in
     let F : List NewFile → Type 0 = λ files. FewerThanFaults g.P.Plugin.plugin files o.stores.items n.stores.items in
-    subst F (left_behind s.cat done.after c.args.files.now done.gone done.left c.requires.all done.split (have_own_names s.cat c.requires.fits.held.made) done.applied ∙ ap orphan_files (sym cat_is)) done.ends.1
+    subst F (left_behind s.cat done.after c.args.files.now done.gone done.left c.requires.all done.split (have_own_names s.cat c.requires.fits.held.made)
+    done.applied ∙ ap orphan_files (sym cat_is)) done.ends.1
 
 pub returns-clause-still : goal.returns-clause-still
 returns-clause-still g c = λ none.
     let o = c.args.outside.now in
     let n = c.discard_all.new.outside in
-    forgot_none g.D.Disk.disk g.P.Plugin.plugin c.args.self.now.store c.args.files.now o.moments o.main n.main o.stores.items n.stores.items _ c.discard_all.new.store
-    (c.requires.all ∙ ap (λ (rows : List OrphanRow). map (λ (o : OrphanRow). (let f : NewFile = record { slot = o.slot; name = o.vault } in f)) rows) none) c.in-Ok.ensures.done
+    forgot_none g.D.Disk.disk g.P.Plugin.plugin c.args.self.now.store c.args.files.now o.moments o.main n.main o.stores.items n.stores.items _
+    c.discard_all.new.store
+    (c.requires.all ∙ ap (λ (rows : List OrphanRow). map (λ (o : OrphanRow). (let f : NewFile = record { slot = o.slot; name = o.vault } in f)) rows) none)
+    c.in-Ok.ensures.done
 
 pub ending_of-requires : goal.ending_of-requires
 ending_of-requires g c =
     let o = c.args.outside.now in
     let n = c.discard_all.new.outside in
     let done = c.in-Err.ensures.done in
-    of_commit c.args.self.now.store.cat done.after o.moments c.args.self.now.store (g.D.Disk.disk o.main) (g.D.Disk.disk n.main) c.in-Err.error c.discard_all.new.store done.ends
+    of_commit c.args.self.now.store.cat done.after o.moments c.args.self.now.store (g.D.Disk.disk o.main) (g.D.Disk.disk n.main) c.in-Err.error
+    c.discard_all.new.store done.ends
 
 pub returns-in-Err-clause-forgets : goal.returns-in-Err-clause-forgets
 returns-in-Err-clause-forgets g c =
     let o = c.args.outside.now in
     let n = c.discard_all.new.outside in
-    forgot_err g.D.Disk.disk g.P.Plugin.plugin c.args.self.now.store c.args.files.now o.moments o.main n.main o.stores.items n.stores.items c.in-Err.error c.ending_of.result c.discard_all.new.store _ c.ending_of.ensures c.in-Err.ensures.done
+    forgot_err g.D.Disk.disk g.P.Plugin.plugin c.args.self.now.store c.args.files.now o.moments o.main n.main o.stores.items n.stores.items c.in-Err.error
+    c.ending_of.result c.discard_all.new.store _ c.ending_of.ensures c.in-Err.ensures.done

@@ -41,19 +41,23 @@ returns-in-Err-Refused-clause-obeys g c = λ source request is.
     let P : Cat → Type 0 = λ x. Lists x (user_name x user) c.args.path.now (Err (Refused r)) in
     let its = subst P c.tables.ensures (subst F (c.in-Err-Refused.is ∙ ap Err c.in-Err-Refused.field-0-is) c.list_rows.ensures) in
     let Q : Request → Type 0 = λ q. SaysOnly (state_of s) q (end.Refused r) (state_of s) in
-    c.say-in-Err-Refused.ensures.obeys source request s refl (subst Q (sym is) (says_unlisted s c.args.session user (sym c.in-Some.ensures) c.args.path.now r its))
+    c.say-in-Err-Refused.ensures.obeys source request s refl
+    (subst Q (sym is) (says_unlisted s c.args.session user (sym c.in-Some.ensures) c.args.path.now r its))
 
 pub returns-in-Err-Memory-clause-obeys : goal.returns-in-Err-Memory-clause-obeys
 returns-in-Err-Memory-clause-obeys g c = λ source request is.
-    unsaid g.D.Disk.disk g.A.Ambient.ambient g.P.Plugin.plugin source c.args.outside.now (g.K.Sink.sink c.args.sink.now) c.args.self.now c.args.number request c.args.self.now
+    unsaid g.D.Disk.disk g.A.Ambient.ambient g.P.Plugin.plugin source c.args.outside.now (g.K.Sink.sink c.args.sink.now) c.args.self.now c.args.number request
+    c.args.self.now
     c.requires.fits.held c.requires.ready.outside.main_last c.requires.ready.sink_last
 
 pub returns-in-Err-Memory-clause-whole : goal.returns-in-Err-Memory-clause-whole
 returns-in-Err-Memory-clause-whole g c =
-    keep_still g.P.Plugin.plugin c.args.self.now.store.cat c.args.outside.now.moments (g.D.Disk.disk c.args.outside.now.main) c.args.self.now.store c.args.outside.now.stores.items
+    keep_still g.P.Plugin.plugin c.args.self.now.store.cat c.args.outside.now.moments (g.D.Disk.disk c.args.outside.now.main) c.args.self.now.store
+    c.args.outside.now.stores.items
     c.requires.fits.held c.requires.ready.outside.main_last
 
 pub returns-in-Err-Memory-clause-remembers : goal.returns-in-Err-Memory-clause-remembers
 returns-in-Err-Memory-clause-remembers g c =
     let main = c.args.outside.now.main in
-    still_remembers g.D.Disk.disk main main c.args.self.now.store c.args.outside.now.moments refl c.requires.ready.outside.main_last c.requires.fits.held c.requires.fits.pending
+    still_remembers g.D.Disk.disk main main c.args.self.now.store c.args.outside.now.moments refl c.requires.ready.outside.main_last c.requires.fits.held
+    c.requires.fits.pending

@@ -22,6 +22,8 @@ returns-in-Some-clause-obeys g c = λ source request is.
     let s = c.args.self.now in
     let new = c.login.new.self in
     let F : Cat → Type 0 = λ x. FindsPerson x c.args.user.now (Some c.in-Some.id) in
-    let Q : Request → Type 0 = λ r. SaysOnly (state_of s) r well (state_by s.store.cat new) in
-    let E : _ → Type 0 = λ e. SaysOnly (state_of s) request e (state_by s.store.cat new) in
-    c.say-in-Some.ensures.obeys source request s refl (subst E (sym c.well.ensures.is) (subst Q (sym is) (says_login s c.args.session c.args.user.now c.in-Some.id (subst F c.tables.ensures c.in-Some.ensures) new c.login.ensures.own c.login.ensures.others)))
+    let Q : Request → Type 0 = λ r. SaysOnly (state_of s) r well (state_by s.store.cat (state_of s).rules new) in
+    let E : _ → Type 0 = λ e. SaysOnly (state_of s) request e (state_by s.store.cat (state_of s).rules new) in
+    c.say-in-Some.ensures.obeys source request s refl (subst E (sym c.well.ensures.is)
+    (subst Q (sym is) (says_login s c.args.session c.args.user.now c.in-Some.id (subst F c.tables.ensures c.in-Some.ensures) new c.login.ensures.own
+    c.login.ensures.others)))

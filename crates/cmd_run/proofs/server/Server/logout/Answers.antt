@@ -19,6 +19,7 @@ pub returns-in-Some-clause-obeys : goal.returns-in-Some-clause-obeys
 returns-in-Some-clause-obeys g c = λ source request is.
     let s = c.args.self.now in
     let new = c.logout.new.self in
-    let Q : Request → Type 0 = λ r. SaysOnly (state_of s) r well (state_by s.store.cat new) in
-    let E : _ → Type 0 = λ e. SaysOnly (state_of s) request e (state_by s.store.cat new) in
-    c.say-in-Some.ensures.obeys source request s refl (subst E (sym c.well.ensures.is) (subst Q (sym is) (says_logout s c.args.session c.in-Some.field-0 (sym c.in-Some.ensures) new c.logout.ensures.own c.logout.ensures.others)))
+    let Q : Request → Type 0 = λ r. SaysOnly (state_of s) r well (state_by s.store.cat (state_of s).rules new) in
+    let E : _ → Type 0 = λ e. SaysOnly (state_of s) request e (state_by s.store.cat (state_of s).rules new) in
+    c.say-in-Some.ensures.obeys source request s refl (subst E (sym c.well.ensures.is)
+    (subst Q (sym is) (says_logout s c.args.session c.in-Some.field-0 (sym c.in-Some.ensures) new c.logout.ensures.own c.logout.ensures.others)))

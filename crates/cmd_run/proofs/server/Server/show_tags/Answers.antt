@@ -27,18 +27,21 @@ returns-in_default-clause-obeys g c = λ source request asks.
 
 pub returns-in-Err-Memory-clause-obeys : goal.returns-in-Err-Memory-clause-obeys
 returns-in-Err-Memory-clause-obeys g c = λ source request asks.
-    unsaid g.D.Disk.disk g.A.Ambient.ambient g.P.Plugin.plugin source c.args.outside.now (g.K.Sink.sink c.args.sink.now) c.args.self.now c.args.number request c.args.self.now
+    unsaid g.D.Disk.disk g.A.Ambient.ambient g.P.Plugin.plugin source c.args.outside.now (g.K.Sink.sink c.args.sink.now) c.args.self.now c.args.number request
+    c.args.self.now
     c.requires.fits.held c.requires.ready.outside.main_last c.requires.ready.sink_last
 
 pub returns-in-Err-Memory-clause-whole : goal.returns-in-Err-Memory-clause-whole
 returns-in-Err-Memory-clause-whole g c =
-    keep_still g.P.Plugin.plugin c.args.self.now.store.cat c.args.outside.now.moments (g.D.Disk.disk c.args.outside.now.main) c.args.self.now.store c.args.outside.now.stores.items
+    keep_still g.P.Plugin.plugin c.args.self.now.store.cat c.args.outside.now.moments (g.D.Disk.disk c.args.outside.now.main) c.args.self.now.store
+    c.args.outside.now.stores.items
     c.requires.fits.held c.requires.ready.outside.main_last
 
 pub returns-in-Err-Memory-clause-remembers : goal.returns-in-Err-Memory-clause-remembers
 returns-in-Err-Memory-clause-remembers g c =
     let main = c.args.outside.now.main in
-    still_remembers g.D.Disk.disk main main c.args.self.now.store c.args.outside.now.moments refl c.requires.ready.outside.main_last c.requires.fits.held c.requires.fits.pending
+    still_remembers g.D.Disk.disk main main c.args.self.now.store c.args.outside.now.moments refl c.requires.ready.outside.main_last c.requires.fits.held
+    c.requires.fits.pending
 
 pub unreachable-requires : goal.unreachable-requires
 unreachable-requires g c = c.in-Err-BadPath.ensures.none (λ e. cc (e, c.in-Err-BadPath.field-0-is)) c.requires.thing.0 c.requires.thing.1
@@ -53,7 +56,8 @@ returns-in-Ok-list_triples-clause-obeys g c = λ source request asks.
     let same = c.in-Ok.ensures.alone asks.0 asks.1 in
     let Q : Request → Type 0 = λ r. SaysRows (state_of s) r c.in-Ok-list_triples.rows well (state_of s) in
     let is : request ≡ Ok (c.args.session, lists_triples thing) = asks.2 ∙ ap (λ (x : Thing). Ok (c.args.session, lists_triples x)) same in
-    c.show.ensures.obeys source request s refl (subst Q (sym is) (says_told s c.args.session user (sym c.in-Some.ensures) thing c.in-Ok-list_triples.rows its.0))
+    c.show.ensures.obeys source request s refl (subst Q (sym is)
+    (says_told s c.args.session user (sym c.in-Some.ensures) thing c.in-Ok-list_triples.rows its.0))
 
 pub returns-in-Err-Refused-clause-obeys : goal.returns-in-Err-Refused-clause-obeys
 returns-in-Err-Refused-clause-obeys g c = λ source request asks.
@@ -71,15 +75,18 @@ returns-in-Err-Refused-clause-obeys g c = λ source request asks.
 
 pub returns-clause-obeys : goal.returns-clause-obeys
 returns-clause-obeys g c = λ source request asks.
-    unsaid g.D.Disk.disk g.A.Ambient.ambient g.P.Plugin.plugin source c.args.outside.now (g.K.Sink.sink c.args.sink.now) c.args.self.now c.args.number request c.args.self.now
+    unsaid g.D.Disk.disk g.A.Ambient.ambient g.P.Plugin.plugin source c.args.outside.now (g.K.Sink.sink c.args.sink.now) c.args.self.now c.args.number request
+    c.args.self.now
     c.requires.fits.held c.requires.ready.outside.main_last c.requires.ready.sink_last
 
 pub returns-clause-whole : goal.returns-clause-whole
 returns-clause-whole g c =
-    keep_still g.P.Plugin.plugin c.args.self.now.store.cat c.args.outside.now.moments (g.D.Disk.disk c.args.outside.now.main) c.args.self.now.store c.args.outside.now.stores.items
+    keep_still g.P.Plugin.plugin c.args.self.now.store.cat c.args.outside.now.moments (g.D.Disk.disk c.args.outside.now.main) c.args.self.now.store
+    c.args.outside.now.stores.items
     c.requires.fits.held c.requires.ready.outside.main_last
 
 pub returns-clause-remembers : goal.returns-clause-remembers
 returns-clause-remembers g c =
     let main = c.args.outside.now.main in
-    still_remembers g.D.Disk.disk main main c.args.self.now.store c.args.outside.now.moments refl c.requires.ready.outside.main_last c.requires.fits.held c.requires.fits.pending
+    still_remembers g.D.Disk.disk main main c.args.self.now.store c.args.outside.now.moments refl c.requires.ready.outside.main_last c.requires.fits.held
+    c.requires.fits.pending

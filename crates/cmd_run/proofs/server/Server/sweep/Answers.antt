@@ -33,7 +33,8 @@ returns-in_default-clause-idle g c = λ request is refused. (c.say.ensures.rows,
 pub is_admin-requires-clause-user : goal.is_admin-requires-clause-user
 is_admin-requires-clause-user g c =
     let U : Cat → Type 0 = λ x. IsTrue (has_user x c.in-Some.user) in
-    subst U (sym c.tables.ensures) (user_known c.args.self.now.store.cat c.in-Some.user (c.requires.fits.users c.args.session c.in-Some.user (sym c.in-Some.ensures)))
+    subst U (sym c.tables.ensures) (user_known c.args.self.now.store.cat c.in-Some.user
+    (c.requires.fits.users c.args.session c.in-Some.user (sym c.in-Some.ensures)))
 
 pub returns-then-not-is_admin-clause-obeys : goal.returns-then-not-is_admin-clause-obeys
 returns-then-not-is_admin-clause-obeys g c = λ source request is.
@@ -45,7 +46,8 @@ returns-then-not-is_admin-clause-obeys g c = λ source request is.
     c.say-then-not-is_admin.ensures.obeys source request s refl (subst Q (sym is) (says_not_admin s c.args.session user (sym c.in-Some.ensures) other))
 
 pub returns-then-not-is_admin-clause-none_waits : goal.returns-then-not-is_admin-clause-none_waits
-returns-then-not-is_admin-clause-none_waits g c = λ told settled t main d late left stands. (c.say-then-not-is_admin.ensures.remembers told settled t main d late left stands).0
+returns-then-not-is_admin-clause-none_waits g c =
+    λ told settled t main d late left stands. (c.say-then-not-is_admin.ensures.remembers told settled t main d late left stands).0
 
 pub returns-then-not-is_admin-clause-idle : goal.returns-then-not-is_admin-clause-idle
 returns-then-not-is_admin-clause-idle g c = λ request is refused. (c.say-then-not-is_admin.ensures.rows, c.say-then-not-is_admin.ensures.stores)
@@ -72,7 +74,8 @@ returns-clause-idle g c = λ request is refused.
 pub returns-in_default-clause-few : goal.returns-in_default-clause-few
 returns-in_default-clause-few g c = λ source request is.
     let s = c.args.self.now in
-    refused_few (around g.D.Disk.disk g.A.Ambient.ambient g.P.Plugin.plugin c.args.outside.now (g.K.Sink.sink c.args.sink.now) source) (around g.D.Disk.disk g.A.Ambient.ambient g.P.Plugin.plugin c.say.new.outside (g.K.Sink.sink c.say.new.sink) source) s c.args.session request is
+    refused_few (around g.D.Disk.disk g.A.Ambient.ambient g.P.Plugin.plugin c.args.outside.now (g.K.Sink.sink c.args.sink.now) source)
+    (around g.D.Disk.disk g.A.Ambient.ambient g.P.Plugin.plugin c.say.new.outside (g.K.Sink.sink c.say.new.sink) source) s c.args.session request is
     refusal.NoLogin (state_of s) (says_no_login s c.args.session sweeps (sym c.in_default.ensures) refl) c.say.result s
 
 pub returns-then-not-is_admin-clause-few : goal.returns-then-not-is_admin-clause-few
@@ -81,10 +84,14 @@ returns-then-not-is_admin-clause-few g c = λ source request is.
     let user = c.in-Some.user in
     let A : Cat → Type 0 = λ x. is_admin (get (grid_of x).users (user_name x user)) ≡ false in
     let other = subst A c.tables.ensures (sym c.is_admin.ensures ∙ c.if-not-is_admin.true) in
-    refused_few (around g.D.Disk.disk g.A.Ambient.ambient g.P.Plugin.plugin c.args.outside.now (g.K.Sink.sink c.args.sink.now) source) (around g.D.Disk.disk g.A.Ambient.ambient g.P.Plugin.plugin c.say-then-not-is_admin.new.outside (g.K.Sink.sink c.say-then-not-is_admin.new.sink) source) s c.args.session request is
+    refused_few (around g.D.Disk.disk g.A.Ambient.ambient g.P.Plugin.plugin c.args.outside.now (g.K.Sink.sink c.args.sink.now) source)
+    (around g.D.Disk.disk g.A.Ambient.ambient g.P.Plugin.plugin c.say-then-not-is_admin.new.outside (g.K.Sink.sink c.say-then-not-is_admin.new.sink) source) s
+    c.args.session request is
     refusal.NotAdmin (state_of s) (says_not_admin s c.args.session user (sym c.in-Some.ensures) other) c.say-then-not-is_admin.result s
 
 pub returns-clause-few : goal.returns-clause-few
 returns-clause-few g c = λ source request is.
-    swept_few (around g.D.Disk.disk g.A.Ambient.ambient g.P.Plugin.plugin c.args.outside.now (g.K.Sink.sink c.args.sink.now) source) (around g.D.Disk.disk g.A.Ambient.ambient g.P.Plugin.plugin c.sweep_all.new.outside (g.K.Sink.sink c.sweep_all.new.sink) source) c.args.self.now c.args.session request is
+    swept_few (around g.D.Disk.disk g.A.Ambient.ambient g.P.Plugin.plugin c.args.outside.now (g.K.Sink.sink c.args.sink.now) source)
+    (around g.D.Disk.disk g.A.Ambient.ambient g.P.Plugin.plugin c.sweep_all.new.outside (g.K.Sink.sink c.sweep_all.new.sink) source) c.args.self.now
+    c.args.session request is
     c.sweep_all.result c.sweep_all.new.self (c.sweep_all.ensures.few source)

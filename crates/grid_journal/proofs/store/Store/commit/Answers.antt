@@ -1,13 +1,13 @@
-use Rattle.std.proofs.Common.{true, Err, refl, sym, ap, ◌∙◌, arith}
+use Rattle.std.proofs.Common.{true, Err, refl, sym, ap, subst, ◌∙◌, arith}
 use Rattle.grid_outside.proofs.Spans.{stays, leaves_start}
 use Rattle.frame_log.proofs.Torn.{torn_none}
 use Rattle.grid_journal.specs.Stands.{StandsEither}
 use Rattle.grid_journal.proofs.KeepingLemmas.{untouched, journal_of, log_held, stands_either, keeps_after}
-use Rattle.std.specs.List.{list_all}
+use Rattle.std.specs.List.{AllByRecursion}
 use Rattle.std.proofs.lemmas.Result.{err_from_is_err_and}
 use Rattle.grid_model.specs.Applying.{apply_all}
 use Rattle.frame_log.specs.Extent.{Extent}
-use Rattle.grid_journal.specs.Journal.{Journal, can_be_kept}
+use Rattle.grid_journal.specs.Journal.{Journal, MayBeKept}
 use Rattle.grid_journal.specs.declared.error.JournalError.TheVariants as error
 use Rattle.grid_journal.proofs.SpelledRows.{spelled-apply_all}
 use Rattle.grid_journal.proofs.ErrorLemmas.{err_same, worn_from}
@@ -107,6 +107,6 @@ returns-clause-keeps g c tells kept k =
 
 pub invariant_of-self-2 : goal.invariant_of-self-2
 invariant_of-self-2 g c = (
-  ap (list_all can_be_kept) (c.from_vec.ensures ∙ c.new.ensures.items),
+  subst (AllByRecursion MayBeKept) (sym (c.from_vec.ensures ∙ c.new.ensures.items)) tt,
   λ sound. spelled-apply_all c.args.deltas c.self.inside.tables c.apply_each.new.tables c.requires.spelled (c.self.invariant.1 (ap (λ (j : Journal). j.sound) c.self.view_is ∙ c.requires.sound)) c.in_ok-apply_each.ensures,
 )

@@ -5,8 +5,8 @@ use Rattle.frame_log.specs.Extent.{bodies}
 use Rattle.grid_model.specs.Names.{Text}
 use Rattle.grid_model.specs.declared.grid.Side.{Side}
 use Rattle.grid_journal.specs.declared.error.JournalError.TheVariants as error
-use Rattle.std.specs.List.{list_all}
-use Rattle.grid_journal.specs.Journal.{can_be_kept}
+use Rattle.std.specs.List.{AllByRecursion}
+use Rattle.grid_journal.specs.Journal.{MayBeKept}
 use Rattle.grid_journal.specs.Stands.{HasHead, Stands, no_head, no_log as broken}
 use Rattle.grid_journal.proofs.ErrorLemmas.{err_same, not_a_log_from}
 use Rattle.grid_journal.proofs.OpenLemmas.{head_read, fault_read, told_at, unread_at, read_stands, read_keeps}
@@ -68,4 +68,4 @@ pub returns-clause-made : goal.returns-clause-made
 returns-clause-made g c = Replays-made c.in_ok-tables.ensures.replays
 
 pub invariant_of-result : goal.invariant_of-result
-invariant_of-result g c = (ap (list_all can_be_kept) (c.from_vec.ensures ∙ c.new.ensures.items), λ sound. spelled-replays c.in_ok-tables.ensures.replays (tt, tt))
+invariant_of-result g c = (subst (AllByRecursion MayBeKept) (sym (c.from_vec.ensures ∙ c.new.ensures.items)) tt, λ sound. spelled-replays c.in_ok-tables.ensures.replays (tt, tt))

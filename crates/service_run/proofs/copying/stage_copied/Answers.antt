@@ -1,0 +1,5 @@
+use Rattle.grid_journal.proofs.KeptDeltas.{plain_kept}
+use Rattle.service_run.proofs.copying.stage_copied.Goals as goal
+
+pub stage-requires-clause-spelled : goal.stage-requires-clause-spelled
+stage-requires-clause-spelled g c = plain_kept c.args.after c.requires.spelled

@@ -1,0 +1,79 @@
+use Rattle.std.proofs.Common.{◌≡◌, ◌^◌, [], refl, sym, ap, ◌∙◌, subst}
+use Rattle.grid_model.specs.Names.{Text}
+use Rattle.grid_model.specs.QueryOrders.{ReadsQuery}
+use Rattle.grid_model.specs.RowGrids.{user_name}
+use Rattle.point_laws.specs.Works.{query}
+use Rattle.rule_run.proofs.Ended.{amid_first}
+use Rattle.rule_run.proofs.Passing.{passes_none}
+use Rattle.work_run.proofs.Begun.{cut_first}
+use Rattle.work_run.proofs.Deeds.{query_so}
+use Rattle.work_run.proofs.asking.ask.Goals as goal
+
+-- ---- there was no memory for its text
+
+pub returns-in-Err-clause-executes : goal.returns-in-Err-clause-executes
+returns-in-Err-clause-executes g c source at request q asked reads does_so rules_is =
+    let rows = c.args.store.now in
+    let x = c.args.command in
+    cut_first at request rows.cat x asked (user_name rows.cat x.user) (query q) does_so g.D.Disk.disk g.A.Ambient.ambient g.P.Plugin.plugin g.K.Sink.sink source (record { outside = c.args.outside.now; sink = c.args.sink.now }) rows
+    (amid_first g.D.Disk.disk g.A.Ambient.ambient g.P.Plugin.plugin g.K.Sink.sink source at request rows.cat x asked (record { outside = c.args.outside.now; sink = c.args.sink.now }) rows c.requires.held refl (2 ^ 79) c.requires.ready)
+    c.names_complete.ensures c.pre_ends.ensures c.works_end_by_rows.ensures c.works_take_in_order.ensures c.works_send_behind.ensures
+    (query_so c.args.text.now q reads) c.new-frames.result c.new-frames.ensures.begun c.new-frames.ensures.stopped rows
+
+pub returns-in-Err-clause-passes : goal.returns-in-Err-clause-passes
+returns-in-Err-clause-passes g c =
+    passes_none g.D.Disk.disk g.P.Plugin.plugin g.K.Sink.sink _ _ (λ f. cc f) (λ f. cc f) (record { outside = c.args.outside.now; sink = c.args.sink.now })
+
+-- ---- it is asked
+
+pub begin-requires-clause-held : goal.begin-requires-clause-held
+begin-requires-clause-held g c = c.requires.held
+
+pub begin-requires-clause-staged : goal.begin-requires-clause-staged
+begin-requires-clause-staged g c = c.requires.staged
+
+pub begin-requires-clause-pending : goal.begin-requires-clause-pending
+begin-requires-clause-pending g c = c.requires.pending
+
+pub begin-requires-clause-user : goal.begin-requires-clause-user
+begin-requires-clause-user g c = c.requires.user
+
+pub begin-requires-clause-line : goal.begin-requires-clause-line
+begin-requires-clause-line g c = c.requires.line
+
+pub begin-requires-clause-begun : goal.begin-requires-clause-begun
+begin-requires-clause-begun g c = c.requires.begun
+
+pub begin-requires-clause-slots : goal.begin-requires-clause-slots
+begin-requires-clause-slots g c = c.requires.slots
+
+pub begin-requires-clause-checked : goal.begin-requires-clause-checked
+begin-requires-clause-checked g c = c.requires.checked
+
+pub begin-requires-clause-ready : goal.begin-requires-clause-ready
+begin-requires-clause-ready g c = c.requires.ready
+
+pub begin-requires-clause-words : goal.begin-requires-clause-words
+begin-requires-clause-words g c = tt
+
+pub begin-requires-clause-verb : goal.begin-requires-clause-verb
+begin-requires-clause-verb g c = tt
+
+pub begin-requires-clause-frames : goal.begin-requires-clause-frames
+begin-requires-clause-frames g c = (c.new-frames.ensures.begun, c.new-frames.ensures.stopped)
+
+pub returns-clause-executes : goal.returns-clause-executes
+returns-clause-executes g c source at request q asked reads does_so rules_is =
+    c.begin.ensures.executes source at request (query q) asked (subst (λ (t : Text). ReadsQuery t q) (sym (c.in-Ok.ensures ∙ c.as_slice.ensures)) reads) does_so rules_is
+
+pub returns-clause-passes : goal.returns-clause-passes
+returns-clause-passes g c = c.begin.ensures.passes
+
+pub returns-clause-idle : goal.returns-clause-idle
+returns-clause-idle g c none = c.begin.ensures.idle none tt
+
+pub returns-clause-files : goal.returns-clause-files
+returns-clause-files g c place none is = c.begin.ensures.files 0 place none is
+
+pub returns-clause-drawn : goal.returns-clause-drawn
+returns-clause-drawn g c = c.begin.ensures.drawn
