@@ -65,7 +65,7 @@ module _ {D A P K : Type 0} (disk : D → DiskState) (ambient : A → AmbientSta
   pub amid_begun : IsAmid disk ambient plugin sink source s from from s.start rows []
   amid_begun = record {
     command = command_begun;
-    beside = subst (KeepsBeside s.found) (sym same) (beside_same s.found);
+    beside = subst (λ (c : Cat). KeepsBeside s.found c 0) (sym same) (beside_same s.found);
     holds = record {
       told = [];
       fresh = [];

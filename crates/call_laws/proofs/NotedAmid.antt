@@ -1,5 +1,5 @@
 -- A call that is noted, and whose deed has not begun: all marks that were taken are told.
-use Rattle.std.proofs.Common.{◌≡◌, ◌≤◌, List, [], ◌++◌, Ok, Err, IsTrue, refl, sym, ap, ◌∙◌}
+use Rattle.std.proofs.Common.{◌≡◌, ◌≤◌, List, [], ◌++◌, length, Ok, Err, IsTrue, refl, sym, ap, ◌∙◌, subst}
 use Rattle.std.proofs.lemmas.List.{append-nil}
 use Rattle.grid_outside.specs.Ambient.{AmbientState}
 use Rattle.grid_outside.specs.Disk.{DiskState}
@@ -15,12 +15,13 @@ use Rattle.grid_headline.specs.Worlds.{World}
 use Rattle.run_laws.specs.Passes.{CallsPass, Seen}
 use Rattle.service_run.specs.declared.command.Command.{Command}
 use Rattle.service_run.specs.declared.ending.Ending.TheVariants as ending
+use Rattle.service_run.specs.Commands.{KeepsBeside}
 use Rattle.service_run.specs.NotedCalls.{NotesCall}
 use Rattle.service_run.specs.Steps.{WasNoted}
 use Rattle.call_laws.specs.Amid.{HoldsSo, IsAmid, IsSetting, MayCall, Setting, world}
 use Rattle.call_laws.proofs.Joined.{passes_then}
 use Rattle.call_laws.proofs.Rounds.{number_is, taken_still}
-use Rattle.call_laws.proofs.Rows.{beside_then}
+use Rattle.call_laws.proofs.Rows.{beside_marks}
 use Rattle.call_laws.proofs.Safely.{main_told, plain_taken, safe_next, sink_told, told_all, whole_kept}
 
 module _ {D A P K : Type 0} (disk : D → DiskState) (ambient : A → AmbientState) (plugin : P → StoreState) (sink : K → SinkState) (source : SourceState)
@@ -84,7 +85,8 @@ module _ {D A P K : Type 0} (disk : D → DiskState) (ambient : A → AmbientSta
   noted_amid = (
     record {
       command = command_noted;
-      beside = beside_then s.found rows.cat after.cat amid.beside noted.ends.beside;
+      beside = subst (λ (ms : List Mark). KeepsBeside s.found after.cat (length ms)) (append-nil taken)
+          (beside_marks s.found rows.cat after.cat taken [] amid.beside noted.ends.beside);
       holds = holds_noted;
       marks = taken_still disk ambient plugin sink source s from is mid new c undo does y rows taken amid may main_last ⊥ ⊥ passes noted.step.asked;
       whole_now = λ were told settled t late.

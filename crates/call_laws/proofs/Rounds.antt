@@ -31,7 +31,7 @@ use Rattle.service_run.specs.Steps.{IsKnownBy, IsStep, IsStepDone, IsStill, Stay
 use Rattle.call_laws.specs.Amid.{AreTaken, HoldsSo, IsAmid, IsCutShort, IsSafe, IsSetting, MayCall, Setting, world}
 use Rattle.call_laws.specs.OneCall.{passed_over}
 use Rattle.call_laws.proofs.Joined.{passes_then, went_of}
-use Rattle.call_laws.proofs.Rows.{beside_then, first_front}
+use Rattle.call_laws.proofs.Rows.{beside_marks, first_front}
 use Rattle.call_laws.proofs.Safely.{lines_taken, main_told, part_told, plain_taken, safe_next, sink_told, told_all, whole_kept}
 use Rattle.call_laws.proofs.Told.{adds_all, adds_more, lines-append}
 
@@ -200,7 +200,7 @@ module _ {D A P K : Type 0} (disk : D → DiskState) (ambient : A → AmbientSta
           → IsAmid disk ambient plugin sink source s from new x after (taken ++ marks)
       amid_as x command holds_new = record {
         command = command;
-        beside = beside_then s.found rows.cat after.cat amid.beside done.beside;
+        beside = beside_marks s.found rows.cat after.cat taken marks amid.beside done.beside;
         holds = holds_new;
         marks = marks_next;
         whole_now = λ were told settled t late.

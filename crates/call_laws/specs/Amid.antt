@@ -113,7 +113,7 @@ module _ {D A P K : Type 0} (disk : D → DiskState) (ambient : A → AmbientSta
     -- What the calls did so far that took these marks.
     pub record IsAmid (at : Seen D A P K) (y : Command) (rows : Journal) (taken : List Mark) : Type 0 where
       pub command : y ≡ record s.start { marks = s.start.marks ++ taken; passed = y.passed; untold = y.untold }
-      pub beside : KeepsBeside s.found rows.cat
+      pub beside : KeepsBeside s.found rows.cat (length taken)
       pub holds : HoldsSo at y.untold rows taken
       pub marks : AreTaken at taken
       pub whole_now : WereAllWhole old s.found → IsTrue old.main.tells → IsSettled old.main → (t : ℕ) → at.outside.moments < t

@@ -10,6 +10,7 @@ use Rattle.grid_model.specs.Obeying.{after_exec, exec_scope, no_env}
 use Rattle.grid_model.specs.Orders.{Order, executes}
 use Rattle.grid_model.specs.RowGrids.{grid_of, user_name}
 use Rattle.grid_model.specs.RuleText.{CallText}
+use Rattle.grid_model.specs.Runs.{Request}
 use Rattle.grid_model.specs.Sessions.{State}
 use Rattle.grid_model.specs.Values.{Env, computed, is_short, value}
 use Rattle.grid_model.specs.Working.{Done, answered, begun, end_of, refused_at_once}
@@ -18,16 +19,26 @@ use Rattle.grid_model.specs.declared.marks.Mark.{Mark}
 use Rattle.grid_model.specs.declared.refusal.Failure.TheVariants.{LongText}
 use Rattle.grid_model.specs.declared.refusal.Refusal.{Refusal}
 use Rattle.grid_model.specs.declared.replies.End.TheVariants as end
+use Rattle.grid_headline.specs.Ends.{MakesFiles}
 use Rattle.grid_headline.specs.Reads.{HasRules}
 use Rattle.sess.specs.Places.{at, user_of}
 use Rattle.rule_run.specs.Asked.{IsAsked}
-use Rattle.rule_run.specs.Executing.{DoesCall}
+use Rattle.rule_run.specs.Executing.{DoesCall, MakesNoFiles}
 use Rattle.cmd_run.specs.Calls.{IsComputed, begun_command}
 use Rattle.cmd_run.specs.Fits.{state_of}
 use Rattle.cmd_run.specs.Obeys.{SaysOnly}
 use Rattle.cmd_run.specs.declared.server.Server.{Server}
 use Rattle.cmd_run.proofs.Operating.{with_login}
 use Rattle.cmd_run.proofs.WorkingLemmas.{login, who}
+
+-- what a request asks for is one order
+pub one_order : (request : Request) (a b : ℕ × Order) → request ≡ Ok a → request ≡ Ok b → a.1 ≡ b.1
+one_order request a b one other = let both : a ≡ b = cc in ap (λ (p : ℕ × Order). p.1) both
+
+-- an order that makes no files asks for none
+pub makes_none : (session : ℕ) (order : Order) → (MakesFiles order → ⊥) → MakesNoFiles (Ok (session, order))
+makes_none session order none n o is makes =
+    none (subst MakesFiles (sym (one_order (Ok (session, order)) (session, order) (n, o) refl is)) makes)
 
 module _ (s : Server) (session user : ℕ) (has : user_of (at s.sessions session) ≡ Some user) where
   abbrev now : State

@@ -1,5 +1,5 @@
 -- What the server has behind a request whose calls were made, and behind a call by itself.
-use Rattle.std.proofs.Common.{◌≡◌, ℕ, List, [], None, Ok, Err, map, IsTrue, refl, sym, ap, ◌∙◌, subst}
+use Rattle.std.proofs.Common.{◌≡◌, ℕ, List, None, Ok, Err, map, IsTrue, refl, sym, ap, ◌∙◌, subst}
 use Rattle.std.specs.Prelude.{IsErrOf, Result, ⊤}
 use Rattle.grid_outside.specs.Ambient.{AmbientState}
 use Rattle.grid_outside.specs.Disk.{DiskState}
@@ -36,14 +36,14 @@ use Rattle.chain_core.specs.Seen.{rules_of}
 use Rattle.chain_core.specs.declared.base.RuleBase.{RuleBase}
 use Rattle.rule_parse.specs.Printed.{print_rules}
 use Rattle.rule_run.specs.Asked.{IsAsked}
-use Rattle.rule_run.specs.Executing.{DoesCall, Executes, HasRunOut, IsRested}
+use Rattle.rule_run.specs.Executing.{DoesCall, Executes, HasRunOut, IsRested, MakesNoFiles}
 use Rattle.cmd_run.specs.Calls.{IsCalled, begun_command, ended_by, ending_by}
 use Rattle.cmd_run.specs.Fits.{AreUsers, FitsMain, state_of}
 use Rattle.cmd_run.specs.Obeys.{IsWorn, IsWornAt, MayMakeFile, Obeys, RemembersDeed, handled}
 use Rattle.cmd_run.specs.declared.server.Server.{Server}
 use Rattle.cmd_run.specs.declared.server.Ending.{Ending}
 use Rattle.cmd_run.specs.declared.server.Ending.TheVariants as ending
-use Rattle.cmd_run.proofs.Called.{asked_for, does_call}
+use Rattle.cmd_run.proofs.Called.{asked_for, does_call, makes_none}
 use Rattle.cmd_run.proofs.Remembering.{no_source}
 use Rattle.cmd_run.proofs.Users.{KeepsUsers, sessions_stay, users_stay}
 
@@ -239,7 +239,7 @@ module _ {D A P K : Type 0} (disk : D → DiskState) (ambient : A → AmbientSta
     (fits : FitsMain (disk from.outside.main) before) (x_is : x ≡ begun_command before.store.cat.numbers.run number user line)
     (env_is : env ≡ no_env (user_name before.store.cat user))
     (runs : (source : SourceState) (at : State) (request : Request) (vs : List Value) → IsAsked at request before.store.cat x → HasValues done vs
-    → (CallsNoRules at request → ⊥) → DoesCall at request (state_of before).rules env done vs
+    → (CallsNoRules at request → ⊥) → MakesNoFiles request → DoesCall at request (state_of before).rules env done vs
     → Executes disk ambient plugin sink source at request before.store.cat x from new result after) where
   pub executed_call : (request : Request) (read : CallText) → IsCalled before session user read done → request ≡ Ok (session, executes (Ok read))
       → (source : SourceState) → Executes disk ambient plugin sink source (state_of before) request before.store.cat x from new result after
@@ -250,4 +250,5 @@ module _ {D A P K : Type 0} (disk : D → DiskState) (ambient : A → AmbientSta
       subst E (sym asks) (runs source (state_of before) its (map (value (exec_scope (user_name before.store.cat user)) (grid_of before.store.cat)) read.args)
       (subst A (sym x_is) (asked_for before session user called.logged_in (executes (Ok read)) number line
       (fits.users session user called.logged_in) fits.pending fits.rules))
-      called.computed.values (λ no. no.0) (does_call before session user called.logged_in read done env env_is called.computed))
+      called.computed.values (λ no. no.0) (makes_none session (executes (Ok read)) (λ makes. makes))
+      (does_call before session user called.logged_in read done env env_is called.computed))

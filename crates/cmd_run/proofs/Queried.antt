@@ -21,13 +21,13 @@ use Rattle.sess.specs.Places.{at, user_of}
 use Rattle.service_run.specs.declared.command.Command.{Command}
 use Rattle.service_run.specs.declared.ending.Ending as calls
 use Rattle.rule_run.specs.Asked.{IsAsked}
-use Rattle.rule_run.specs.Executing.{Executes}
+use Rattle.rule_run.specs.Executing.{Executes, MakesNoFiles}
 use Rattle.work_run.specs.Works.{DoesQuery}
 use Rattle.cmd_run.specs.Asking.{QueryOf}
 use Rattle.cmd_run.specs.Calls.{begun_command}
 use Rattle.cmd_run.specs.Fits.{FitsMain, state_of}
 use Rattle.cmd_run.specs.declared.server.Server.{Server}
-use Rattle.cmd_run.proofs.Called.{asked_for}
+use Rattle.cmd_run.proofs.Called.{asked_for, makes_none}
 use Rattle.cmd_run.proofs.Operating.{with_login}
 use Rattle.cmd_run.proofs.WorkingLemmas.{login, who}
 
@@ -41,7 +41,7 @@ module _ {D A P K : Type 0} (disk : D → DiskState) (ambient : A → AmbientSta
     (fits : FitsMain (disk from.outside.main) before) (has : user_of (at before.sessions session) ≡ Some user)
     (x_is : x ≡ begun_command before.store.cat.numbers.run number user line)
     (runs : (source : SourceState) (at : State) (request : Request) (query : Or Query) → IsAsked at request before.store.cat x → ReadsQuery text query
-    → DoesQuery at request (user_name before.store.cat x.user) query → at.rules ≡ (state_of before).rules
+    → DoesQuery at request (user_name before.store.cat x.user) query → at.rules ≡ (state_of before).rules → MakesNoFiles request
     → Executes disk ambient plugin sink source at request before.store.cat x from new result after) where
   does_query : (query : Or Query) → DoesQuery (state_of before) (Ok (session, queries query)) (user_name before.store.cat user) query
   does_query query marks = with_login (state_of before) session (queries query) marks (who before session user has) (login before session user has)
@@ -55,4 +55,4 @@ module _ {D A P K : Type 0} (disk : D → DiskState) (ambient : A → AmbientSta
       let E : Request → Type 0 = λ q. Executes disk ambient plugin sink source (state_of before) q before.store.cat x from new result after in
       subst E (sym asks.2) (runs source (state_of before) its asks.0
       (subst A (sym x_is) (asked_for before session user has (queries asks.0) number line (fits.users session user has) fits.pending fits.rules))
-      asks.1 (subst N (sym x_is) (does_query asks.0)) refl)
+      asks.1 (subst N (sym x_is) (does_query asks.0)) refl (makes_none session (queries asks.0) (λ makes. makes)))

@@ -1,5 +1,5 @@
 -- Devices that were not called, and marks that were not told.
-use Rattle.std.proofs.Common.{◌≡◌, ℕ, ◌+◌, ◌<◌, ◌≤◌, List, [], IsTrue, refl, sym, ap, subst, arith, append-nil}
+use Rattle.std.proofs.Common.{◌≡◌, ℕ, ◌+◌, ◌<◌, ◌≤◌, List, [], IsTrue, sym, ap, subst, arith, append-nil}
 use Rattle.grid_outside.specs.Ambient.{AmbientState}
 use Rattle.grid_outside.specs.Device.{IsSettled}
 use Rattle.grid_outside.specs.Disk.{DiskState}
@@ -13,22 +13,8 @@ use Rattle.grid_journal.specs.Stands.{StandsFor}
 use Rattle.grid_headline.specs.Worlds.{World, faults_of}
 use Rattle.grid_headline.specs.Causes.{AreCaused}
 use Rattle.grid_headline.specs.Draws.{none as no_words}
-use Rattle.run_laws.specs.Steps.{Gave, IsLike}
+use Rattle.run_laws.specs.Steps.{Gave}
 use Rattle.run_laws.specs.Around.{around}
-
--- nothing of a catalogue is other than it was
-pub like_self : (c : Cat) → IsLike c c
-like_self c =
-    record {
-      grid = refl;
-      run = refl;
-      last = refl;
-      rules = refl;
-      stores = refl;
-      pending = refl;
-      keeps = record
-          { rises = omega arith; names = λ slot name row less here. (row, here) };
-    }
 
 -- the ambient was not asked
 pub gave_none : (ambient : AmbientState) → IsTrue ambient.tells → Gave [] ambient ambient

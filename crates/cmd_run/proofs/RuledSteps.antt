@@ -22,11 +22,12 @@ use Rattle.grid_headline.specs.Causes.{AreCaused}
 use Rattle.grid_headline.specs.Reads.{HasRules}
 use Rattle.grid_headline.specs.Served.{whole as all_sure}
 use Rattle.rule_parse.specs.Printed.{print_rules}
-use Rattle.run_laws.specs.Steps.{RequestStep, IsHandledWhole, IsLeftBehind, Gave, OneOf, SureTexts, not_kept, kept_so, kept}
+use Rattle.run_laws.specs.Steps.{ComesAfter, RequestStep, IsHandledWhole, IsLeftBehind, Gave, OneOf, SureTexts, not_kept, kept_so, kept}
 use Rattle.run_laws.specs.Went.{Rests}
 use Rattle.cmd_run.specs.Answers.{IsTextPut}
 use Rattle.cmd_run.specs.Rules.{BeginsToSet, ruled}
-use Rattle.cmd_run.proofs.Resting.{like_self, none_of}
+use Rattle.count_laws.proofs.GivenNumbers.{gives_alike}
+use Rattle.cmd_run.proofs.Resting.{none_of}
 use Rattle.cmd_run.proofs.RuledRows.{grid_ruled, keeps_numbers}
 use Rattle.cmd_run.proofs.SayLemmas.{put_left}
 
@@ -67,15 +68,19 @@ module _ {B : Type 0} (old new : World B) (at : State) (c : Cat) (number : ℕ) 
     keeps = keeps_numbers number printed c;
   }
 
+  -- no mark was told, so no file was made
+  comes : ComesAfter c number request s.d after
+  comes = kept behind (λ session order is makes some was. absurd (some marks_none))
+
   -- main stands for the rows before and the sink has nothing, or for those behind and it has a part
   abbrev pub Image : Text → Text → Type 0
   Image main sink = (StandsFor main c × (sink ≡ old.sink.holds)) ⊎ (StandsFor main after × AddsPart text old.sink.holds sink)
 
-  pub image_of : (main sink : Text) → Image main sink → OneOf at c number request s.d texts old.sink.holds main sink
+  pub image_of : (main sink : Text) → Image main sink → OneOf at c after number request s.d texts old.sink.holds main sink
   image_of main sink (inl (stands, same)) =
-      let Q : Text → Type 0 = λ x. OneOf at c number request s.d texts old.sink.holds main x in
-      subst Q (sym same) (not_kept c (like_self c) stands (none_of text old.sink.holds) refl)
-  image_of main sink (inr (stands, part)) = kept_so after (kept behind) stands part
+      let Q : Text → Type 0 = λ x. OneOf at c after number request s.d texts old.sink.holds main x in
+      subst Q (sym same) (not_kept stands (none_of text old.sink.holds) refl)
+  image_of main sink (inr (stands, part)) = kept_so comes stands part
 
   -- before the line is put main has either
   pub unsaid_image : (main sink : Text) → StandsEither c after main → sink ≡ old.sink.holds → Image main sink
@@ -103,6 +108,9 @@ module _ {B : Type 0} (old new : World B) (at : State) (c : Cat) (number : ℕ) 
     shown = λ told. record { part = shown told; few = omega arith };
     caused = caused;
     gave = gave;
+    next = after;
+    keeps = behind.keeps;
+    few = gives_alike c after refl refl;
     images = λ told sink_told settled sink_settled t main sink late main_left sink_left.
         image_of main sink (images told sink_told settled sink_settled t main sink late main_left sink_left);
   }
@@ -151,8 +159,9 @@ module _ {B : Type 0} (old new : World B) (at : State) (c : Cat) (number : ℕ) 
         state = state;
         grid = grid;
         all_taken = refl;
+        is_next = refl;
         pieces_are = pieces_are;
-        follows = kept behind;
+        follows = comes;
         stands = stands;
         text = λ told. all told ∙ ap (λ (t : Text). old.sink.holds ++ t) (sym text_is);
         still = λ no_sweep no_calls none same no_rules told. absurd (differs (still_none no_calls.1 no_rules));

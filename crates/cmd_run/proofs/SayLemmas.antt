@@ -9,7 +9,6 @@ use Rattle.grid_outside.specs.Source.{SourceState}
 use Rattle.grid_outside.specs.Sink.{SinkState, AddsPart}
 use Rattle.grid_outside.specs.declared.outside.Outside.{Outside}
 use Rattle.grid_model.specs.Names.{Text}
-use Rattle.grid_model.specs.Rows.{Cat}
 use Rattle.grid_model.specs.ReplyTexts.{ArePieces, reply_text}
 use Rattle.grid_model.specs.Runs.{Request}
 use Rattle.grid_model.specs.Completing.{EndsByRows}
@@ -25,7 +24,8 @@ use Rattle.grid_headline.specs.Reads.{HasRules}
 use Rattle.grid_headline.specs.Served.{whole}
 use Rattle.grid_model.specs.Sessions.{State}
 use Rattle.rule_parse.specs.Printed.{print_rules}
-use Rattle.run_laws.specs.Steps.{RequestStep, IsHandledWhole, IsLike, OneOf, SureTexts, kept_so, unseen}
+use Rattle.count_laws.proofs.GivenNumbers.{gives_none, none_self}
+use Rattle.run_laws.specs.Steps.{RequestStep, IsHandledWhole, OneOf, SureTexts, kept_so, unseen}
 use Rattle.cmd_run.specs.declared.server.Server.{Server}
 use Rattle.cmd_run.specs.declared.server.Ending.{Ending}
 use Rattle.cmd_run.specs.declared.server.Ending.TheVariants as ending
@@ -33,7 +33,7 @@ use Rattle.run_laws.specs.Around.{around}
 use Rattle.cmd_run.specs.Answers.{IsTextPut, PutEnds, said_lines}
 use Rattle.cmd_run.specs.Fits.{state_of, FitsMain}
 use Rattle.cmd_run.specs.Obeys.{Obeys, Says, handled, quiet}
-use Rattle.cmd_run.proofs.Resting.{like_self, gave_none, gave_same, caused_same, stands_still}
+use Rattle.cmd_run.proofs.Resting.{gave_none, gave_same, caused_same, stands_still}
 
 -- ---- what was put of a text
 
@@ -90,9 +90,9 @@ module _ {D A P : Type 0} (disk : D → DiskState) (ambient : A → AmbientState
 
     -- main still stands for the rows, and the sink has a part of the reply
     pub image_of : (t : ℕ) (main sink : Text) → IsTrue (disk o.main).tells → IsSettled (disk o.main) → o.moments < t → (disk n.main).left t main
-        → AddsPart text from.holds sink → OneOf (state_of before) before.store.cat number request s.d texts from.holds main sink
+        → AddsPart text from.holds sink → OneOf (state_of before) before.store.cat before.store.cat number request s.d texts from.holds main sink
     image_of t main sink told settled late main_left part =
-        kept_so before.store.cat (unseen (like_self before.store.cat) marks_none s.grid rules_are)
+        kept_so (unseen refl marks_none s.grid rules_are)
         (stands_still disk o.main n.main before.store.cat o.moments t main main_same main_last late settled (stood told) main_left) part
 
     abbrev pub step_of : IsTextPut (said_lines number shown rows e) o.moments from to → RequestStep old new (state_of before) before.store.cat number request
@@ -113,6 +113,9 @@ module _ {D A P : Type 0} (disk : D → DiskState) (ambient : A → AmbientState
           shown = λ told. record { part = put.acts.holds told; few = omega arith };
           caused = caused_same disk ambient plugin source o n from to stores_same;
           gave = gave_same disk ambient plugin source o n ambient_same;
+          next = before.store.cat;
+          keeps = (none_self before.store.cat).keeps;
+          few = gives_none before.store.cat;
           images = λ told sink_told settled sink_settled t main sink late main_left sink_left.
               image_of t main sink told settled late main_left (put_left text o.moments t from to sink put sink_told sink_settled sink_last late sink_left);
         }
@@ -128,9 +131,8 @@ module _ {D A P : Type 0} (disk : D → DiskState) (ambient : A → AmbientState
       grid = refl;
       all_taken = refl;
       pieces_are = pieces_are;
-      follows =
-          unseen (let L : Cat → Type 0 = λ x. IsLike before.store.cat x in subst L (ap (λ x. x.cat) store_same) (like_self before.store.cat)) marks_none s.grid
-          rules_are;
+      is_next = ap (λ x. x.cat) store_same;
+      follows = unseen (sym (ap (λ x. x.cat) store_same)) marks_none s.grid rules_are;
       stands =
           λ told. (let S : D → Type 0 = λ m. StandsFor (disk m).holds after.store.cat in subst S (sym main_same)
           (held_stands after.store.cat (disk o.main) after.store fits.held told));
@@ -155,8 +157,6 @@ unsaid_by disk ambient plugin source o sink before number request after e held m
       sink = λ told. refl;
       gave = λ told. gave_none (ambient o.ambient) told;
       images = λ told sink_told settled sink_settled t main image late main_left sink_left. (
-        before.store.cat,
-        like_self before.store.cat,
         stands_still disk o.main o.main before.store.cat o.moments t main refl main_last late settled
             (held_stands before.store.cat (disk o.main) before.store held told) main_left,
         sink_settled t image (omega (arith, late, sink_last)) sink_left,

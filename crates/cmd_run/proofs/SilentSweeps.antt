@@ -1,6 +1,6 @@
 -- What a sweep is of which nothing is said, in the world around it.
-use Rattle.std.proofs.Common.{◌≡◌, None, Ok, IsTrue, refl, sym, ap, ◌∙◌, subst, arith}
-use Rattle.std.specs.Prelude.{[], vec_len}
+use Rattle.std.proofs.Common.{◌≡◌, inl, inr, None, Ok, IsTrue, refl, sym, ap, ◌∙◌, subst, arith}
+use Rattle.std.specs.Prelude.{[], Result, ⊤, vec_len}
 use Rattle.grid_outside.specs.Ambient.{AmbientState}
 use Rattle.grid_outside.specs.Device.{DeviceState}
 use Rattle.grid_outside.specs.Disk.{DiskState}
@@ -10,7 +10,7 @@ use Rattle.grid_outside.specs.Source.{SourceState}
 use Rattle.grid_outside.specs.declared.outside.Outside.{Outside}
 use Rattle.grid_model.specs.Names.{Text}
 use Rattle.grid_model.specs.Rows.{Cat}
-use Rattle.grid_journal.specs.Stands.{Stands, stands as made_of, StandsFor}
+use Rattle.grid_journal.specs.Stands.{Stands, stands as made_of, StandsEither, StandsFor}
 use Rattle.grid_vault.specs.Removal.{FewerThanFaults}
 use Rattle.grid_deed.specs.Frame.{Frame}
 use Rattle.grid_deed.specs.Safe.{KeepWhole}
@@ -20,10 +20,10 @@ use Rattle.grid_deed.proofs.Wholes.{one_cat}
 use Rattle.grid_headline.specs.Files.{KeepsReplicas, NamesCall}
 use Rattle.grid_headline.specs.Worlds.{World}
 use Rattle.run_laws.specs.Silent.{IsSwept, Sweeps}
-use Rattle.run_laws.specs.Steps.{IsQuiet}
 use Rattle.run_laws.specs.Went.{AreInOrder, Rests, Went}
 use Rattle.run_laws.specs.Around.{around}
-use Rattle.cmd_run.specs.Sweeping.{LeavesLike, StandsAsBefore, orphan_files}
+use Rattle.cmd_run.specs.Sweeping.{StandsAsBefore, SweepsMain, orphan_files}
+use Rattle.cmd_run.specs.declared.server.Ending.{Ending}
 use Rattle.cmd_run.specs.declared.server.Server.{Server}
 use Rattle.cmd_run.proofs.LeftOrphans.{few_orphans}
 use Rattle.cmd_run.proofs.Resting.{gave_same}
@@ -54,27 +54,30 @@ module _ {D A P : Type 0} (disk : D → DiskState) (ambient : A → AmbientState
       stores = λ slot before after was is. record { goes = frame.stores.later slot before after was is };
     }
 
-    module _ (leaves : LeavesLike c o.moments (disk o.main) (disk n.main)) (order : AreInOrder old) where
-      quiet : IsQuiet old new c
-      quiet = record {
-        sink = λ told. refl;
-        gave = gave_same disk ambient plugin source o n frame.ambient;
-        images = λ told sink_told settled sink_settled t main left_sink late main_left sink_left.
-            let its = leaves told settled t main late main_left in
-            (its.0, its.2.like, its.1, sink_settled t left_sink (omega (arith, late, order.sink_last)) sink_left);
-      }
+    module _ (result : Result ⊤ Ending) (now : Cat) (swept : SweepsMain c o.moments (disk o.main) (disk n.main) result now) (order : AreInOrder old) where
+      -- what main stands for then, of whichever catalogue this holds
+      either : (P : Cat → Type 0) → P c → P swept.after → (main : Text) (d : Cat) → StandsEither c swept.after main → StandsFor main d → P d
+      either P one other main d (inl before) stands = subst P (sym (one_cat main c d before stands)) one
+      either P one other main d (inr behind) stands = subst P (sym (one_cat main swept.after d behind stands)) other
 
       -- such a sweep is one where what is left of main, of the files and of the devices is so
       pub sweeps : IsTrue (disk o.main).tells → c.pending ≡ None → KeepWhole plugin o.moments c (disk o.main) (disk n.main) o.stores.items n.stores.items
-          → Sweeps old new c
+          → Sweeps old new c swept.after
       sweeps told none whole = record {
         order = order;
         went = went;
-        quiet = quiet;
+        like = swept.like;
+        gives = swept.gives;
+        sink = λ sink_told. refl;
+        gave = gave_same disk ambient plugin source o n frame.ambient;
+        images = λ main_told sink_told settled sink_settled t main left_sink late main_left sink_left. (
+          swept.leaves main_told settled t main late main_left,
+          sink_settled t left_sink (omega (arith, late, order.sink_last)) sink_left,
+        );
         whole = λ settled was t main spare d late left its.
             let stood = any_spare its in
-            let found = leaves told settled.of_main t main late left.of_main in
-            let now = whole told settled.of_main (λ s past. (
+            let found = swept.leaves told settled.of_main t main late left.of_main in
+            let kept = whole told settled.of_main (λ s past. (
             let w = was s past in
             record {
               rows = w.rows;
@@ -82,15 +85,14 @@ module _ {D A P : Type 0} (disk : D → DiskState) (ambient : A → AmbientState
                   (record { store = store; is = is; tells = tells; of_store = store_left });
             }
             )) t main d late left.of_main stood in
+            let pending : d.pending ≡ None = either (λ x. x.pending ≡ None) none (swept.like.pending ∙ none) main d found stood in
             record {
-              rows = now.rows;
-              call = subst NamesCall (sym (ap (λ (x : Cat). x.pending) (one_cat main found.0 d found.1 stood) ∙ found.2.like.pending ∙ none)) tt;
-              files = λ slot image there. now.files slot there.store image there.is there.tells there.of_store;
+              rows = kept.rows;
+              call = subst NamesCall (sym pending) tt;
+              files = λ slot image there. kept.files slot there.store image there.is there.tells there.of_store;
             };
         named = λ main_told settled t main d late left stands.
-            let found = leaves main_told settled t main late left in
-            let K : Cat → Type 0 = λ x. KeepsReplicas c x in
-            subst K (sym (one_cat main found.0 d found.1 stands)) found.2.keeps;
+            either (λ x. KeepsReplicas c x) (λ slot name r its was. was) swept.keeps main d (swept.leaves main_told settled t main late left) stands;
       }
 
   -- and it was done where the server stands as before, and few orphans are left
@@ -99,7 +101,6 @@ module _ {D A P : Type 0} (disk : D → DiskState) (ambient : A → AmbientState
       → FewerThanFaults plugin (orphan_files after.store.cat) o.stores.items n.stores.items → (before.store.cat.orphans ≡ [] → n.main ≡ o.main)
       → IsSwept old new before.store.cat after.store.cat
   is_swept failed frame before after its slots fewer still = record {
-    like = its.like;
     stands = λ told. held_stands after.store.cat (disk n.main) after.store its.fits.held (subst IsTrue (sym frame.main.tells) told);
     few =
         few_orphans disk ambient plugin sink sink source o n before.store.cat after.store.cat frame.stores.count slots its.like.stores its.fits.held.made fewer;

@@ -16,10 +16,11 @@ use Rattle.grid_model.specs.Completing.{EndsByRows}
 use Rattle.grid_model.specs.Replies.{end_line}
 use Rattle.grid_model.specs.ReplyTexts.{ArePieces, reply_text}
 use Rattle.grid_model.specs.Runs.{Request}
+use Rattle.grid_model.specs.Orders.{sweeps}
 use Rattle.grid_model.specs.Working.{well}
 use Rattle.grid_model.specs.declared.marks.Mark.{Mark}
 use Rattle.grid_model.specs.declared.replies.Reply.{Reply}
-use Rattle.grid_journal.specs.Stands.{StandsFor}
+use Rattle.grid_journal.specs.Stands.{StandsEither, StandsFor}
 use Rattle.file_laws.specs.Removals.{no_orphans}
 use Rattle.grid_deed.specs.Frame.{StoresGo}
 use Rattle.grid_deed.specs.Held.{IsHeld}
@@ -28,7 +29,8 @@ use Rattle.grid_headline.specs.Files.{IsKnown}
 use Rattle.grid_headline.specs.Worlds.{World}
 use Rattle.grid_headline.specs.Reads.{HasRules}
 use Rattle.grid_headline.specs.Served.{whole}
-use Rattle.run_laws.specs.Steps.{RequestStep, IsHandledWhole, IsLike, RemovesNoFile, OneOf, SureTexts, kept_so, unseen}
+use Rattle.count_laws.proofs.GivenNumbers.{none_few}
+use Rattle.run_laws.specs.Steps.{ComesAfter, IsSweep, RequestStep, IsHandledWhole, IsLike, RemovesNoFile, OneOf, SureTexts, kept_so, not_kept, swept}
 use Rattle.grid_model.specs.Checks.{first_fault, rules_faults}
 use Rattle.grid_model.specs.Parsed.{rule_of}
 use Rattle.grid_model.specs.Sessions.{State}
@@ -44,7 +46,7 @@ use Rattle.run_laws.specs.Around.{around}
 use Rattle.cmd_run.specs.Answers.{IsTextPut, PutEnds}
 use Rattle.cmd_run.specs.Fits.{state_by, state_of, FitsMain, AreUsers}
 use Rattle.cmd_run.specs.Obeys.{HasNoneWaiting, LacksRoomAlone, Obeys, SaysOnly, handled}
-use Rattle.cmd_run.specs.Sweeping.{ForgetEnds, ForgetsOrphans, LeavesLike, StandsAsBefore, StaysLike}
+use Rattle.cmd_run.specs.Sweeping.{ForgetEnds, ForgetsOrphans, StandsAsBefore, SweepsMain}
 use Rattle.run_laws.proofs.OneMark.{caused_none}
 use Rattle.cmd_run.proofs.Users.{state_behind}
 use Rattle.cmd_run.proofs.Resting.{gave_same, none_of}
@@ -115,10 +117,16 @@ module _ (c : Cat) (from : ℕ) (old new : DiskState) (result : Result ⊤ Endin
 
 -- ---- a request that sweeps
 
+is_sweep : (request : Request) → ¬ RemovesNoFile request → IsSweep request
+is_sweep (Ok (session, sweeps)) removes = tt
+is_sweep (Ok (session, other)) removes = absurd (removes tt)
+is_sweep (Err r) removes = absurd (removes tt)
+
 module _ {D A P : Type 0} (disk : D → DiskState) (ambient : A → AmbientState) (plugin : P → StoreState) (source : SourceState) (o n : Outside D A P)
     (from : SinkState) (server after_server : Server) (number : ℕ) (request : Request)
     (ambient_same : n.ambient ≡ o.ambient) (go : StoresGo plugin o.moments o.stores.items n.stores.items) (sink_last : from.last ≤ o.moments)
-    (leaves : LeavesLike server.store.cat o.moments (disk o.main) (disk n.main)) (s : SaysOnly (state_of server) request well (state_of server))
+    (swept_result : Result ⊤ Ending) (leaves : SweepsMain server.store.cat o.moments (disk o.main) (disk n.main) swept_result after_server.store.cat)
+    (sweep : ¬ RemovesNoFile request) (s : SaysOnly (state_of server) request well (state_of server))
     (had : HasRules server.store.cat (rules_of server.rules)) where
   abbrev c : Cat
   c = server.store.cat
@@ -151,17 +159,28 @@ module _ {D A P : Type 0} (disk : D → DiskState) (ambient : A → AmbientState
   later : EachPair (λ k before after. (plugin before).faults ≤ (plugin after).faults) o.stores.items n.stores.items
   later k before after was is = (go.later k before after was is).faults
 
-  -- such a catalogue is one in which nothing of the request is seen
-  image_of : (main sink : Text) → ((x : Cat) × StandsFor main x × StaysLike c x) → AddsPart text from.holds sink
-      → OneOf (state_of server) c number request s.d texts from.holds main sink
-  image_of main sink its part = kept_so its.0 (unseen its.2.like marks_none s.grid rules_are) its.1 part
-
   none_put : (sink : Text) → sink ≡ from.holds → AddsPart text from.holds sink
   none_put sink same = let Q : Text → Type 0 = λ x. AddsPart text from.holds x in subst Q (sym same) (none_of text from.holds)
 
+  abbrev after : Cat
+  after = leaves.after
+
+  comes : ComesAfter c number request s.d after
+  comes = swept (is_sweep request sweep) leaves.like leaves.gives marks_none s.grid rules_are
+
+  abbrev One : Text → Text → Type 0
+  One main sink = OneOf (state_of server) c after number request s.d texts from.holds main sink
+
+  -- main has what was before it, and nothing is shown, or what is behind it
+  image_of : (main sink : Text) → StandsEither c after main → sink ≡ from.holds → One main sink
+  image_of main sink (inl before) same =
+      let Q : Text → Type 0 = λ x. One main x in
+      subst Q (sym same) (not_kept before (none_of text from.holds) refl)
+  image_of main sink (inr behind) same = kept_so comes behind (none_put sink same)
+
   abbrev step_of : (to : SinkState) → (IsTrue from.tells → AddsPart text from.holds to.holds)
       → (IsTrue (disk o.main).tells → IsTrue from.tells → IsSettled (disk o.main) → IsSettled from → (t : ℕ) (main sink : Text) → o.moments < t →
-      (disk n.main).left t main → to.left t sink → OneOf (state_of server) c number request s.d texts from.holds main sink)
+      (disk n.main).left t main → to.left t sink → One main sink)
       → RequestStep old (new to) (state_of server) c number request
   step_of to shown images = record {
     marks = [];
@@ -178,27 +197,39 @@ module _ {D A P : Type 0} (disk : D → DiskState) (ambient : A → AmbientState
     shown = λ told. record { part = shown told; few = omega arith };
     caused = caused_none old (new to) go.count later [] (λ slot. refl);
     gave = gave_same disk ambient plugin source o n ambient_same;
+    next = after;
+    keeps = leaves.gives.keeps;
+    few = none_few c after leaves.gives;
     images = images;
   }
 
   -- it failed before the line was put
   pub cut_sweep : (e : Ending) → Obeys old (new from) server number request (Err e) after_server
   cut_sweep e = handled (step_of from (λ told. none_of text from.holds) (λ told sink_told settled sink_settled t main sink late main_left sink_left.
-      image_of main sink (leaves told settled t main late main_left) (none_put sink (sink_settled t sink (omega (arith, late, sink_last)) sink_left)))) tt
+      image_of main sink (leaves.leaves told settled t main late main_left) (sink_settled t sink (omega (arith, late, sink_last)) sink_left))) tt
 
   module _ (mid : ℕ) (to : SinkState) (put : IsTextPut (end_line number well) mid from to) (drawn : o.moments ≤ mid)
       (its : StandsAsBefore (disk o.main) (disk n.main) server after_server) (tells : (disk n.main).tells ≡ (disk o.main).tells)
-      (sweep : ¬ RemovesNoFile request) where
+      (main_last : (disk n.main).last ≤ mid) (is_now : leaves.after ≡ after_server.store.cat) where
     line : IsTextPut text mid from to
     line = let Q : Text → Type 0 = λ x. IsTextPut x mid from to in subst Q (sym text_is) put
 
+    stands_now : IsTrue (disk o.main).tells → StandsFor (disk n.main).holds after
+    stands_now told =
+        let S : Cat → Type 0 = λ x. StandsFor (disk n.main).holds x in
+        subst S (sym is_now) (held_stands after_server.store.cat (disk n.main) after_server.store its.fits.held (subst IsTrue (sym tells) told))
+
     images : IsTrue (disk o.main).tells → IsTrue from.tells → IsSettled (disk o.main) → IsSettled from → (t : ℕ) (main sink : Text) → o.moments < t
-        → (disk n.main).left t main → to.left t sink → OneOf (state_of server) c number request s.d texts from.holds main sink
-    images told sink_told settled sink_settled t main sink late main_left sink_left =
-        image_of main sink (leaves told settled t main late main_left) (elim (cases_lt mid t) [
-          | inl now ↦ put_left text mid t from to sink line sink_told sink_settled (omega (arith, sink_last, drawn)) now sink_left
-          | inr before ↦ none_put sink (sink_settled t sink (omega (arith, late, sink_last)) ((line.acts.earlier t sink (omega (arith, before))).0 sink_left))
-        ])
+        → (disk n.main).left t main → to.left t sink → One main sink
+    images told sink_told settled sink_settled t main sink late main_left sink_left = elim (cases_lt mid t) [
+      | inl now ↦
+          let S : Text → Type 0 = λ x. StandsFor x after in
+          kept_so comes (subst S (sym (its.settled told settled t main (omega (arith, main_last, now)) main_left)) (stands_now told))
+          (put_left text mid t from to sink line sink_told sink_settled (omega (arith, sink_last, drawn)) now sink_left)
+      | inr before ↦
+          image_of main sink (leaves.leaves told settled t main late main_left)
+          (sink_settled t sink (omega (arith, late, sink_last)) ((line.acts.earlier t sink (omega (arith, before))).0 sink_left))
+    ]
 
     abbrev step : RequestStep old (new to) (state_of server) c number request
     step = step_of to (λ told. line.acts.holds told) images
@@ -209,8 +240,9 @@ module _ {D A P : Type 0} (disk : D → DiskState) (ambient : A → AmbientState
       state = s.state ∙ sym its.state;
       grid = refl;
       all_taken = refl;
+      is_next = is_now;
       pieces_are = pieces_are;
-      follows = unseen its.like marks_none s.grid rules_are;
+      follows = (let P : Cat → Type 0 = λ x. ComesAfter c number request s.d x in subst P is_now comes);
       stands = λ told. held_stands after_server.store.cat (disk n.main) after_server.store its.fits.held (subst IsTrue (sym tells) told);
       text = λ told. all told ∙ ap (λ (t : Text). from.holds ++ t) (sym text_is);
       still = λ none_swept no_calls none same no_rules told. absurd (sweep none_swept);
@@ -224,9 +256,13 @@ module _ {D A P : Type 0} (disk : D → DiskState) (ambient : A → AmbientState
     swept_then (Err e) put_ends = handled step tt
 
 -- no command is pending in what a stop leaves
-pub none_waits_like : (c : Cat) (from : ℕ) (main_old main_new : DiskState) → c.pending ≡ None → LeavesLike c from main_old main_new
-    → HasNoneWaiting from main_old main_new
-none_waits_like c from main_old main_new none leaves told settled t main d late left stands =
-    let its = leaves told settled t main late left in
-    let P : Cat → Type 0 = λ x. x.pending ≡ None in
-    subst P (sym (one_cat main its.0 d its.1 stands)) (its.2.like.pending ∙ none)
+pub none_waits_swept : (c now : Cat) (from : ℕ) (main_old main_new : DiskState) (result : Result ⊤ Ending) → c.pending ≡ None
+    → SweepsMain c from main_old main_new result now → HasNoneWaiting from main_old main_new
+none_waits_swept c now from main_old main_new result none its told settled t main d late left stands =
+    by (its.leaves told settled t main late left)
+  where
+    by : StandsEither c its.after main → d.pending ≡ None
+    by (inl before) = let P : Cat → Type 0 = λ x. x.pending ≡ None in subst P (sym (one_cat main c d before stands)) none
+    by (inr behind) =
+        let P : Cat → Type 0 = λ x. x.pending ≡ None in
+        subst P (sym (one_cat main its.after d behind stands)) (its.like.pending ∙ none)

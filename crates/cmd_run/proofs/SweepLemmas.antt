@@ -1,6 +1,6 @@
 -- Rows of orphans, of which nothing is seen.
 use Rattle.std.proofs.Common.{◌≡◌, ◌≢◌, inl, inr, ℕ, zero, suc, ◌<◌, ◌≤◌, List, [], ◌∷◌, Ok, Err, IsTrue, refl, sym, ap, ◌∙◌, subst, arith}
-use Rattle.std.specs.Prelude.{◌==◌, not, filter, map, All, Result, ⊤}
+use Rattle.std.specs.Prelude.{◌==◌, not, filter, map, All, Result, OnOk, ⊤}
 use Rattle.std.specs.List.{AllByRecursion, Contains}
 use Rattle.std.specs.List.Sorted.{IsStrictlySortedBy}
 use Rattle.std.specs.Ordering.{nat_cmp}
@@ -21,8 +21,11 @@ use Rattle.tables_laws.proofs.Sound.{fits_so, ok-same, after_first}
 use Rattle.file_laws.specs.Removals.{AreOrphans, HaveOwnNames, no_orphans}
 use Rattle.file_laws.proofs.Members.{in_of, contains_of}
 use Rattle.plan_base.proofs.AtPaths.{sound_of}
+use Rattle.grid_headline.specs.Numbers.{leaf_count}
+use Rattle.count_laws.specs.GivenNumbers.{GivesNone}
+use Rattle.count_laws.proofs.GivenNumbers.{none_self, none_then}
 use Rattle.run_laws.specs.Steps.{IsLike}
-use Rattle.run_laws.proofs.Images.{keeps-then}
+use Rattle.run_laws.proofs.Images.{keeps-then, like_self}
 use Rattle.grid_outside.specs.Device.{IsSettled}
 use Rattle.grid_outside.specs.Disk.{DiskState}
 use Rattle.grid_outside.specs.Files.{StoreState}
@@ -36,9 +39,8 @@ use Rattle.cmd_run.specs.declared.server.Server.{Server}
 use Rattle.cmd_run.specs.declared.server.Ending.{Ending}
 use Rattle.cmd_run.specs.Errors.{ending_of}
 use Rattle.cmd_run.specs.Keeps.{KeepEnds}
-use Rattle.cmd_run.specs.Sweeping.{ForgetsOrphans, LeavesLike, StaysLike, orphan_files}
+use Rattle.cmd_run.specs.Sweeping.{ForgetEnds, ForgetsOrphans, SweepsMain, orphan_files}
 use Rattle.cmd_run.proofs.KeepLemmas.{ends_err}
-use Rattle.cmd_run.proofs.Resting.{like_self}
 
 -- ---- rows that go
 
@@ -109,26 +111,51 @@ some_stay (f ∷ gone) c d e slot name r its was =
     let one = one_stays c step.0 f.name step.1 slot name r its was in
     some_stay gone step.0 d step.2 slot name r one.0 one.1
 
--- nothing is seen of it, and files of replicas are named as before
-pub stays_like : (gone : List NewFile) (c d : Cat) → apply_all c (no_orphans gone) ≡ Ok d → StaysLike c d
-stays_like gone c d e = record { like = gone_like gone c d e; keeps = λ slot name r its was. some_stay gone c d e slot name r its was }
+-- no number is given
+one_none : (c d : Cat) (vault : ℕ) → apply c (delta.NoOrphan vault) ≡ Ok d → GivesNone c d
+one_none c d vault e =
+    let is = (fits_so (has_orphan c vault) 18 (record c { orphans = filter (λ o. not (o.vault == vault)) c.orphans }) d e).1 in
+    record {
+      keeps = (gone_one c d vault e).keeps;
+      numbers = ap (λ (x : Cat). x.numbers.next_vault) (sym is);
+      leaves = ap leaf_count (sym is);
+    }
 
-pub stays_self : (c : Cat) → StaysLike c c
-stays_self c = record { like = like_self c; keeps = λ slot name r its was. was }
+gone_none : (gone : List NewFile) (c d : Cat) → apply_all c (no_orphans gone) ≡ Ok d → GivesNone c d
+gone_none [] c d e = let P : Cat → Type 0 = λ x. GivesNone c x in subst P (ok-same c d (apply_all c []) refl e) (none_self c)
+gone_none (f ∷ gone) c d e =
+    let step = after_first (apply c (delta.NoOrphan f.name)) (no_orphans gone) d e in
+    none_then c step.0 d (one_none c step.0 f.name step.1) (gone_none gone step.0 d step.2)
 
 -- main was not called
-pub still_like : (c : Cat) (from : ℕ) (main : DiskState) (s : Journal) → IsHeld c main s → main.last ≤ from → LeavesLike c from main main
-still_like c from main s held last told settled t image late left =
-    let S : Text → Type 0 = λ m. StandsFor m c in
-    (c, subst S (sym (settled t image (omega (arith, last, late)) left)) (held_stands c main s held told), stays_self c)
+pub still_main : (c now : Cat) (from : ℕ) (main : DiskState) (s : Journal) (e : Ending) → IsHeld c main s → main.last ≤ from
+    → SweepsMain c from main main (Err e) now
+still_main c now from main s e held last = record {
+  after = c;
+  like = like_self c;
+  gives = none_self c;
+  keeps = λ slot name r its was. was;
+  is_now = tt;
+  leaves = λ told settled t image late left.
+      let S : Text → Type 0 = λ m. StandsFor m c in
+      inl (subst S (sym (settled t image (omega (arith, last, late)) left)) (held_stands c main s held told));
+}
 
 -- they were forgotten, or how far that came
-pub forgets_like : (c : Cat) (from : ℕ) (old new : DiskState) (result : Result ⊤ Ending) (server : Server) → ForgetsOrphans c from old new result server
-    → LeavesLike c from old new
-forgets_like c from old new result server forgets told settled t main late left = elim (forgets.leaves told settled t main late left) [
-  | inl before ↦ (c, before, stays_self c)
-  | inr behind ↦ (forgets.after, behind, stays_like forgets.gone c forgets.after forgets.applied)
-]
+pub forgets_main : (c : Cat) (from : ℕ) (old new : DiskState) (result : Result ⊤ Ending) (server : Server) → ForgetsOrphans c from old new result server
+    → SweepsMain c from old new result server.store.cat
+forgets_main c from old new result server forgets = record {
+  after = forgets.after;
+  like = gone_like forgets.gone c forgets.after forgets.applied;
+  gives = gone_none forgets.gone c forgets.after forgets.applied;
+  keeps = λ slot name r its was. some_stay forgets.gone c forgets.after forgets.applied slot name r its was;
+  is_now = now_so result forgets.ends;
+  leaves = forgets.leaves;
+}
+  where
+    now_so : (r : Result ⊤ Ending) → ForgetEnds forgets.after old new r server → OnOk r (forgets.after ≡ server.store.cat)
+    now_so (Ok done) ends = sym ends.1
+    now_so (Err e) ends = tt
 
 -- ---- how their removal ended
 

@@ -1,5 +1,5 @@
 -- The removal of orphans' files, and of their rows.
-use Rattle.std.specs.Prelude.{◌≡◌, ℕ, List, [], Result, Ok, Err, IsTrue, map, ⊤}
+use Rattle.std.specs.Prelude.{◌≡◌, ℕ, List, [], Result, Ok, Err, OnOk, IsTrue, map, ⊤}
 use Rattle.grid_outside.specs.Device.{IsSettled, Leaves}
 use Rattle.grid_outside.specs.Disk.{DiskState}
 use Rattle.grid_model.specs.Rows.{Cat}
@@ -10,11 +10,12 @@ use Rattle.grid_model.specs.Working.{Done}
 use Rattle.grid_model.specs.declared.deltas.OrphanRow.{OrphanRow}
 use Rattle.grid_model.specs.declared.marks.Mark.{Mark}
 use Rattle.grid_model.specs.declared.plans.NewFile.{NewFile}
-use Rattle.grid_journal.specs.Stands.{StandsEither, StandsFor}
+use Rattle.grid_journal.specs.Stands.{StandsEither}
 use Rattle.file_laws.specs.Removals.{no_orphans}
 use Rattle.grid_deed.specs.Held.{IsHeld}
 use Rattle.grid_headline.specs.Files.{KeepsReplicas}
 use Rattle.grid_headline.specs.Worlds.{World}
+use Rattle.count_laws.specs.GivenNumbers.{GivesNone}
 use Rattle.run_laws.specs.Silent.{LeavesFew}
 use Rattle.run_laws.specs.Steps.{IsLike}
 use Rattle.cmd_run.specs.declared.server.Server.{Server}
@@ -41,14 +42,15 @@ pub record ForgetsOrphans (kept : Cat) (from : ℕ) (main_old main_new : DiskSta
   pub ends : ForgetEnds after main_old main_new result new
   pub leaves : IsTrue main_old.tells → IsSettled main_old → Leaves from (StandsEither kept after) main_new
 
--- Nothing of the catalogue is seen to be other than before, and each file of a replica that was named is named.
-pub record StaysLike (before c : Cat) : Type 0 where
-  pub like : IsLike before c
-  pub keeps : KeepsReplicas before c
-
--- at each moment after so many main has such a catalogue
-abbrev pub LeavesLike : Cat → ℕ → DiskState → DiskState → Type 0
-LeavesLike before from old new = IsTrue old.tells → IsSettled old → Leaves from (λ main. (c : Cat) × StandsFor main c × StaysLike before c) new
+-- A sweep: main has the catalogue before it, or that behind it, which memory has where it was done. Nothing of this is seen to be other, no number
+-- was given, and each file of a replica that was named is named.
+pub record SweepsMain (before : Cat) (from : ℕ) (old new : DiskState) (result : Result ⊤ Ending) (now : Cat) : Type 0 where
+  pub after : Cat
+  pub like : IsLike before after
+  pub gives : GivesNone before after
+  pub keeps : KeepsReplicas before after
+  pub is_now : OnOk result (after ≡ now)
+  pub leaves : IsTrue old.tells → IsSettled old → Leaves from (StandsEither before after) new
 
 -- Main and memory have a catalogue of which nothing is seen to be other than before, and the server stands for the same state.
 pub record StandsAsBefore (main_old main_new : DiskState) (before after : Server) : Type 0 where

@@ -10,7 +10,7 @@ ghost use Rattle.grid_headline.specs.Ends.{HasFewOrphans};
 ghost use Rattle.run_laws.specs.Steps.{RemovesNoFile};
 ghost use Rattle.run_laws.specs.Around.{around};
 ghost use Rattle.run_laws.specs.Passes.{AreReady, CallsPass};
-ghost use Rattle.cmd_run.specs.Sweeping.{ForgetsOrphans, LeavesLike, StandsAsBefore, SweepLeavesFew, orphan_files};
+ghost use Rattle.cmd_run.specs.Sweeping.{ForgetsOrphans, StandsAsBefore, SweepLeavesFew, SweepsMain, orphan_files};
 
 use crate::answers::{end_text, put_text, well};
 use crate::keeping::ending_of;
@@ -128,7 +128,7 @@ impl Server {
         ensures still { self.old.store.cat.orphans ≡ [] → OnOk result (outside.new.main ≡ outside.old.main) }
         ensures sessions { self.new.sessions ≡ self.old.sessions }
         ensures rules { self.new.rules ≡ self.old.rules }
-        ensures leaves { LeavesLike self.old.store.cat outside.old.moments (D.disk outside.old.main) (D.disk outside.new.main) }
+        ensures leaves { SweepsMain self.old.store.cat outside.old.moments (D.disk outside.old.main) (D.disk outside.new.main) result self.new.store.cat }
         ensures whole { KeepWhole P.plugin outside.old.moments self.old.store.cat
             (D.disk outside.old.main) (D.disk outside.new.main) outside.old.stores.items outside.new.stores.items }
         ensures frame { Frame D.disk P.plugin (IsErrOf result Ending.Disk) outside.old outside.new }

@@ -3,4 +3,4 @@
 
 mod laws;
 
-pub use laws::{few_by_numbers, leaves_stay, rows_are_few};
+pub use laws::{few_by_numbers, leaves_are_few, leaves_stay, rows_are_few};

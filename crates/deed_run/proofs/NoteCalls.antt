@@ -23,6 +23,7 @@ use Rattle.grid_journal.specs.Stands.{StandsEither}
 use Rattle.grid_deed.specs.Safe.{AreWhole, KeepBothWhole}
 use Rattle.grid_deed.proofs.Wholes.{whole_as, whole_of, whole_turned_none}
 use Rattle.grid_headline.specs.Worlds.{World}
+use Rattle.count_laws.proofs.GivenNumbers.{gives_alike}
 use Rattle.run_laws.specs.Around.{around}
 use Rattle.run_laws.specs.Steps.{Gave}
 use Rattle.run_laws.proofs.Draws.{gave-none}
@@ -35,6 +36,7 @@ use Rattle.service_run.specs.declared.command.Command.{Command}
 use Rattle.service_run.specs.declared.ending.Ending.{Ending}
 use Rattle.service_run.specs.declared.ending.Ending.TheVariants as ending
 use Rattle.service_run.proofs.SameRows.{grid_pending, names_pending, turns_pending}
+use Rattle.service_run.proofs.StillSteps.{beside_more}
 use Rattle.deed_run.specs.Notes.{IsNextNoted}
 
 module _ {D A P K : Type 0} (disk : D → DiskState) (ambient : A → AmbientState) (plugin : P → StoreState) (sink : K → SinkState) (source : SourceState) (o n : Outside D A P) (k l : K) (kept : Cat) (rows : Journal) (x : Command) (call : Call)
@@ -51,7 +53,7 @@ module _ {D A P K : Type 0} (disk : D → DiskState) (ambient : A → AmbientSta
   abbrev new : World P
   new = around disk ambient plugin n (sink l) source
 
-  beside_noted : KeepsBeside rows.cat after_cat
+  beside_noted : KeepsBeside rows.cat after_cat 0
   beside_noted =
       let users = users_same rows.cat after_cat refl in
       record {
@@ -60,13 +62,14 @@ module _ {D A P K : Type 0} (disk : D → DiskState) (ambient : A → AmbientSta
         rules = refl;
         stores = refl;
         keeps = record { rises = omega arith; names = λ slot name row before named. (row, names_pending rows.cat p slot name row named) };
+        few = gives_alike rows.cat after_cat refl refl;
         named = (turns_pending rows.cat p user).named;
         users = users.there;
         names = users.names;
       }
 
   its_note : IsNoted rows.cat x call [] after_cat
-  its_note = record { grid = grid_pending rows.cat p; beside = beside_noted; pending = refl }
+  its_note = record { grid = grid_pending rows.cat p; beside = beside_more rows.cat after_cat 0 1 (omega arith) beside_noted; pending = refl }
 
   -- a stop in it leaves it waiting
   one_of : (shown main sent : Text) → OneOfNote kept after_cat x.untold shown main sent → OneOfStep does kept rows.cat x call [] shown main sent
@@ -125,7 +128,7 @@ module _ {D A P K : Type 0} (disk : D → DiskState) (ambient : A → AmbientSta
       by_result (Err e) so told = record { ends = worn_of y after e so.ends; step = step_short so.leaves whole_before }
       by_result (Ok done) so told =
           let main = so.ends.main in
-          let Q : Cat → Type 0 = λ c. KeepsBeside rows.cat c in
+          let Q : Cat → Type 0 = λ c. KeepsBeside rows.cat c 0 in
           record {
             ends = record {
               noted = record {

@@ -1,6 +1,6 @@
 -- How a put ends that is a call of a command, by how its plan was carried out.
 use Rattle.std.proofs.Common.{◌≡◌, ℕ, ◌<◌, ◌≤◌, Bool, true, [], ◌∷◌, List, Option, None, Some, Ok, Err, IsTrue, refl, sym, ap, ◌∙◌, subst, arith}
-use Rattle.std.specs.Prelude.{All, Result, ⊤, length}
+use Rattle.std.specs.Prelude.{All, IfOk, Result, ⊤, length}
 use Rattle.grid_outside.specs.Ambient.{AmbientState, GivesTime, GivesWord}
 use Rattle.grid_outside.specs.Device.{EachPair}
 use Rattle.grid_outside.specs.Disk.{DiskState}
@@ -38,7 +38,10 @@ use Rattle.grid_deed.specs.Frame.{StoresGo}
 use Rattle.grid_deed.specs.Safe.{KeepBothWhole}
 use Rattle.grid_deed.proofs.Wholes.{whole_turned_none}
 use Rattle.grid_headline.specs.Causes.{AreCaused}
+use Rattle.grid_headline.specs.Numbers.{leaf_count}
 use Rattle.grid_headline.specs.Worlds.{World}
+use Rattle.count_laws.specs.GivenNumbers.{GivesFew}
+use Rattle.count_laws.proofs.GivenNumbers.{gives_drawn, gives_planned}
 use Rattle.chain_run.specs.Places.{course_at}
 use Rattle.plan_object.specs.Writing.{GoesTo, Wanted, WritesFiles}
 use Rattle.run_laws.specs.Around.{around}
@@ -79,6 +82,11 @@ ran_fits_none (copying slot slots) = refl
 ran_fits_none (reading [] slots) = refl
 ran_fits_none (reading (e ∷ es) slots) = refl
 
+-- what holds anyway holds where there is an answer
+pub where_ok : {T E P : Type 0} (r : Result T E) → P → IfOk r (λ x. P)
+where_ok (Ok x) p = p
+where_ok (Err e) p = tt
+
 -- a put that goes to some leaves is a deed
 pub goes_deed : (c : Cat) (user : Text) (w : Wanted) (word : ℕ) (leaves : List ℕ) → GoesTo c user w word leaves → (body : Text) → length body ≡ w.size → (d : Deed) × (put_row (grid_of c) user w.path w.resource w.mode body ≡ Ok (deed d))
 goes_deed c user w word leaves goes body size = (_, goes.row_is body size)
@@ -98,7 +106,8 @@ module _ (c : Cat) (user : Text) (op : Operation) where
 
 module _ {D A P K : Type 0} (disk : D → DiskState) (ambient : A → AmbientState) (plugin : P → StoreState) (sink : K → SinkState) (source : SourceState) (o n : Outside D A P) (a : A) (k l : K) (kept : Cat) (rows : Journal) (x : Command) (call : Call) (undo : List Call)
     (user : IsTrue (is_user rows.cat x.user)) (s1 : Journal) (announced : s1.cat ≡ with_pending rows.cat (noted_in x call undo)) (row : Or Act) (count : ℕ) (count_is : s1.cat.stores ≡ count) (slots : rows.cat.stores ≡ length o.stores.items)
-    (word now : ℕ) (body : Text) (plan : Plan) (w : WritesFiles s1.cat row word now body plan) where
+    (word now : ℕ) (body : Text) (plan : Plan) (w : WritesFiles s1.cat row word now body plan)
+    (few : length plan.files ≤ leaf_count s1.cat) where
   abbrev pub its_plan : IsPlan s1.cat s1.cat count plan body
   its_plan = plan_as s1.cat plan s1.cat.stores count body count_is w.makes.is_plan
 
@@ -120,8 +129,15 @@ module _ {D A P K : Type 0} (disk : D → DiskState) (ambient : A → AmbientSta
   users_end : KeepsUsers s1.cat end
   users_end = users_then s1.cat mid end users_mid (users_apply_all plan.after mid end w.makes.is_plan.then)
 
-  beside_mid : KeepsBeside rows.cat mid
-  beside_mid = beside_since rows.cat x call undo s1.cat announced (length plan.files) mid w.makes.drawn_first users_mid user w.makes.is_plan.begins.named
+  few_mid : GivesFew s1.cat mid 1
+  few_mid = gives_drawn s1.cat mid (length plan.files) w.makes.drawn_first.numbers few plan.before w.makes.is_plan.first
+
+  few_end : GivesFew s1.cat end 1
+  few_end = gives_planned s1.cat end (length plan.files) w.makes.drawn.numbers few mid plan.before plan.after w.makes.is_plan.first w.makes.is_plan.then
+
+  beside_mid : KeepsBeside rows.cat mid 1
+  beside_mid =
+      beside_since rows.cat x call undo s1.cat announced (length plan.files) mid w.makes.drawn_first users_mid user w.makes.is_plan.begins.named few_mid
 
   pending_mid : mid.pending ≡ Some (noted_in x call undo)
   pending_mid = pending_since rows.cat x call undo s1.cat announced (length plan.files) mid w.makes.drawn_first users_mid
@@ -133,10 +149,11 @@ module _ {D A P K : Type 0} (disk : D → DiskState) (ambient : A → AmbientSta
   its_note = record { grid = grid_mid; beside = beside_mid; pending = pending_mid }
 
   -- where the files were written
-  beside_end : KeepsBeside rows.cat end
+  beside_end : KeepsBeside rows.cat end 1
   beside_end =
       let p = w.makes.is_plan in
-      beside_since rows.cat x call undo s1.cat announced (length plan.files) end w.makes.drawn users_end user (λ slot name is. p.ends.named slot name (p.begins.named slot name is))
+      beside_since rows.cat x call undo s1.cat announced (length plan.files) end w.makes.drawn users_end user
+      (λ slot name is. p.ends.named slot name (p.begins.named slot name is)) few_end
 
   numbers_end : end.numbers ≡ mid.numbers
   numbers_end = w.makes.drawn.numbers ∙ sym w.makes.drawn_first.numbers
@@ -190,13 +207,15 @@ module _ {D A P K : Type 0} (disk : D → DiskState) (ambient : A → AmbientSta
 
     module _ (s2 : Journal) (whole : KeepBothWhole plugin o.moments kept s1.cat (disk o.main) (disk n.main) o.stores.items n.stores.items) where
       -- the catalogue behind it leads on from the noted one
-      done_so : (answer : Option Fault) → IsWrittenNoted disk plugin sink its_plan x.untold first last kept (Ok answer) s2 → (m : Mark) (ran : Result ⊤ Failure) (fin : Cat) → s2.cat ≡ fin → KeepsBeside rows.cat fin → IsTrue (mark_fits m) → fin.pending ≡ Some (noted_in x call undo) → fin.numbers ≡ mid.numbers
+      done_so : (answer : Option Fault) → IsWrittenNoted disk plugin sink its_plan x.untold first last kept (Ok answer) s2
+          → (m : Mark) (ran : Result ⊤ Failure) (fin : Cat) → s2.cat ≡ fin → KeepsBeside rows.cat fin 1 → IsTrue (mark_fits m)
+          → fin.pending ≡ Some (noted_in x call undo) → fin.numbers ≡ mid.numbers
           → ((grid : Grid) → grid ≡ grid_of fin → (more : List Mark) (begun : ℕ) (stopped : Bool) → ComesTo its_does ran (course_at (place_by rows.cat x) (m ∷ more) begun stopped)
           (record (course_at (place_by fin (with_mark x m)) more begun stopped) { grid = grid }))
           → IsToldOf (IsKnownBy old rows.cat) (length o.stores.items) m → AreCaused old new (m ∷ []) → (IsTrue (ambient n.ambient).tells → Gave (m ∷ []) (ambient o.ambient) (ambient n.ambient))
           → IsStep old new kept rows x call undo (with_mark (record x { untold = [] }) m) s2 its_does (Ok ran)
       done_so answer it m ran fin fin_is beside spelled pending numbers did told_of caused gave =
-          let Q : Cat → Type 0 = λ e. KeepsBeside rows.cat e in
+          let Q : Cat → Type 0 = λ e. KeepsBeside rows.cat e 1 in
           let N : Cat → Type 0 = λ e. e.pending ≡ Some (noted_in x call undo) in
           let U : Cat → Type 0 = λ e. e.numbers ≡ mid.numbers in
           let beside_now = subst Q (sym fin_is) beside in

@@ -3,6 +3,7 @@ ghost use Rattle.grid_model.specs.Applying.{IsMade, is_user};
 ghost use Rattle.grid_model.specs.Deeds.{Deed, deed};
 ghost use Rattle.grid_model.specs.Operations.Objects.{put_row};
 ghost use Rattle.grid_model.specs.RowGrids.{grid_of, user_name};
+ghost use Rattle.grid_headline.specs.Numbers.{leaf_count};
 ghost use Rattle.plan_object.specs.ChksumPlans.{FindsChksum};
 ghost use Rattle.plan_object.specs.ReplPlans.{FindsRepl};
 ghost use Rattle.plan_object.specs.Writing.{FindsTargets, WritesFiles, Wanted};
@@ -93,6 +94,7 @@ pub(crate) fn put_plan(
     ensures plans { let row = put_row (grid_of store.now.cat) (user_name store.now.cat user) path.now resource.now mode body.now in
         IfOk result (WritesFiles store.now.cat row word now body.now) }
     ensures few { IfOk result (λ plan. length plan.files ≤ 2 ^ 16) }
+    ensures leaves { IfOk result (λ plan. length plan.files ≤ leaf_count store.now.cat) }
 {
     let leaves = match find_targets(alloc, store, user, path, resource, mode, body, word) {
         Ok(leaves) => leaves,

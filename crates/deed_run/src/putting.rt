@@ -1,4 +1,4 @@
-ghost use Rattle.std.specs.Prelude.{◌≡◌, ℕ, ◌+◌, ◌-◌, ◌<◌, ◌^◌, ◌≤◌, Err, IsErrOf, IsTrue, None, Ok, Some, vec_len};
+ghost use Rattle.std.specs.Prelude.{◌≡◌, ℕ, ◌+◌, ◌-◌, ◌<◌, ◌^◌, ◌≤◌, Err, IfOk, IsErrOf, IsTrue, None, Ok, Some, vec_len};
 ghost use Rattle.grid_outside.specs.Source.{SourceState};
 ghost use Rattle.grid_model.specs.Applying.{is_user};
 ghost use Rattle.grid_model.specs.Deeds.{Deed, deed};
@@ -68,6 +68,8 @@ pub fn put<D: Disk, K: Sink, A: Ambient, P: Plugin>(
         (store.new ≡ store.old) × (outside.new ≡ outside.old) × (sink.new ≡ sink.old) × (command.new ≡ command.old) }
     // Where the numbers of vault files have run out no device was asked for anything.
     ensures untouched { (place : ℕ) → IsErrOf result (Ending.Worn Wear.Vaults place) → (outside.new ≡ outside.old) × (sink.new ≡ sink.old) }
+    // It comes to an answer only where there is a number left for a file.
+    ensures number { IfOk result (λ ran. store.old.cat.numbers.next_vault ≤ last_vault) }
     ensures drawn { outside.new.moments ≤ outside.old.moments + 2 ^ 65 }
 {
     match spent_vaults(store) {

@@ -1,4 +1,4 @@
-ghost use Rattle.std.specs.Prelude.{◌≡◌, ℕ, ◌+◌, ◌^◌, ◌≤◌, Err, IsErrOf, IsTrue, vec_len};
+ghost use Rattle.std.specs.Prelude.{◌≡◌, ℕ, ◌+◌, ◌^◌, ◌≤◌, Err, IfOk, IsErrOf, IsTrue, vec_len};
 ghost use Rattle.grid_outside.specs.Source.{SourceState};
 ghost use Rattle.grid_model.specs.Applying.{is_user};
 ghost use Rattle.grid_model.specs.Operations.Table.{repl as repl_of, row};
@@ -8,6 +8,7 @@ ghost use Rattle.grid_model.specs.Working.{running};
 ghost use Rattle.grid_model.specs.Writable.{is_word};
 ghost use Rattle.grid_model.specs.declared.refusal.Refusal.{Refusal as RefusalOf};
 ghost use Rattle.grid_deed.specs.Held.{IsHeld};
+ghost use Rattle.grid_headline.specs.Numbers.{last_vault};
 ghost use Rattle.run_laws.specs.Around.{around};
 ghost use Rattle.run_laws.specs.Passes.{AreReady, CallsPass};
 ghost use Rattle.service_run.specs.Steps.{IsStep};
@@ -51,6 +52,8 @@ pub fn repl<D: Disk, K: Sink, A: Ambient, P: Plugin>(
         (store.new ≡ store.old) × (outside.new ≡ outside.old) × (sink.new ≡ sink.old) × (command.new ≡ command.old) }
     // Where the numbers of vault files have run out no device was asked for anything.
     ensures untouched { (place : ℕ) → IsErrOf result (Ending.Worn Wear.Vaults place) → (outside.new ≡ outside.old) × (sink.new ≡ sink.old) }
+    // It comes to an answer only where there is a number left for a file.
+    ensures number { IfOk result (λ ran. store.old.cat.numbers.next_vault ≤ last_vault) }
     ensures drawn { outside.new.moments ≤ outside.old.moments + 2 ^ 65 }
 {
     match spent_vaults(store) {

@@ -15,11 +15,11 @@ use Rattle.grid_headline.specs.Reads.{HasRules}
 use Rattle.grid_headline.specs.Served.{NoneSweeps, Run, all as all_sure}
 use Rattle.grid_headline.specs.Stops.{OneImage}
 use Rattle.grid_headline.specs.Files.{IsKnown, AreSettled, DisksAreSettled, KeepsReplicas, WereWhole, AllStayWhole, AllAreWhole, ReplicasStayNamed}
-use Rattle.grid_headline.specs.Silence.{IsBetween, IsOfDisks, NoneIsSilent, AddsBeforeRun}
+use Rattle.grid_headline.specs.Silence.{IsBetween, IsLeft, NoneIsSilent, AddsBeforeRun}
 use Rattle.grid_headline.specs.Draws.{no_words, none_left}
 use Rattle.grid_headline.specs.Draws as draws
 use Rattle.grid_headline.specs.Ends.{HasRecovery, no_memory}
-use Rattle.grid_headline.specs.Headline.{BeginsOn, Shows, Serves, ServesTidily}
+use Rattle.grid_headline.specs.Headline.{BeginsOn, Shows, Serves}
 use Rattle.grid_headline.proofs.PutStops.{the_catalogue}
 
 module _ {B : Type 0} (old : World B) (c : Cat) (rules : List Rule) where
@@ -70,8 +70,8 @@ module _ {B : Type 0} (old : World B) (c : Cat) (rules : List Rule) where
     }
 
     -- and so no image is of a run that was begun
-    is_found : AreSettled old → (d : Cat) → IsOfDisks (nothing has) old old d → d ≡ found
-    is_found settled d of = the_catalogue of.main of.spare found d (stays of.moment of.main of.spare settled.disks of.in_run of.leaves) of.stands
+    is_found : AreSettled old → (d : Cat) → IsLeft (nothing has) old old d → d ≡ found
+    is_found settled d of = the_catalogue of.i.main of.i.spare found d (stays of.moment of.i.main of.i.spare settled.disks of.in_run of.leaves.disks) of.stands
 
     never : AreSettled old → (n : ℕ) (i : DevicesImage) (d : Cat) → IsBetween (nothing has) old old n i d → ⊥
     never settled n i d b =
@@ -129,14 +129,9 @@ module _ {B : Type 0} (old : World B) (c : Cat) (rules : List Rule) where
       images = λ tells settled t i later left. one_image settled t i later left;
       whole = stay_whole;
       named = stay_named;
+      silent = λ tells settled. none_silent settled;
+      numbers = λ tells settled n i j d e m x session order b k is did means makes some was. absurd (never settled n i d b);
       orphans = λ e. absurd (cc e);
       caused = record { counted = λ slot less. omega arith; there = λ slot less. absurd (omega (arith, less)) };
       completes = λ tells failed all settled whole fits. record { good_end = tt; clean = tt; by_rows = tt };
-    }
-
-    pub idle_tidily : ServesTidily old old found no_memory idle
-    unfolding idle
-    idle_tidily = record {
-      silent = λ tells settled. none_silent settled;
-      numbers = λ tells settled n i j d e m x session order b k is did means makes was. absurd (never settled n i d b);
     }

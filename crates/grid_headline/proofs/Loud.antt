@@ -11,7 +11,7 @@ use Rattle.grid_journal.specs.Stands.{Stands}
 use Rattle.grid_headline.specs.Worlds.{World, DevicesImage, LeavesImage}
 use Rattle.grid_headline.specs.Numbers.{AddsFew}
 use Rattle.grid_headline.specs.Served.{reached}
-use Rattle.grid_headline.specs.Silence.{IsBetween, IsOfDisks, NoneIsSilent}
+use Rattle.grid_headline.specs.Silence.{IsBetween, IsLeft, NoneIsSilent}
 use Rattle.grid_headline.proofs.Scene.{found}
 use Rattle.grid_headline.proofs.PutStops.{run, before, within, behind, pending}
 
@@ -93,7 +93,7 @@ module _ (known : ℕ → Type 0) where
           numbers = omega arith;
         })
 
-    module _ (disks : (d : Cat) → IsOfDisks (run known) old new d → (d ≡ before known) ⊎ (d ≡ within known) ⊎ (d ≡ behind known)) where
+    module _ (disks : (d : Cat) → IsLeft (run known) old new d → (d ≡ before known) ⊎ (d ≡ within known) ⊎ (d ≡ behind known)) where
       of_run_1 : (d : Cat) → (d ≡ before known) ⊎ (d ≡ within known) ⊎ (d ≡ behind known) → d.numbers.run ≡ 1
       of_run_1 d (inl e) = ap (λ (x : Cat). x.numbers.run) e
       of_run_1 d (inr (inl e)) = ap (λ (x : Cat). x.numbers.run) e

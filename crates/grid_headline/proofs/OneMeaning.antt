@@ -1,4 +1,4 @@
--- A request that asks for a sweep asks for one whatever the state is, and so does one that ends the input.
+-- A request that asks for a sweep asks for one whatever the state is, and so does one that ends the input or makes files.
 use Rattle.std.proofs.Common.{◌≡◌, ℕ, ◌≤◌, true, List, Ok, Err, length, arith, refl, sym, ap, ◌∙◌, subst}
 use Rattle.std.specs.Prelude.{Result}
 use Rattle.std.proofs.lemmas.Bool.{both_ways}
@@ -6,7 +6,8 @@ use Rattle.grid_model.specs.Names.{Text}
 use Rattle.grid_model.specs.Limits.{longest_line}
 use Rattle.grid_model.specs.Words.{SpellsLine}
 use Rattle.grid_model.specs.Inputs.{Asked}
-use Rattle.grid_model.specs.Orders.{Order, quits, sweeps}
+use Rattle.grid_model.specs.Orders.{Order, closes, quits, sweeps, works}
+use Rattle.grid_model.specs.Operations.Table.{Operation, put, repl}
 use Rattle.grid_model.specs.Runs as runs
 use Rattle.grid_model.specs.Sessions.{State}
 use Rattle.grid_model.specs.declared.requests.Request.{Request}
@@ -17,17 +18,26 @@ use Rattle.cmd_read.specs.Reading.{Reads}
 use Rattle.cmd_read.specs.declared.error.ReadError.{ReadError}
 use Rattle.cmd_read.proofs.Once.{Reads-once}
 use Rattle.req_words.proofs.OneReading.{SpellsLine-unique}
+use Rattle.grid_headline.specs.Ends.{MakesFiles}
 use Rattle.grid_headline.specs.Reads.{texts, is_built, MeansRequest, EndsInput}
 
 -- what an order is for
 pub data Aim : Type 0 where
   to_sweep : Aim
   to_quit : Aim
+  to_make_files : Aim
   to_do_more : Aim
+
+abbrev pub operation_aim : Operation → Aim
+operation_aim (put p r mode body) = to_make_files
+operation_aim (repl p r) = to_make_files
+operation_aim other = to_do_more
 
 abbrev pub aim : Order → Aim
 aim sweeps = to_sweep
 aim quits = to_quit
+aim (works operation count) = operation_aim operation
+aim closes = to_make_files
 aim other = to_do_more
 
 -- a request that is refused by its line does no more than others do
@@ -40,6 +50,9 @@ request_aim (Err r) = to_do_more
 abbrev verb_aim : Verb → Aim
 verb_aim verb.Sweep = to_sweep
 verb_aim verb.Quit = to_quit
+verb_aim (verb.Put path resource mode count) = to_make_files
+verb_aim (verb.Repl path resource) = to_make_files
+verb_aim verb.Close = to_make_files
 verb_aim other = to_do_more
 
 aim_is : (at : State) (v : Verb) (body : Text) (order : Order) → MeansOrder texts at v body order → aim order ≡ verb_aim v
@@ -89,15 +102,27 @@ same_aim : (at be : State) (a : Asked) (session : ℕ) (order : Order) (r : runs
 same_aim at be a session order r (asks_for {words = words} request le spells reads same all is means) other =
     line_aim a.line a.body words request le spells reads all is be r other ∙ sym (aim_is at request.verb a.body order means)
 
--- ---- so it is a sweep, or ends the input
+-- ---- so it is a sweep, ends the input, or makes files
+
+never_sweeps : (o : Operation) → ¬ (operation_aim o ≡ to_sweep)
+never_sweeps (put p r mode body) e = absurd (cc e)
+never_sweeps (repl p r) e = absurd (cc e)
+never_sweeps other e = absurd (cc e)
+
+never_quits : (o : Operation) → ¬ (operation_aim o ≡ to_quit)
+never_quits (put p r mode body) e = absurd (cc e)
+never_quits (repl p r) e = absurd (cc e)
+never_quits other e = absurd (cc e)
 
 sweep_is : (r : runs.Request) → request_aim r ≡ to_sweep → (session : ℕ) × (r ≡ Ok (session, sweeps))
 sweep_is (Ok (session, sweeps)) e = (session, refl)
+sweep_is (Ok (session, works operation count)) e = absurd (never_sweeps operation e)
 sweep_is (Ok (session, other)) e = absurd (cc e)
 sweep_is (Err r) e = absurd (cc e)
 
 quit_is : (r : runs.Request) → request_aim r ≡ to_quit → (session : ℕ) × (r ≡ Ok (session, quits))
 quit_is (Ok (session, quits)) e = (session, refl)
+quit_is (Ok (session, works operation count)) e = absurd (never_quits operation e)
 quit_is (Ok (session, other)) e = absurd (cc e)
 quit_is (Err r) e = absurd (cc e)
 
@@ -107,3 +132,20 @@ sweeps-alone at be a session r means other = sweep_is r (same_aim at be a sessio
 
 pub quits-alone : (be : State) (a : Asked) (r : runs.Request) → EndsInput a → MeansRequest be a r → (n : ℕ) × (r ≡ Ok (n, quits))
 quits-alone be a r ends other = quit_is r (same_aim ends.at be a ends.session quits r ends.quits other)
+
+makes_aim : (order : Order) → MakesFiles order → aim order ≡ to_make_files
+makes_aim (works (put p r mode body) count) makes = refl
+makes_aim (works (repl p r) count) makes = refl
+makes_aim closes makes = refl
+makes_aim other makes = absurd makes
+
+make_is : (r : runs.Request) → request_aim r ≡ to_make_files → (session : ℕ) × (order : Order) × (r ≡ Ok (session, order)) × MakesFiles order
+make_is (Ok (session, works (put p q mode body) count)) e = (session, works (put p q mode body) count, refl, tt)
+make_is (Ok (session, works (repl p q) count)) e = (session, works (repl p q) count, refl, tt)
+make_is (Ok (session, closes)) e = (session, closes, refl, tt)
+make_is (Ok (session, other)) e = absurd (cc e)
+make_is (Err r) e = absurd (cc e)
+
+pub makes-alone : (at be : State) (a : Asked) (session : ℕ) (order : Order) (r : runs.Request) → MeansRequest at a (Ok (session, order)) → MakesFiles order
+    → MeansRequest be a r → (n : ℕ) × (o : Order) × (r ≡ Ok (n, o)) × MakesFiles o
+makes-alone at be a session order r means makes other = make_is r (same_aim at be a session order r means other ∙ makes_aim order makes)

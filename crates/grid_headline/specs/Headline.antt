@@ -61,6 +61,9 @@ pub record Serves {B : Type 0} (old new : World B) (found : Cat) (end : RunEnd) 
   -- no file of a replica is lost track of, on stores that tell nothing too, where no sweep is asked for and no recovery is to be done; what has
   -- no replica is removed when the run is begun
   pub named : NoneSweeps old.source.left → ¬ HasRecovery found.pending → IsSettled old.main → ReplicasStayNamed new old.moments found
+  -- no row is committed in silence, and no number is given past the last one
+  pub silent : IsTrue old.sink.tells → AreSettled old → NoneIsSilent run old new
+  pub numbers : IsTrue old.sink.tells → AreSettled old → HadNumbers run old new
   -- few files without a replica are left
   pub orphans : end ≡ read_all → LeavesFewOrphans run old new
   -- no mark tells that a known file is not what is recorded
@@ -69,8 +72,3 @@ pub record Serves {B : Type 0} (old new : World B) (found : Cat) (end : RunEnd) 
   pub caused : AreCaused old new (run.report ++ marks_of run.begun)
   pub completes : (tells : IsTrue old.sink.tells) → NoneFailed old new → AllTell old → DisksAreSettled old → WereWhole old old.moments found
       → length old.source.left ≤ 2 ^ 48 → Completes old new run (shown tells) end
-
--- What more is to be said of it: no row is committed in silence, and no number is given past the last one.
-pub record ServesTidily {B : Type 0} (old new : World B) (found : Cat) (end : RunEnd) (serves : Serves old new found end) : Type 0 where
-  pub silent : IsTrue old.sink.tells → AreSettled old → NoneIsSilent serves.run old new
-  pub numbers : IsTrue old.sink.tells → AreSettled old → HadNumbers serves.run old new

@@ -1,5 +1,5 @@
 -- A request that is handled behind those that were answered.
-use Rattle.std.proofs.Common.{◌≡◌, ◌⊎◌, inl, inr, ℕ, ◌+◌, List, [], ◌∷◌, ◌++◌, length, subst, IsTrue}
+use Rattle.std.proofs.Common.{◌≡◌, ◌⊎◌, inl, inr, ℕ, ◌+◌, List, [], ◌∷◌, ◌++◌, length, ap, subst, IsTrue}
 use Rattle.std.specs.Prelude.{Result, Ok, ⊤}
 use Rattle.std.specs.List.{AllByRecursion}
 use Rattle.grid_outside.specs.Source.{SourceState}
@@ -13,7 +13,7 @@ use Rattle.grid_headline.specs.Reads.{MeansRequest, EndsInput}
 use Rattle.grid_headline.specs.Worlds.{World}
 use Rattle.run_laws.specs.Sofar.{CallsGoOn, KeepsWhole, Sofar}
 use Rattle.grid_model.specs.Working.{Done}
-use Rattle.run_laws.specs.Steps.{ComesAfter, NotesLine, RequestStep, kept, unseen}
+use Rattle.run_laws.specs.Steps.{ComesAfter, NotesLine, RequestStep, kept, swept, unseen}
 use Rattle.run_laws.proofs.RunLaws.{one_more}
 use Rattle.cmd_run.specs.Asking.{IsLineOf}
 use Rattle.cmd_run.specs.Fits.{FitsMain, state_of}
@@ -88,7 +88,8 @@ pub fits_more : {B : Type 0} (old new : World B) (before : Server) (n : ℕ) (re
     → FitsMain new.main after × (after.store.cat.stores ≡ before.store.cat.stores)
 fits_more old new before n request done after (handled step ends) = (ends.1, stores_of ends.0.follows)
   where
-    stores_of : {d : Done} → ComesAfter before.store.cat n d after.store.cat → after.store.cat.stores ≡ before.store.cat.stores
-    stores_of (kept its) = its.stores
-    stores_of (unseen like marks grid rules) = like.stores
+    stores_of : {d : Done} → ComesAfter before.store.cat n request d after.store.cat → after.store.cat.stores ≡ before.store.cat.stores
+    stores_of (kept its had) = its.stores
+    stores_of (unseen same marks grid rules) = ap (λ (c : Cat). c.stores) same
+    stores_of (swept sweep like gives marks grid rules) = like.stores
 fits_more old new before n request done after (quiet ending e q) = absurd (cc e)

@@ -1,5 +1,5 @@
 -- The rules with which a server begins.
-use Rattle.std.proofs.Common.{◌≡◌, ℕ, List, [], ◌∷◌, Option, Some, None, Result, Ok, Err, IsTrue, refl, sym, ap, ◌∙◌, subst}
+use Rattle.std.proofs.Common.{◌≡◌, ℕ, List, [], ◌∷◌, Option, Some, None, Result, Ok, Err, refl, sym, ap, ◌∙◌, subst}
 use Rattle.std.specs.Prelude.{IfOk, IfSome, map}
 use Rattle.grid_model.specs.Checks.{first_fault, rules_faults}
 use Rattle.grid_model.specs.Names.{Text}

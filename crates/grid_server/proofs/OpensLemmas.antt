@@ -111,6 +111,9 @@ module _ {B : Type 0} (start : World B) (main spare : DiskState) (looked : Rests
         };
         caused = record { counted = o.caused.counted; there = o.caused.there };
         gave = o.gave;
+        begins = o.begins;
+        keeps = o.keeps;
+        few = o.few;
         shown = o.shown;
         whole = λ settled whole. o.whole (settled-so settled) (whole-so whole);
         named = λ free settled. o.named free (rests-settled main start.main main_tells looked settled);
@@ -123,6 +126,7 @@ module _ {B : Type 0} (start : World B) (main spare : DiskState) (looked : Rests
         opens = opens-before o.opens;
         all = o.all;
         text = o.text;
+        begins_is = o.begins_is;
         begun = o.begun;
         stands = o.stands;
         settled = λ settled. o.settled (rests-settled main start.main main_tells looked settled);

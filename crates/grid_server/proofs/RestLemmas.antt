@@ -1,5 +1,5 @@
 -- Devices that rest.
-use Rattle.std.proofs.Common.{◌≡◌, ℕ, ◌≤◌, refl, sym, subst, arith}
+use Rattle.std.proofs.Common.{◌≡◌, ◌≤◌, refl, sym, subst, arith}
 use Rattle.grid_outside.specs.Device.{DeviceState, Looks}
 use Rattle.run_laws.specs.Went.{Rests}
 

@@ -1,6 +1,6 @@
 -- The sweep behind the opening of a run, and how the run goes on from it.
 use Rattle.std.proofs.Common.{◌≡◌, ℕ, ◌+◌, ◌^◌, ◌<◌, List, [], ◌∷◌, suc, refl, sym, ap, ◌∙◌, subst, arith, IsTrue}
-use Rattle.std.specs.Prelude.{Option, Some, None, vec_len}
+use Rattle.std.specs.Prelude.{Option, Some, None, Result, ⊤, vec_len, Err}
 use Rattle.grid_outside.specs.Disk.{DiskState}
 use Rattle.grid_outside.specs.Fault.{Rose}
 use Rattle.grid_outside.specs.declared.outside.Outside.{Outside}
@@ -29,7 +29,7 @@ use Rattle.run_laws.specs.Went.{AreInOrder}
 use Rattle.run_laws.proofs.RunLaws.{none_yet, ends_swept}
 use Rattle.chain_core.specs.Seen.{rules_of}
 use Rattle.cmd_run.specs.Fits.{state_by, state_of}
-use Rattle.cmd_run.specs.Sweeping.{LeavesLike, StandsAsBefore, orphan_files}
+use Rattle.cmd_run.specs.Sweeping.{StandsAsBefore, SweepsMain, orphan_files}
 use Rattle.cmd_run.proofs.SilentSweeps.{is_swept, sweeps}
 use Rattle.grid_vault.specs.Removal.{FewerThanFaults}
 use Rattle.cmd_run.specs.declared.server.Server.{Server}
@@ -89,6 +89,14 @@ not_source ending.Sink is = cc is
 not_source ending.Memory is = cc is
 not_source (ending.Worn what place) is = cc is
 
+-- an error is one alone
+pub ended_as : (e f : Ending) → ◌≡◌ {A = Result ⊤ Ending} (Err e) (Err f) → e ≡ f
+ended_as e f is = cc is
+
+-- numbers of vault files are no room
+pub not_vaults : wear.Vaults ≡ wear.Log → ⊥
+not_vaults is = cc is
+
 -- the room behind the log
 pub worn_swept : (old new : DiskState) (what : Wear) (place : ℕ) → (what ≡ wear.Log) × (2 ^ 62 < place) × (IsTrue old.tells → ClosesAt new.holds place) → IsTrue old.tells
     → HasWorn new.holds what place
@@ -122,7 +130,9 @@ module _ {D S K A P : Type 0} (v : Views D S K A P) (start : Around D S K A P) (
   }
 
   module _ (whole : KeepWhole v.plugin start.outside.moments was.store.cat (v.disk start.outside.main) (v.disk swept.main) start.outside.stores.items swept.stores.items)
-      (leaves : LeavesLike was.store.cat start.outside.moments (v.disk start.outside.main) (v.disk swept.main)) (none : was.store.cat.pending ≡ None) where
+      (result : Result ⊤ Ending) (left : Cat)
+      (leaves : SweepsMain was.store.cat start.outside.moments (v.disk start.outside.main) (v.disk swept.main) result left)
+      (none : was.store.cat.pending ≡ None) where
     module _ (e : Around D S K A P) (found : Cat) (opened : WasOpened v (before v e start) start found was.store.cat (rules_of was.rules)) where
       abbrev old : Around D S K A P
       old = before v e start
@@ -130,14 +140,18 @@ module _ {D S K A P : Type 0} (v : Views D S K A P) (start : Around D S K A P) (
       told : IsTrue (v.disk start.outside.main).tells
       told = subst IsTrue (sym opened.opened.opens.went.main.tells) opened.begin.main_tells
 
-      sweeps_begun : Sweeps (world_of v start) (world_of v behind) was.store.cat
-      sweeps_begun = sweeps v.disk v.ambient v.plugin (v.sink start.sink) (v.source start.source) start.outside swept was.store.cat failed frame leaves order told none whole
+      sweeps_begun : Sweeps (world_of v start) (world_of v behind) was.store.cat leaves.after
+      sweeps_begun =
+          sweeps v.disk v.ambient v.plugin (v.sink start.sink) (v.source start.source) start.outside swept was.store.cat failed frame result left leaves order
+          told none whole
 
       -- the run is begun
-      pub begun_by : (now : Server) → StandsAsBefore (v.disk start.outside.main) (v.disk swept.main) was now → ((n : ℕ) → at was.sessions n ≡ None) → was.store.cat.stores ≡ vec_len start.outside.stores
-          → FewerThanFaults v.plugin (orphan_files now.store.cat) start.outside.stores.items swept.stores.items → (was.store.cat.orphans ≡ [] → swept.main ≡ start.outside.main)
+      pub begun_by : (now : Server) → leaves.after ≡ now.store.cat → StandsAsBefore (v.disk start.outside.main) (v.disk swept.main) was now
+          → ((n : ℕ) → at was.sessions n ≡ None) → was.store.cat.stores ≡ vec_len start.outside.stores
+          → FewerThanFaults v.plugin (orphan_files now.store.cat) start.outside.stores.items swept.stores.items
+          → (was.store.cat.orphans ≡ [] → swept.main ≡ start.outside.main)
           → IsBegun v (before v e behind) behind found now
-      begun_by now stands nobody slots fewer still =
+      begun_by now is_now stands nobody slots fewer still =
           let done = is_swept v.disk v.ambient v.plugin (v.sink start.sink) (v.source start.source) start.outside swept failed frame was now stands slots fewer still in
           let grid = opened.opened.opens.undone.opened.grid in
           let rules = opened.opened.opens.undone.rules in
@@ -146,7 +160,7 @@ module _ {D S K A P : Type 0} (v : Views D S K A P) (start : Around D S K A P) (
           record {
             begin = opened.begin;
             so = subst (λ (s : State). Sofar (world_of v old) (world_of v behind) found now.store.cat s []) (sym state)
-                (none_yet opened.begin opened.opened sweeps_begun done);
+                (none_yet opened.begin opened.opened (subst (Sweeps (world_of v start) (world_of v behind) was.store.cat) is_now sweeps_begun) done);
           }
 
       -- something ran out or failed in it

@@ -52,12 +52,12 @@ and_turned false b false e = refl
 
 -- ---- the first of a name
 
-first_found : {X : Type 0} (p : X → Bool) (rows : List X) → find p rows ≡ slice_get (filter p rows) 0
+pub first_found : {X : Type 0} (p : X → Bool) (rows : List X) → find p rows ≡ slice_get (filter p rows) 0
 first_found p [] = refl
 first_found {X = X} p (r ∷ rows) =
     elim (p r) as (λ b. cond b (Some r) (find p rows) ≡ slice_get (cond b (r ∷ filter p rows) (filter p rows)) 0) [ true ↦ refl | false ↦ first_found p rows ]
 
-found_alike : {X : Type 0} (p q : X → Bool) (rows : List X) → ((x : X) → p x ≡ q x) → find p rows ≡ find q rows
+pub found_alike : {X : Type 0} (p q : X → Bool) (rows : List X) → ((x : X) → p x ≡ q x) → find p rows ≡ find q rows
 found_alike p q [] same = refl
 found_alike {X = X} p q (r ∷ rows) same =
     ap (λ b. cond b (Some r) (find p rows)) (same r) ∙ ap (λ (o : Option X). cond (q r) (Some r) o) (found_alike p q rows same)

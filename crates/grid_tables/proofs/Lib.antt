@@ -1,4 +1,5 @@
-mod ChildLists
+mod Children
+mod Counted
 mod Descending
 mod Finding
 mod IndexKeys
@@ -6,7 +7,6 @@ mod GroupLists
 mod Indexes
 mod Locating
 mod Runs
-mod SamePlaces
 mod Searching
 mod SharedValues
 mod Trees
@@ -14,3 +14,4 @@ mod VaultNumbers
 mod WaysUp
 mod KeyLookUps
 mod LastIds
+mod Outcomes

@@ -1,5 +1,5 @@
 -- A binary search for a key among rows in the order of their keys.
-use Rattle.std.proofs.Common.{◌≡◌, ℕ, zero, suc, ◌<◌, ◌≤◌, Bool, true, false, cond, List, [], ◌∷◌, length, slice_index_or, Some, None, Option, refl, sym, ap, ◌∙◌, arith, Bor, ◌==◌, eqb-true}
+use Rattle.std.proofs.Common.{◌≡◌, ℕ, zero, suc, ◌<◌, ◌≤◌, Bool, true, false, cond, List, [], ◌∷◌, length, slice_index_or, Some, None, Option, refl, sym, ap, ◌∙◌, subst, arith, Bor, ◌==◌, eqb-true}
 use Rattle.std.proofs.lemmas.Bool.{eqb-false}
 use Rattle.std.specs.Prelude.{find, filter, not, ◌&&◌, ◌||◌, IsTrue, Result, Ok, Err, is_some}
 use Rattle.std.specs.List.{AllByRecursion, list_any, remove}
@@ -13,6 +13,8 @@ use Rattle.std.proofs.lemmas.List.Kept.{IsStrictlySortedBy-filter}
 use Rattle.std.specs.Option.{option_copied}
 use Rattle.grid_model.specs.Rows.{IsTable}
 use Rattle.grid_model.proofs.FoundRows.{is_some-find}
+use Rattle.grid_model.proofs.TableLemmas.{IsTable-with_row, IsTable-none}
+use Rattle.tables_laws.proofs.Rows.{IsIn, in_once}
 use Rattle.grid_tables.specs.Places.{IsPlace, passes}
 use Rattle.grid_tables.specs.Probes.{tied}
 
@@ -144,6 +146,40 @@ module _ {X : Type 0} (cmp : X → X → Ordering) where
             alone = λ test. rw no (rest.alone test);
             others = rw no (ap (λ (l : List X). r ∷ l) rest.others);
           }
+
+      -- one row at most has the key
+      pub one_key : IsTotalOrder cmp → (rows : List X) → IsStrictlySortedBy cmp rows → (x y : X) → IsIn rows x → IsIn rows y → has_key x ≡ true → has_key y ≡ true → x ≡ y
+      one_key total rows sorted x y here there one other = by (cmp x y) refl
+        where
+          equal : (o : Ordering) → is_eq o ≡ true → o ≡ Equal
+          equal Less e = absurd (cc)
+          equal Equal e = refl
+          equal Greater e = absurd (cc)
+
+          at : (r : X) → has_key r ≡ true → key r ≡ Equal
+          at r e = equal (key r) (sym (decides r) ∙ e)
+
+          low : (a b : X) → has_key a ≡ true → has_key b ≡ true → cmp a b ≡ Less → ⊥
+          low a b e f less =
+              let here : key a ≡ Equal = at a e in
+              let behind : key b ≡ Less = below a b less (rw here refl) in
+              let wrong : key b ≡ Equal = at b f in
+              absurd (cc (behind, wrong))
+
+          by : (o : Ordering) → cmp x y ≡ o → x ≡ y
+          by Less e = absurd (low x y one other e)
+          by Equal e = in_once cmp total rows x y sorted here there e
+          by Greater e = absurd (low y x other one (total.antisymm y x ∙ ap ordering_reverse e))
+
+-- a table of one row
+pub one_row : {X : Type 0} (cmp : X → X → Ordering) → IsTotalOrder cmp → (fits : X → Bool) (row : X) → fits row ≡ true → (rows : List X) → rows ≡ row ∷ [] → IsTable cmp fits rows
+one_row {X = X} cmp total fits row fit rows is =
+    subst (λ (l : List X). IsTable cmp fits l) (sym is) (IsTable-with_row cmp total fits [] row fit (IsTable-none cmp fits [] refl))
+
+pub only_one : {X : Type 0} (rows : List X) (row : X) → length rows ≡ 1 → row ≡ slice_index_or rows 0 row → rows ≡ row ∷ []
+only_one [] row one is = absurd (omega (arith, one))
+only_one {X = X} (r ∷ []) row one is = ap (λ (x : X). x ∷ []) (sym is)
+only_one (r ∷ s ∷ rows) row one is = absurd (omega (arith, one))
 
 -- where a row belongs between others, none has its key
 pub none_tied : {X : Type 0} (cmp : X → X → Ordering) → IsTotalOrder cmp → (row : X) (rows : List X) (i : ℕ) → IsStrictlySortedBy cmp rows → IsPlace (cmp row) rows (Err i)

@@ -1,8 +1,8 @@
 -- Ids of rows in the order of parent and name.
-use Rattle.std.specs.Prelude.{◌≡◌, ◌==◌, ◌&&◌, ℕ, Bool, List, Option, None, Some, map}
+use Rattle.std.specs.Prelude.{◌≡◌, ◌==◌, ◌&&◌, ℕ, Bool, List, map}
 use Rattle.std.specs.List.Sorted.{IsStrictlySortedBy}
 use Rattle.std.specs.declared.cmp.Ordering.{Ordering}
-use Rattle.std.specs.declared.cmp.Ordering.TheVariants.{Less, Equal}
+use Rattle.std.specs.declared.cmp.Ordering.TheVariants.{Equal}
 use Rattle.std.specs.Ordering.{nat_cmp, ordering_then}
 use Rattle.grid_model.specs.Names.{Text, text_cmp, same_text}
 use Rattle.tables_laws.proofs.Rows.{IsIn}
@@ -24,11 +24,6 @@ module _ {X : Type 0} (parent : X → ℕ) (name : X → Text) where
   abbrev pub IsPlacedOnce : List X → Type 0
   IsPlacedOnce rows = (x y : X) → IsIn rows x → IsIn rows y → place_cmp x y ≡ Equal → x ≡ y
 
--- the order of what was found
-abbrev pub found_order : {X : Type 0} → (X → Ordering) → Option X → Ordering
-found_order key None = Less
-found_order key (Some r) = key r
-
 -- The ids are those of these rows, which strictly rise in an order.
 pub record IsIndex {X : Type 0} (number : X → ℕ) (cmp : X → X → Ordering) (rows : List X) (ids : List ℕ) : Type 0 where
   -- the rows in this order
@@ -37,7 +32,3 @@ pub record IsIndex {X : Type 0} (number : X → ℕ) (cmp : X → X → Ordering
   pub ordered : IsStrictlySortedBy cmp named
   pub all : (x : X) → IsIn rows x → IsIn named x
   pub none_else : (x : X) → IsIn named x → IsIn rows x
-
--- in the order of parent and name
-abbrev pub IsNameIndex : {X : Type 0} → (X → ℕ) → (X → ℕ) → (X → Text) → List X → List ℕ → Type 0
-IsNameIndex number parent name rows ids = IsIndex number (place_cmp parent name) rows ids

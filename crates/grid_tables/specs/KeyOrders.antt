@@ -27,7 +27,7 @@ first_tie Less b e = absurd (cc)
 first_tie Equal b e = refl
 first_tie Greater b e = absurd (cc)
 
-rest_tie : (a b : Ordering) → ordering_then a b ≡ Equal → b ≡ Equal
+pub rest_tie : (a b : Ordering) → ordering_then a b ≡ Equal → b ≡ Equal
 rest_tie Less b e = absurd (cc)
 rest_tie Equal b e = e
 rest_tie Greater b e = absurd (cc)

@@ -1,4 +1,4 @@
-pub mod ChildLists
+pub mod ChildKeys
 pub mod Counts
 pub mod Descending
 pub mod KeyOrders

@@ -7,7 +7,7 @@ ghost use Rattle.grid_model.specs.Rows.{has_collection, collection, is_named_col
 ghost use Rattle.grid_tables.specs.declared.error.TableError.TheVariants.{BadDelta, Memory};
 
 use crate::kinds::is_name;
-use crate::{TableError, Tables};
+use crate::{ChildIds, TableError, Tables};
 use grid_model::{CollectionRow, Delta, ItemKind, Text};
 
 impl Tables {
@@ -152,8 +152,13 @@ fn is_other_child(row: &CollectionRow, id: u64) -> bool
 }
 
 /// Whether one of the ids is not that of `/`.
-fn has_some_id(ids: &[u64]) -> bool
-    ensures { result ≡ list_any (λ id. not (id == 0)) ids.now }
+fn has_some_id(ids: ChildIds<'_>) -> bool
+    ensures { result ≡ list_any (λ id. not (id == 0)) ids.entry }
 {
-    ids.iter().any(|id| *id != 0)
+    for id in ids {
+        if id != 0 {
+            return true;
+        }
+    }
+    false
 }

@@ -28,13 +28,13 @@ impl Tables {
         ensures { result ≡ count_of self.now kind }
     {
         let count = match kind {
-            Kind::Users => self.users.as_slice().len(),
+            Kind::Users => self.users.len(),
             Kind::Collections => self.collections.len(),
             Kind::Objects => self.objects.len(),
-            Kind::Resources => self.resources.as_slice().len(),
-            Kind::Members => self.members.as_slice().len(),
-            Kind::Triples => self.triples.as_slice().len(),
-            Kind::Entries => self.entries.as_slice().len(),
+            Kind::Resources => self.resources.len(),
+            Kind::Members => self.members.len(),
+            Kind::Triples => self.triples.len(),
+            Kind::Entries => self.entries.len(),
         };
         count as u64
     }

@@ -1,14 +1,14 @@
-ghost use Rattle.std.specs.Prelude.{◌≡◌, ◌==◌, ◌<◌, ◌&&◌, ℕ, Bool, true, false, [], ◌∷◌, find, filter, map, not, IsTrue, IfOk, IfSome, IfNone, OnOk, OnErr};
+ghost use Rattle.std.specs.Prelude.{◌≡◌, ◌==◌, ◌<◌, ◌&&◌, ℕ, Bool, true, false, [], ◌∷◌, length, find, filter, map, not, None, IsTrue, IfOk, IfErr, IfSome, IfNone, OnOk, OnErr};
 ghost use Rattle.std.specs.List.{list_any};
 ghost use Rattle.std.specs.List.Sorted.{IsStrictlyIncreasing};
 ghost use Rattle.std.specs.BTreeMap.{insert_entry, IsOrdered};
 ghost use Rattle.std.specs.Option.{option_copied};
-ghost use Rattle.std.specs.Ordering.{eq_by_cmp, nat_cmp};
+ghost use Rattle.std.specs.Ordering.{eq_by_cmp};
 ghost use Rattle.grid_model.specs.Rows.{IsTable, with_row};
-ghost use Rattle.grid_tables.specs.GroupLists.{list_of_group, IsPutIn, IsTakenOut, IsWithoutEmpty};
+ghost use Rattle.grid_tables.specs.GroupLists.{group_id_cmp, list_of_group, IsPutIn, IsTakenOut, IsWithoutEmpty};
 ghost use Rattle.grid_tables.specs.Places.{passes};
 
-use crate::grouped::{GroupKey, Grouped, InOneGroup};
+use crate::grouped::{GroupId, GroupKey, Grouped, InOneGroup, ONE_GROUP};
 use crate::row::{Numbered, OfItem};
 use crate::table::Table;
 use grid_model::ItemKind;
@@ -20,19 +20,20 @@ use std::marker::Model;
 /// of another group is moved.
 #[derive(Debug, Drop)]
 pub(crate) struct Groups<T: Grouped> {
-    lists: BTreeMap<u64, Table<T>>,
+    lists: BTreeMap<GroupId, Table<T>>,
+    count: usize,
     alloc: Global,
 }
 
 impl<T: Grouped> Model for Groups<T> {
     ghost use Rattle.std.specs.Prelude.{List};
-    ghost use Rattle.grid_tables.specs.GroupLists.{IsInGroups, rows_of_lists};
+    ghost use Rattle.grid_tables.specs.GroupLists.{AreCounted, rows_of_lists};
 
     ghost Value = { List T };
 
     ghost view = { λ t. rows_of_lists t.lists.entries };
 
-    ghost invariant = { λ t. IsInGroups T.group T.row_cmp T.fits t.lists.entries };
+    ghost invariant = { λ t. AreCounted T.group T.row_cmp T.fits t.lists.entries t.count };
 }
 
 impl<T: Grouped> Groups<T> {
@@ -42,8 +43,16 @@ impl<T: Grouped> Groups<T> {
     {
         Groups {
             lists: BTreeMap::new(alloc),
+            count: 0,
             alloc,
         }
+    }
+
+    /// How many rows there are.
+    pub(crate) fn len(&self) -> usize
+        ensures { result ≡ length self.now }
+    {
+        self.count
     }
 
     /// The keys of the rows strictly rise. It does nothing.
@@ -79,7 +88,7 @@ impl<T: InOneGroup> Groups<T> {
         ensures rows { result.now ≡ self.now }
         ensures table { IsTable T.row_cmp T.fits self.now }
     {
-        match self.lists.get(&0) {
+        match self.lists.get(&ONE_GROUP) {
             Some(rows) => rows.as_slice(),
             None => &[],
         }
@@ -93,7 +102,7 @@ impl<T: InOneGroup + Numbered> Groups<T> {
         ensures there { IfSome result (λ row. list_any (λ r. T.number r == T.number row.now) self.now ≡ true) }
         ensures none { IfNone result (self.now ≡ []) }
     {
-        match self.lists.get(&0) {
+        match self.lists.get(&ONE_GROUP) {
             Some(rows) => rows.last(),
             None => None,
         }
@@ -104,7 +113,7 @@ impl<T: InOneGroup + Numbered> Groups<T> {
         ensures ids { IfOk result (λ ids. ids.items ≡ map T.number self.now) }
         ensures rising { IfOk result (λ ids. IsStrictlyIncreasing ids.items) }
     {
-        match self.lists.get(&0) {
+        match self.lists.get(&ONE_GROUP) {
             Some(rows) => rows.ids(alloc),
             None => Ok(Vec::new(alloc)),
         }
@@ -126,55 +135,69 @@ impl<T: OfItem> Groups<T> {
 // Puts a row in a new list, where its group has none. Fails for want of memory alone, and then nothing is put.
 fn begin<T: Grouped + Drop>(
     alloc: Global,
-    lists: &mut BTreeMap<u64, Table<T>>,
+    lists: &mut BTreeMap<GroupId, Table<T>>,
     row: T,
-) -> Result<(), AllocError>
+) -> Result<(), T>
     requires { IsTrue (T.fits row) }
-    ensures put { OnOk result (lists.new.entries ≡ insert_entry nat_cmp lists.old.entries (T.group row) (row ∷ [])) }
+    ensures put { OnOk result (lists.new.entries ≡ insert_entry group_id_cmp lists.old.entries (T.group row) (row ∷ [])) }
     ensures failed { OnErr result (lists.new.entries ≡ lists.old.entries) }
-    ensures rising { IsOrdered nat_cmp lists.new }
+    ensures back { IfErr result (λ r. r ≡ row) }
+    ensures rising { IsOrdered group_id_cmp lists.new }
 {
-    let group = row.group();
-    let mut rows = Table::empty(alloc);
     let _count = lists.len();
-    rows.put(row)?;
+    let group = row.group();
+    let rows = match Table::of(alloc, row) {
+        Ok(rows) => rows,
+        Err(row) => return Err(row),
+    };
     match lists.insert(group, rows) {
         Ok(_) => Ok(()),
-        Err(_) => Err(AllocError),
+        Err(refused) => {
+            let (_, rows) = refused.value;
+            Err(rows.only())
+        }
     }
 }
 
-// Puts a row in the list of its group. Fails for want of memory alone, and then nothing is put, and no row has its key.
+// Puts a row in the list of its group. Fails for want of memory alone, and then nothing is put.
 fn put_in<T: Grouped + Drop>(
     alloc: Global,
-    lists: &mut BTreeMap<u64, Table<T>>,
+    lists: &mut BTreeMap<GroupId, Table<T>>,
     row: T,
-) -> Result<(), AllocError>
+) -> Result<Option<T>, T>
     requires { IsTrue (T.fits row) }
     ensures put { OnOk result (IsPutIn T.row_cmp (T.group row) row lists.old.entries lists.new.entries) }
+    ensures replaced { IfOk result (λ old. old ≡ find (λ r. eq_by_cmp T.row_cmp r row) (list_of_group (T.group row) lists.old.entries)) }
     ensures failed { OnErr result (lists.new.entries ≡ lists.old.entries) }
-    ensures absent { OnErr result (list_any (λ r. eq_by_cmp T.row_cmp r row) (list_of_group (T.group row) lists.old.entries) ≡ false) }
-    ensures rising { IsOrdered nat_cmp lists.new }
+    ensures back { IfErr result (λ r. r ≡ row) }
+    ensures rising { IsOrdered group_id_cmp lists.new }
 {
     match lists.get_mut(&row.group()) {
         Some(rows) => rows.put(row),
-        None => begin(alloc, lists, row),
+        None => match begin(alloc, lists, row) {
+            Ok(()) => Ok(None),
+            Err(row) => Err(row),
+        },
     }
 }
 
 // Takes the row with this key out of its list.
-fn take_out<T: Grouped + Drop, Q: GroupKey<T>>(lists: &mut BTreeMap<u64, Table<T>>, key: Q)
+fn take_out<T: Grouped + Drop, Q: GroupKey<T>>(
+    lists: &mut BTreeMap<GroupId, Table<T>>,
+    key: Q,
+) -> Option<T>
     ensures taken { IsTakenOut (Q.is_key_of key) (Q.leads_to key) lists.old.entries lists.new.entries }
-    ensures rising { IsOrdered nat_cmp lists.new }
+    ensures gone { result ≡ find (λ r. Q.is_key_of key r) (list_of_group (Q.leads_to key) lists.old.entries) }
+    ensures rising { IsOrdered group_id_cmp lists.new }
 {
     match lists.get_mut(&key.row_group()) {
         Some(rows) => rows.remove(key),
-        None => {}
+        None => None,
     }
 }
 
 // Whether a group has a list in which nothing stands.
-fn has_empty_list<T: Grouped>(lists: &BTreeMap<u64, Table<T>>, group: u64) -> bool
+fn has_empty_list<T: Grouped>(lists: &BTreeMap<GroupId, Table<T>>, group: GroupId) -> bool
     ensures { IsTrue result → list_of_group group lists.now.entries ≡ [] }
 {
     match lists.get(&group) {
@@ -184,9 +207,9 @@ fn has_empty_list<T: Grouped>(lists: &BTreeMap<u64, Table<T>>, group: u64) -> bo
 }
 
 // Drops the list of a group in which nothing stands.
-fn drop_empty<T: Grouped + Drop>(lists: &mut BTreeMap<u64, Table<T>>, group: u64)
+fn drop_empty<T: Grouped + Drop>(lists: &mut BTreeMap<GroupId, Table<T>>, group: GroupId)
     ensures dropped { IsWithoutEmpty group lists.old.entries lists.new.entries }
-    ensures rising { IsOrdered nat_cmp lists.new }
+    ensures rising { IsOrdered group_id_cmp lists.new }
 {
     let _count = lists.len();
     if has_empty_list(lists, group) {
@@ -195,22 +218,40 @@ fn drop_empty<T: Grouped + Drop>(lists: &mut BTreeMap<u64, Table<T>>, group: u64
 }
 
 impl<T: Grouped + Drop> Groups<T> {
-    /// Puts a row in the place of the one with its key, or where it belongs. Fails for want of memory alone, and then
-    /// nothing is put, and no row has the key.
-    pub(crate) fn put(&mut self, row: T) -> Result<(), AllocError>
+    /// Puts a row in the place of the one with its key, which it gives, or where it belongs. Fails for want of memory
+    /// alone, and then nothing is put, and it gives the row back.
+    pub(crate) fn put(&mut self, row: T) -> Result<Option<T>, T>
         requires { IsTrue (T.fits row) }
         ensures put { OnOk result (self.new ≡ with_row T.row_cmp self.old row) }
+        ensures replaced { IfOk result (λ old. old ≡ find (λ r. eq_by_cmp T.row_cmp r row) self.old) }
         ensures failed { OnErr result (self.new ≡ self.old) }
-        ensures absent { OnErr result (list_any (λ r. eq_by_cmp T.row_cmp r row) self.old ≡ false) }
+        ensures back { IfErr result (λ r. r ≡ row) }
     {
-        put_in(self.alloc, &mut self.lists, row)
+        if self.count == usize::MAX {
+            return Err(row);
+        }
+        match put_in(self.alloc, &mut self.lists, row) {
+            Ok(Some(old)) => Ok(Some(old)),
+            Ok(None) => {
+                self.count += 1;
+                Ok(None)
+            }
+            Err(row) => Err(row),
+        }
     }
 
-    /// Drops the row with this key, where there is one, and the list of its group with its last one.
-    pub(crate) fn remove<Q: GroupKey<T>>(&mut self, key: Q)
-        ensures { self.new ≡ filter (λ r. not (Q.is_key_of key r)) self.old }
+    /// Takes the row with this key out, where there is one, and the list of its group with its last one.
+    pub(crate) fn remove<Q: GroupKey<T>>(&mut self, key: Q) -> Option<T>
+        ensures left { self.new ≡ filter (λ r. not (Q.is_key_of key r)) self.old }
+        ensures gone { result ≡ find (λ r. Q.is_key_of key r) self.old }
     {
-        take_out(&mut self.lists, key);
-        drop_empty(&mut self.lists, key.row_group());
+        match take_out(&mut self.lists, key) {
+            Some(row) => {
+                drop_empty(&mut self.lists, key.row_group());
+                self.count -= 1;
+                Some(row)
+            }
+            None => None,
+        }
     }
 }

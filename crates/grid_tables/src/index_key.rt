@@ -1,7 +1,8 @@
-ghost use Rattle.std.specs.Prelude.{◌≡◌, ◌≤◌, ℕ, Bool, true, IfOk};
-ghost use Rattle.std.specs.Ordering.{nat_cmp, ordering_index, ordering_then};
+ghost use Rattle.std.specs.Prelude.{◌≡◌, ⊤, IfOk};
+ghost use Rattle.std.specs.Ordering.{nat_cmp, ordering_then};
 ghost use Rattle.std.specs.declared.cmp.Ordering.{Ordering};
-ghost use Rattle.std.specs.declared.cmp.Ordering.TheVariants.{Less, Equal};
+ghost use Rattle.std.specs.declared.cmp.Ordering.TheVariants.{Equal};
+ghost use Rattle.sorted_list.specs.Fronts.{key_falls, key_once};
 ghost use Rattle.std.specs.Cmp.{IsTotalOrder};
 ghost use Rattle.grid_model.specs.Names.{text_cmp};
 ghost use Rattle.grid_model.specs.Rows.{item_number};
@@ -12,17 +13,18 @@ ghost use Rattle.grid_tables.specs.KeyOrders.{access_of_user_cmp, access_total, 
 ghost use Rattle.grid_tables.specs.KeyOrders.{leaf_cmp, leaf_total, leaf_whole, leaf_of, leaf_own, leaf_falls};
 ghost use Rattle.grid_tables.specs.KeyOrders.{valued_cmp, valued_total, valued_whole, valued_of, attribute_falls, valued_falls};
 
-use crate::kinds::item_number;
+use crate::kinds::{item_number, then_text};
 use crate::row::Row;
 use grid_model::{
     EntryRow, ItemKind, MemberRow, ReplicaRow, ResourceRow, Text, TripleRow, UserRow,
 };
+use sorted_list::{Front, Key, Whole};
 use std::alloc::{AllocError, Global};
 use std::cmp::Ordering;
 use std::marker::Model;
 
 /// A key by which rows of a table are looked for beside their own.
-pub(crate) trait IndexKey<T: Row>: Row {
+pub(crate) trait IndexKey<T: Row>: Key {
     ghost of: { T → Self };
 
     /// The key of a row. Fails for want of memory alone.
@@ -31,9 +33,9 @@ pub(crate) trait IndexKey<T: Row>: Row {
 
     /// How the key of a row stands to another key.
     fn compare_key(row: &T, other: &Self) -> Ordering
-        ensures { result ≡ Self.row_cmp (of row.now) other.now };
+        ensures { result ≡ Self.order (of row.now) other.now };
 
-    ghost whole: { (a b : Self) → Self.row_cmp a b ≡ Equal → a ≡ b };
+    ghost whole: { (a b : Self) → Self.order a b ≡ Equal → a ≡ b };
 }
 
 /// A key that no two rows of a table have.
@@ -41,15 +43,44 @@ pub(crate) trait OwnKey<T: Row>: IndexKey<T> {
     ghost own: { (a b : T) → Self.of a ≡ Self.of b → T.row_cmp a b ≡ Equal };
 }
 
-/// The front of a key. Keys with one front stand next to one another.
-pub(crate) trait Front<K: Row>: Copy {
-    ghost side: { Self → K → Ordering };
+/// A row, where its key is looked for.
+pub(crate) struct OfRow<'a, T> {
+    row: &'a T,
+}
 
-    /// How it stands to the front of a key.
-    fn side(&self, key: &K) -> Ordering
-        ensures { result ≡ side self.now key.now };
+impl<'a, T> OfRow<'a, T> {
+    /// By the key of this row.
+    pub(crate) fn new(row: &'a T) -> OfRow<'a, T>
+        ensures { result.row.now ≡ row.now }
+    {
+        OfRow { row }
+    }
+}
 
-    ghost falls: { (q : Self) (a b : K) → K.row_cmp a b ≡ Less → ordering_index (side q b) ≤ ordering_index (side q a) };
+impl<'a, T> Clone for OfRow<'a, T> {
+    ghost is_clone = { λ s r. r ≡ s };
+
+    ghost is_infallible = { λ _. ⊤ };
+
+    fn clone(&self) -> Result<OfRow<'a, T>, AllocError> {
+        Ok(OfRow { row: self.row })
+    }
+}
+
+impl<'a, T> Copy for OfRow<'a, T> {}
+
+impl<'a, T: Row, K: IndexKey<T>> Front<K> for OfRow<'a, T> {
+    ghost side = { λ q. K.order (K.of q.row.now) };
+
+    ghost falls = { λ q a b less. key_falls K.total (K.of q.row.now) a b less };
+
+    fn side(&self, key: &K) -> Ordering {
+        K::compare_key(self.row, key)
+    }
+}
+
+impl<'a, T: Row, K: IndexKey<T>> Whole<K> for OfRow<'a, T> {
+    ghost once = { λ q a b less same. key_once K.total (K.of q.row.now) a b less same };
 }
 
 /// The name of a user, a group or a resource, with its id.
@@ -59,14 +90,12 @@ pub(crate) struct NamedId {
     pub(crate) id: u32,
 }
 
-impl Row for NamedId {
-    ghost row_cmp = { name_cmp };
-
-    ghost fits = { λ _. true };
+impl Key for NamedId {
+    ghost order = { name_cmp };
 
     ghost total = { name_total };
 
-    fn cmp_key(&self, other: &NamedId) -> Ordering {
+    fn order(&self, other: &NamedId) -> Ordering {
         self.name.cmp(&other.name).then(self.id.cmp(&other.id))
     }
 }
@@ -128,14 +157,12 @@ pub struct GroupOfUser {
     pub group: u32,
 }
 
-impl Row for GroupOfUser {
-    ghost row_cmp = { group_cmp };
-
-    ghost fits = { λ _. true };
+impl Key for GroupOfUser {
+    ghost order = { group_cmp };
 
     ghost total = { group_total };
 
-    fn cmp_key(&self, other: &GroupOfUser) -> Ordering {
+    fn order(&self, other: &GroupOfUser) -> Ordering {
         self.user
             .cmp(&other.user)
             .then(self.group.cmp(&other.group))
@@ -184,14 +211,12 @@ pub struct AccessOfUser {
     pub id: u64,
 }
 
-impl Row for AccessOfUser {
-    ghost row_cmp = { access_of_user_cmp };
-
-    ghost fits = { λ _. true };
+impl Key for AccessOfUser {
+    ghost order = { access_of_user_cmp };
 
     ghost total = { access_total };
 
-    fn cmp_key(&self, other: &AccessOfUser) -> Ordering {
+    fn order(&self, other: &AccessOfUser) -> Ordering {
         self.user
             .cmp(&other.user)
             .then(item_number(self.kind).cmp(&item_number(other.kind)))
@@ -245,14 +270,12 @@ pub struct ReplicaOnLeaf {
     pub number: u32,
 }
 
-impl Row for ReplicaOnLeaf {
-    ghost row_cmp = { leaf_cmp };
-
-    ghost fits = { λ _. true };
+impl Key for ReplicaOnLeaf {
+    ghost order = { leaf_cmp };
 
     ghost total = { leaf_total };
 
-    fn cmp_key(&self, other: &ReplicaOnLeaf) -> Ordering {
+    fn order(&self, other: &ReplicaOnLeaf) -> Ordering {
         self.leaf
             .cmp(&other.leaf)
             .then(self.object.cmp(&other.object))
@@ -339,20 +362,20 @@ impl BoxedItem {
     }
 }
 
-impl Row for BoxedItem {
-    ghost row_cmp = { valued_cmp };
-
-    ghost fits = { λ _. true };
+impl Key for BoxedItem {
+    ghost order = { valued_cmp };
 
     ghost total = { valued_total };
 
-    fn cmp_key(&self, other: &BoxedItem) -> Ordering {
+    fn order(&self, other: &BoxedItem) -> Ordering {
         let (one, other) = (self.item(), other.item());
-        one.attribute
-            .cmp(&other.attribute)
-            .then(one.value.cmp(&other.value))
-            .then(item_number(one.kind).cmp(&item_number(other.kind)))
-            .then(one.id.cmp(&other.id))
+        then_text(
+            one.attribute.cmp(&other.attribute),
+            &one.value,
+            &other.value,
+        )
+        .then(item_number(one.kind).cmp(&item_number(other.kind)))
+        .then(one.id.cmp(&other.id))
     }
 }
 
@@ -375,11 +398,13 @@ impl IndexKey<TripleRow> for BoxedItem {
 
     fn compare_key(row: &TripleRow, other: &BoxedItem) -> Ordering {
         let other = other.item();
-        row.attribute
-            .cmp(&other.attribute)
-            .then(row.value.cmp(&other.value))
-            .then(item_number(row.kind).cmp(&item_number(other.kind)))
-            .then(row.id.cmp(&other.id))
+        then_text(
+            row.attribute.cmp(&other.attribute),
+            &row.value,
+            &other.value,
+        )
+        .then(item_number(row.kind).cmp(&item_number(other.kind)))
+        .then(row.id.cmp(&other.id))
     }
 }
 
@@ -402,6 +427,6 @@ impl Front<BoxedItem> for (&Text, &Text) {
 
     fn side(&self, key: &BoxedItem) -> Ordering {
         let key = key.item();
-        self.0.cmp(&key.attribute).then(self.1.cmp(&key.value))
+        then_text(self.0.cmp(&key.attribute), self.1, &key.value)
     }
 }

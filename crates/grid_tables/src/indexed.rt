@@ -1,19 +1,21 @@
-ghost use Rattle.std.specs.Prelude.{◌≡◌, ◌<◌, ◌≤◌, ◌==◌, ◌&&◌, ℕ, Bool, true, false, [], length, find, filter, map, not, vec_len};
-ghost use Rattle.std.specs.Prelude.{vec_capacity, IsTrue, IfOk, IfSome, IfNone, OnOk, OnErr};
+ghost use Rattle.std.specs.Prelude.{◌≡◌, ◌<◌, ◌==◌, ◌&&◌, ℕ, Bool, List, true, false, [], length, find, filter, map, not, slice_get};
+ghost use Rattle.std.specs.Prelude.{IsTrue, IfOk, IfSome, IfNone, OnOk, OnErr};
+ghost use Rattle.std.specs.BTreeSet.{replace_key};
 ghost use Rattle.std.specs.List.{list_any};
-ghost use Rattle.std.specs.List.Sorted.{IsPartitionedBy, IsSearchInRange, IsStrictlyIncreasing, IsStrictlySortedBy};
+ghost use Rattle.std.specs.List.Sorted.{IsStrictlyIncreasing};
 ghost use Rattle.std.specs.Ordering.{eq_by_cmp, is_eq};
 ghost use Rattle.std.specs.Option.{option_copied};
 ghost use Rattle.grid_model.specs.Rows.{IsTable, triple_cmp, with_row};
 ghost use Rattle.grid_model.specs.Names.{same_text};
-ghost use Rattle.grid_tables.specs.IndexKeys.{AreKeysOf};
-ghost use Rattle.grid_tables.specs.Places.{IsPlace, Falls, StartsAt, RowsAtFront, passes};
+ghost use Rattle.grid_tables.specs.IndexKeys.{AreKeysOf, replaced_at};
+ghost use Rattle.grid_tables.specs.Places.{passes};
 
 use crate::grouped::{GroupKey, Grouped, InOneGroup};
 use crate::groups::Groups;
-use crate::index_key::{BoxedItem, Front, IndexKey, OwnKey};
-use crate::row::{Numbered, OfItem, Row};
+use crate::index_key::{BoxedItem, IndexKey, OfRow, OwnKey};
+use crate::row::{Numbered, OfItem};
 use grid_model::{ItemKind, Text, TripleRow};
+use sorted_list::{Front, Run, SortedList};
 use std::alloc::{AllocError, Global};
 use std::marker::Model;
 
@@ -21,7 +23,7 @@ use std::marker::Model;
 #[derive(Debug, Drop)]
 pub(crate) struct Indexed<T: Grouped, K: IndexKey<T>> {
     rows: Groups<T>,
-    keys: Vec<K>,
+    keys: SortedList<K>,
     alloc: Global,
 }
 
@@ -33,53 +35,7 @@ impl<T: Grouped, K: IndexKey<T>> Model for Indexed<T, K> {
 
     ghost view = { λ t. t.rows };
 
-    ghost invariant = { λ t. AreKeysOf K.of K.row_cmp t.rows t.keys.items };
-}
-
-// Where the key of a row belongs among keys in rising order, by a binary search.
-fn key_place<T: Row, K: IndexKey<T>>(keys: &[K], row: &T) -> Result<usize, usize>
-    ensures within { IsSearchInRange result (length keys.now) }
-    ensures place { IsStrictlySortedBy K.row_cmp keys.now → IsPlace (K.row_cmp (K.of row.now)) keys.now result }
-{
-    keys.binary_search_by(|key| K::compare_key(row, key).reverse())
-}
-
-// Takes the key of a row out, where no other row has it.
-fn forget_key<T: Grouped, K: OwnKey<T> + Drop, Q: GroupKey<T>>(
-    rows: &Groups<T>,
-    keys: &mut Vec<K>,
-    key: Q,
-)
-    ensures index { let are = AreKeysOf K.of K.row_cmp in are rows.now keys.old.items → are (filter (λ r. not (Q.is_key_of key r)) rows.now) keys.new.items }
-    ensures unchanged { list_any (λ r. Q.is_key_of key r) rows.now ≡ false → keys.new.items ≡ keys.old.items }
-    ensures room { vec_len keys.old < vec_capacity keys.old → vec_len keys.new < vec_capacity keys.new }
-{
-    rows.in_order();
-    match rows.get(key) {
-        Some(row) => match key_place(keys.as_slice(), row) {
-            Ok(at) => {
-                keys.remove(at);
-            }
-            Err(_) => {}
-        },
-        None => {}
-    }
-}
-
-// How many keys from the front on stand before those with this front.
-fn before_front<K: Row, F: Front<K>>(keys: &[K], front: F) -> usize
-    ensures within { result ≤ length keys.now }
-    ensures place { Falls (F.side front) keys.now → StartsAt (F.side front) keys.now result }
-{
-    keys.partition_point(|key| front.side(key).is_gt())
-}
-
-// How many keys from the front on have this front, where none stands before them.
-fn first_of_front<K: Row, F: Front<K>>(keys: &[K], front: F) -> usize
-    ensures within { result ≤ length keys.now }
-    ensures place { IsPartitionedBy (λ k. is_eq (F.side front k)) keys.now → RowsAtFront (F.side front) keys.now result }
-{
-    keys.partition_point(|key| front.side(key).is_eq())
+    ghost invariant = { λ t. AreKeysOf K.of K.order t.rows t.keys };
 }
 
 impl<T: Grouped, K: IndexKey<T>> Indexed<T, K> {
@@ -89,7 +45,7 @@ impl<T: Grouped, K: IndexKey<T>> Indexed<T, K> {
     {
         Indexed {
             rows: Groups::empty(alloc),
-            keys: Vec::new(alloc),
+            keys: SortedList::new(alloc),
             alloc,
         }
     }
@@ -118,24 +74,33 @@ impl<T: Grouped, K: IndexKey<T>> Indexed<T, K> {
         self.rows.has(key)
     }
 
-    /// The keys with this front, in rising order.
-    pub(crate) fn at<F: Front<K>>(&self, front: F) -> &[K]
-        ensures keys { AreKeysOf K.of K.row_cmp (filter (λ r. is_eq (F.side front (K.of r))) self.now) result.now }
-        ensures any { (test : K → Bool) → list_any test result.now ≡ list_any (λ r. is_eq (F.side front (K.of r)) && test (K.of r)) self.now }
+    /// How many rows there are.
+    pub(crate) fn len(&self) -> usize
+        ensures { result ≡ length self.now }
     {
-        let keys = self.keys.as_slice();
-        let start = before_front(keys, front);
-        let (_, rest) = keys.split_at(start);
-        let count = first_of_front(rest, front);
-        let (found, _) = rest.split_at(count);
-        found
+        self.rows.len()
+    }
+
+    /// The keys with this front, in rising order.
+    pub(crate) fn at<F: Front<K>>(&self, front: F) -> Run<'_, K>
+        ensures keys { AreKeysOf K.of K.order (filter (λ r. is_eq (F.side front (K.of r))) self.now) result }
+        ensures any { (test : K → Bool) → list_any test result ≡ list_any (λ r. is_eq (F.side front (K.of r)) && test (K.of r)) self.now }
+    {
+        self.keys.at(front)
+    }
+
+    /// The first key with this front.
+    pub(crate) fn first<F: Front<K>>(&self, front: F) -> Option<&K>
+        ensures { (keys : List K) × AreKeysOf K.of K.order (filter (λ r. is_eq (F.side front (K.of r))) self.now) keys × (option_copied result ≡ slice_get keys 0) }
+    {
+        self.keys.find(front)
     }
 
     /// Whether a row has a key with this front.
     pub(crate) fn has_at<F: Front<K>>(&self, front: F) -> bool
         ensures { result ≡ list_any (λ r. is_eq (F.side front (K.of r))) self.now }
     {
-        !self.at(front).is_empty()
+        self.keys.find(front).is_some()
     }
 }
 
@@ -177,6 +142,35 @@ impl<T: OfItem, K: IndexKey<T>> Indexed<T, K> {
     }
 }
 
+// Puts a row and its key. It gives the row that was replaced where no row had its key before. Fails for want of memory
+// alone, and then neither is put.
+fn put_both<T: Grouped + Drop, K: IndexKey<T> + Drop>(
+    rows: &mut Groups<T>,
+    keys: &mut SortedList<K>,
+    key: K,
+    row: T,
+) -> Result<Option<T>, AllocError>
+    requires fits { IsTrue (T.fits row) }
+    requires key { key ≡ K.of row }
+    ensures put { OnOk result (rows.new ≡ with_row T.row_cmp rows.old row) }
+    ensures keys { OnOk result (keys.new ≡ replace_key K.order keys.old key) }
+    ensures replaced { IfOk result (λ old. old ≡ replaced_at (λ r. eq_by_cmp T.row_cmp r row) rows.old (λ k. is_eq (K.order key k)) keys.old) }
+    ensures failed { OnErr result (rows.new ≡ rows.old) }
+    ensures kept { OnErr result (keys.new ≡ keys.old) }
+{
+    keys.in_order();
+    let is_new = keys.put(key)?;
+    match rows.put(row) {
+        Ok(old) => Ok(if is_new { old } else { None }),
+        Err(row) => {
+            if is_new {
+                keys.remove(OfRow::new(&row));
+            }
+            Err(AllocError)
+        }
+    }
+}
+
 impl<T: Grouped + Drop, K: OwnKey<T> + Drop> Indexed<T, K> {
     /// Puts a row in the place of the one with its key, or where it belongs. Fails for want of memory alone, and then
     /// nothing is put.
@@ -187,15 +181,9 @@ impl<T: Grouped + Drop, K: OwnKey<T> + Drop> Indexed<T, K> {
     {
         self.rows.in_order();
         let key = K::key_of(self.alloc, &row)?;
-        self.keys.reserve(1)?;
-        forget_key(&self.rows, &mut self.keys, &row);
-        let place = key_place(self.keys.as_slice(), &row);
-        self.rows.put(row)?;
-        match place {
-            Err(at) => {
-                let _ = self.keys.insert(at, key);
-            }
-            Ok(_) => {}
+        match put_both(&mut self.rows, &mut self.keys, key, row)? {
+            Some(old) => self.keys.remove(OfRow::new(&old)),
+            None => {}
         }
         Ok(())
     }
@@ -204,8 +192,11 @@ impl<T: Grouped + Drop, K: OwnKey<T> + Drop> Indexed<T, K> {
     pub(crate) fn remove<Q: GroupKey<T>>(&mut self, key: Q)
         ensures { self.new ≡ filter (λ r. not (Q.is_key_of key r)) self.old }
     {
-        forget_key(&self.rows, &mut self.keys, key);
-        self.rows.remove(key);
+        self.rows.in_order();
+        match self.rows.remove(key) {
+            Some(row) => self.keys.remove(OfRow::new(&row)),
+            None => {}
+        }
     }
 }
 
@@ -218,18 +209,6 @@ fn has_value(triples: &[TripleRow], attribute: &Text, value: &Text) -> bool
         .any(|row| row.attribute == *attribute && row.value == *value)
 }
 
-// Takes the key of a row out.
-fn drop_key<T: Row, K: IndexKey<T> + Drop>(keys: &mut Vec<K>, row: &T)
-    ensures { IsStrictlySortedBy K.row_cmp keys.old.items → keys.new.items ≡ filter (λ k. not (eq_by_cmp K.row_cmp k (K.of row.now))) keys.old.items }
-{
-    match key_place(keys.as_slice(), row) {
-        Ok(at) => {
-            keys.remove(at);
-        }
-        Err(_) => {}
-    }
-}
-
 impl<T: Grouped + Drop, K: IndexKey<T> + Drop> Indexed<T, K> {
     /// Puts a row that is not there where it belongs. Fails for want of memory alone, and then nothing is put.
     pub(crate) fn put_new(&mut self, row: T) -> Result<(), AllocError>
@@ -240,15 +219,7 @@ impl<T: Grouped + Drop, K: IndexKey<T> + Drop> Indexed<T, K> {
     {
         self.rows.in_order();
         let key = K::key_of(self.alloc, &row)?;
-        self.keys.reserve(1)?;
-        let place = key_place(self.keys.as_slice(), &row);
-        self.rows.put(row)?;
-        match place {
-            Err(at) => {
-                let _ = self.keys.insert(at, key);
-            }
-            Ok(_) => {}
-        }
+        put_both(&mut self.rows, &mut self.keys, key, row)?;
         Ok(())
     }
 }
@@ -264,7 +235,7 @@ impl Indexed<TripleRow, BoxedItem> {
         let beside = self.rows.of_item(row.kind, row.id);
         let shared = has_value(beside, &row.attribute, &row.value);
         if !shared {
-            drop_key(&mut self.keys, row);
+            self.keys.remove(OfRow::new(row));
         }
     }
 }

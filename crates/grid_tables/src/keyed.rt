@@ -1,8 +1,10 @@
-ghost use Rattle.std.specs.Prelude.{◌≡◌, ◌==◌, ◌<◌, true, false, [], length, find, filter, map, not, IsTrue, IfOk, IfSome, IfNone, OnOk, OnErr};
+ghost use Rattle.std.specs.Prelude.{◌≡◌, ◌==◌, ◌<◌, true, false, [], length, find, filter, map, not, IsTrue, IfOk, IfErr, IfSome, IfNone, OnOk, OnErr};
 ghost use Rattle.std.specs.List.{list_any};
 ghost use Rattle.std.specs.List.Sorted.{IsStrictlyIncreasing};
 ghost use Rattle.std.specs.Option.{option_copied};
-ghost use Rattle.std.specs.BTreeMap.{keys};
+ghost use Rattle.std.specs.BTreeMap.{insert_entry, is_at, keys};
+ghost use Rattle.std.specs.Map.{lookup};
+ghost use Rattle.std.specs.Ordering.{nat_cmp};
 ghost use Rattle.grid_model.specs.Rows.{IsTable, with_row};
 
 use crate::row::{Numbered, Row};
@@ -99,25 +101,41 @@ impl<T: Numbered> Keyed<T> {
     }
 }
 
-impl<T: Numbered + Drop> Keyed<T> {
-    /// Puts a row in the place of the one with its id, or where it belongs. Fails for want of memory alone, and then
-    /// nothing is put, and no row has the id.
-    pub(crate) fn put(&mut self, row: T) -> Result<(), AllocError>
-        requires { IsTrue (T.fits row) }
-        ensures put { OnOk result (self.new ≡ with_row T.row_cmp self.old row) }
-        ensures failed { OnErr result (self.new ≡ self.old) }
-        ensures absent { OnErr result (list_any (λ r. T.number r == T.number row) self.old ≡ false) }
-    {
-        match self.rows.insert(row.number(), row) {
-            Ok(_) => Ok(()),
-            Err(_) => Err(AllocError),
+// Puts a row at a number, and gives the one that was there. Fails for want of memory alone, and then nothing is put, and
+// it gives the row back.
+fn put_at<T: Drop>(rows: &mut BTreeMap<u64, T>, number: u64, row: T) -> Result<Option<T>, T>
+    ensures entries { OnOk result (rows.new.entries ≡ insert_entry nat_cmp rows.old.entries number row) }
+    ensures old { IfOk result (λ old. old ≡ lookup (is_at (nat_cmp number)) rows.old.entries) }
+    ensures failed { OnErr result (rows.new.entries ≡ rows.old.entries) }
+    ensures back { IfErr result (λ r. r ≡ row) }
+{
+    match rows.insert(number, row) {
+        Ok(old) => Ok(old),
+        Err(refused) => {
+            let (_, row) = refused.value;
+            Err(row)
         }
     }
+}
 
-    /// Drops the row with this id, where there is one.
-    pub(crate) fn remove(&mut self, id: u64)
-        ensures { self.new ≡ filter (λ r. not (T.number r == id)) self.old }
+impl<T: Numbered + Drop> Keyed<T> {
+    /// Puts a row in the place of the one with its id, which it gives, or where it belongs. Fails for want of memory
+    /// alone, and then nothing is put, and it gives the row back.
+    pub(crate) fn put(&mut self, row: T) -> Result<Option<T>, T>
+        requires { IsTrue (T.fits row) }
+        ensures put { OnOk result (self.new ≡ with_row T.row_cmp self.old row) }
+        ensures replaced { IfOk result (λ old. old ≡ find (λ r. T.number r == T.number row) self.old) }
+        ensures failed { OnErr result (self.new ≡ self.old) }
+        ensures back { IfErr result (λ r. r ≡ row) }
     {
-        self.rows.remove(&id);
+        put_at(&mut self.rows, row.number(), row)
+    }
+
+    /// Takes the row with this id out, where there is one.
+    pub(crate) fn remove(&mut self, id: u64) -> Option<T>
+        ensures left { self.new ≡ filter (λ r. not (T.number r == id)) self.old }
+        ensures gone { result ≡ find (λ r. T.number r == id) self.old }
+    {
+        self.rows.remove(&id)
     }
 }

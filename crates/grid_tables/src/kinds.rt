@@ -1,6 +1,7 @@
 ghost use Rattle.std.specs.Prelude.{◌≡◌};
 ghost use Rattle.grid_model.specs.Applying.{gives_access, is_given, is_group_kind, is_storage, same_kind};
-ghost use Rattle.grid_model.specs.Names.{is_name};
+ghost use Rattle.grid_model.specs.Names.{is_name, text_cmp};
+ghost use Rattle.std.specs.Ordering.{ordering_then};
 ghost use Rattle.grid_model.specs.Rows.{item_number};
 ghost use Rattle.grid_tables.specs.Items.{order_of_item};
 
@@ -85,4 +86,15 @@ pub(crate) fn order_of_item(kind: ItemKind, id: u64, other_kind: ItemKind, other
     item_number(kind)
         .cmp(&item_number(other_kind))
         .then(id.cmp(&other))
+}
+
+/// An order, and where that ties, the order of two texts, which are not looked at else.
+pub(crate) fn then_text(order: Ordering, one: &Text, other: &Text) -> Ordering
+    ensures { result ≡ ordering_then order (text_cmp one.now other.now) }
+{
+    match order {
+        Ordering::Less => Ordering::Less,
+        Ordering::Equal => one.cmp(other),
+        Ordering::Greater => Ordering::Greater,
+    }
 }

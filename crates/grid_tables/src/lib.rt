@@ -2,6 +2,7 @@
 #![tactic(auto)]
 
 mod access;
+mod child_key;
 mod collections;
 mod counts;
 mod error;
@@ -27,6 +28,7 @@ mod triples;
 mod users;
 mod vaults;
 
+pub use child_key::ChildIds;
 pub use counts::{Ids, Kind};
 pub use error::TableError;
 pub use index_key::{AccessOfUser, BoxedItem, GroupOfUser, ItemWithValue, ReplicaOnLeaf};

@@ -6,11 +6,12 @@ ghost use Rattle.grid_tables.specs.IndexKeys.{AreKeysOf};
 ghost use Rattle.grid_tables.specs.Indexes.{IsIndex, place_cmp};
 ghost use Rattle.grid_tables.specs.KeyOrders.{access_of_user_cmp, access_of_row, group_cmp, group_of, leaf_cmp, leaf_of, valued_cmp, valued_of};
 
-use crate::{AccessOfUser, BoxedItem, GroupOfUser, ReplicaOnLeaf, Tables};
+use crate::{AccessOfUser, BoxedItem, ChildIds, GroupOfUser, ReplicaOnLeaf, Tables};
 use grid_model::{
     EntryRow, Item, ItemKind, MemberRow, Numbers, OrphanRow, Pending, ReplicaRow, ResourceRow,
     Text, TripleRow, UserRow,
 };
+use sorted_list::Run;
 
 /// Look-ups. None of them takes memory.
 impl Tables {
@@ -40,7 +41,7 @@ impl Tables {
         ensures { result ≡ option_map (λ r. r.id) (find (λ r. same_text r.name name.now) self.now.users) }
     {
         let _rows = self.users.as_slice();
-        match self.users.at(name).first() {
+        match self.users.first(name) {
             Some(key) => Some(key.id),
             None => None,
         }
@@ -51,7 +52,7 @@ impl Tables {
         ensures { result ≡ option_map (λ r. r.id) (find (λ r. same_text r.name name.now) self.now.resources) }
     {
         let _rows = self.resources.as_slice();
-        match self.resources.at(name).first() {
+        match self.resources.first(name) {
             Some(key) => Some(key.id),
             None => None,
         }
@@ -114,15 +115,15 @@ impl Tables {
     }
 
     /// The ids of the collections in this one, in the order of their names. `/` is in itself, and the first there.
-    pub fn collections_in(&self, collection: u64) -> &[u64]
-        ensures { IsIndex (λ r. r.id) (place_cmp (λ r. r.parent) (λ r. r.name)) (filter (λ r. r.parent == collection) self.now.collections) result.now }
+    pub fn collections_in(&self, collection: u64) -> ChildIds<'_>
+        ensures { IsIndex (λ r. r.id) (place_cmp (λ r. r.parent) (λ r. r.name)) (filter (λ r. r.parent == collection) self.now.collections) result }
     {
         self.collections.children(collection)
     }
 
     /// The ids of the objects in this collection, in the order of their names.
-    pub fn objects_in(&self, collection: u64) -> &[u64]
-        ensures { IsIndex (λ r. r.id) (place_cmp (λ r. r.collection) (λ r. r.name)) (filter (λ r. r.collection == collection) self.now.objects) result.now }
+    pub fn objects_in(&self, collection: u64) -> ChildIds<'_>
+        ensures { IsIndex (λ r. r.id) (place_cmp (λ r. r.collection) (λ r. r.name)) (filter (λ r. r.collection == collection) self.now.objects) result }
     {
         self.objects.children(collection)
     }
@@ -135,22 +136,22 @@ impl Tables {
     }
 
     /// The groups that a user is in, in rising order.
-    pub fn groups_of(&self, user: u32) -> &[GroupOfUser]
-        ensures { AreKeysOf group_of group_cmp (filter (λ m. m.user == user) self.now.members) result.now }
+    pub fn groups_of(&self, user: u32) -> Run<'_, GroupOfUser>
+        ensures { AreKeysOf group_of group_cmp (filter (λ m. m.user == user) self.now.members) result }
     {
         self.members.at(user)
     }
 
     /// The items that give a user or a group access, objects first, by id.
-    pub fn items_open_to(&self, user: u32) -> &[AccessOfUser]
-        ensures { AreKeysOf access_of_row access_of_user_cmp (filter (λ e. e.user == user) self.now.entries) result.now }
+    pub fn items_open_to(&self, user: u32) -> Run<'_, AccessOfUser>
+        ensures { AreKeysOf access_of_row access_of_user_cmp (filter (λ e. e.user == user) self.now.entries) result }
     {
         self.entries.at(user)
     }
 
     /// The replicas on a leaf, by object and number.
-    pub fn replicas_on(&self, leaf: u32) -> &[ReplicaOnLeaf]
-        ensures { AreKeysOf leaf_of leaf_cmp (filter (λ r. r.leaf == leaf) self.now.replicas) result.now }
+    pub fn replicas_on(&self, leaf: u32) -> Run<'_, ReplicaOnLeaf>
+        ensures { AreKeysOf leaf_of leaf_cmp (filter (λ r. r.leaf == leaf) self.now.replicas) result }
     {
         self.replicas.on_leaf(leaf)
     }
@@ -200,17 +201,17 @@ impl Tables {
 
     /// The items that have an attribute of this name, each once for each value that it has: by value, objects first, then
     /// collections, resources and users, by id.
-    pub fn items_with(&self, attribute: &Text) -> &[BoxedItem]
-        ensures { AreKeysOf valued_of valued_cmp (filter (λ t. same_text t.attribute attribute.now) self.now.triples) result.now }
+    pub fn items_with(&self, attribute: &Text) -> Run<'_, BoxedItem>
+        ensures { AreKeysOf valued_of valued_cmp (filter (λ t. same_text t.attribute attribute.now) self.now.triples) result }
     {
         self.triples.at(attribute)
     }
 
     /// The items that have an attribute of this name with this value, each once: objects first, then collections, resources and
     /// users, by id.
-    pub fn items_with_value(&self, attribute: &Text, value: &Text) -> &[BoxedItem]
+    pub fn items_with_value(&self, attribute: &Text, value: &Text) -> Run<'_, BoxedItem>
         ensures { AreKeysOf valued_of valued_cmp
-            (filter (λ t. same_text t.attribute attribute.now && same_text t.value value.now) self.now.triples) result.now }
+            (filter (λ t. same_text t.attribute attribute.now && same_text t.value value.now) self.now.triples) result }
     {
         self.triples.at((attribute, value))
     }
@@ -232,8 +233,8 @@ impl Tables {
         let _collections = self.collections.len();
         let _objects = self.objects.len();
         self.replicas.in_order();
-        let _triples = self.triples.as_slice();
-        let _entries = self.entries.as_slice();
+        self.triples.in_order();
+        self.entries.in_order();
         let _resources = self.resources.as_slice();
         let _orphans = self.orphans.as_slice();
     }

@@ -116,8 +116,10 @@ impl Tables {
         if !self.orphan_fits(row) {
             return Err(TableError::BadDelta { cause: 17 });
         }
-        self.orphans.put(row)?;
-        Ok(())
+        match self.orphans.put(row) {
+            Ok(_) => Ok(()),
+            Err(_) => Err(TableError::Memory),
+        }
     }
 
     /// Applies delta 18.

@@ -10,6 +10,7 @@ use crate::index_key::NamedId;
 use crate::kinds::{is_name, is_same_kind, is_storage};
 use crate::{TableError, Tables};
 use grid_model::{Delta, ResourceKind, ResourceRow, Text};
+use sorted_list::Run;
 
 impl Tables {
     // Whether there is a resource with this id.
@@ -130,8 +131,13 @@ impl Tables {
 }
 
 /// Whether one of the keys has another id.
-fn has_other_id(keys: &[NamedId], id: u32) -> bool
-    ensures { result ≡ list_any (λ k. not (k.id == id)) keys.now }
+fn has_other_id(keys: Run<'_, NamedId>, id: u32) -> bool
+    ensures { result ≡ list_any (λ k. not (k.id == id)) keys.entry }
 {
-    keys.iter().any(|key| key.id != id)
+    for key in keys {
+        if key.id != id {
+            return true;
+        }
+    }
+    false
 }

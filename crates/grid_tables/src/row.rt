@@ -6,15 +6,15 @@ ghost use Rattle.std.specs.declared.cmp.Ordering.TheVariants.{Less};
 ghost use Rattle.std.specs.Cmp.{IsTotalOrder};
 ghost use Rattle.grid_model.specs.declared.grid.ItemKind.{ItemKind};
 ghost use Rattle.grid_model.specs.declared.grid.ItemKind.TheVariants as kinds;
-ghost use Rattle.grid_model.specs.Rows.{same_item, is_named_user, is_named_object, is_named_resource, user_cmp, member_cmp, collection_cmp};
+ghost use Rattle.grid_model.specs.Rows.{item_number, same_item, is_named_user, is_named_object, is_named_resource, user_cmp, member_cmp, collection_cmp};
 ghost use Rattle.grid_model.specs.Rows.{object_cmp, replica_cmp, triple_cmp, entry_cmp, resource_cmp, orphan_cmp};
 ghost use Rattle.grid_model.proofs.RowOrders.{user_cmp_total, member_cmp_total, collection_cmp_total, object_cmp_total, replica_cmp_total};
 ghost use Rattle.grid_model.proofs.RowOrders.{triple_cmp_total, entry_cmp_total, resource_cmp_total, orphan_cmp_total};
 ghost use Rattle.grid_tables.specs.Roots.{is_whole_collection};
 ghost use Rattle.grid_tables.specs.Items.{order_of_item, belongs_to, replica_falls, triple_falls, entry_falls};
-ghost use Rattle.grid_tables.specs.GroupLaws.{item_leads};
+ghost use Rattle.grid_tables.specs.GroupLaws.{item_leads, object_leads};
 
-use crate::grouped::Grouped;
+use crate::grouped::{GroupId, Grouped};
 use crate::kinds::{item_number, order_of_item};
 use grid_model::{
     CollectionRow, EntryRow, ItemKind, MemberRow, ObjectRow, OrphanRow, ReplicaRow, ResourceRow,
@@ -161,14 +161,14 @@ pub(crate) trait OfItem: Grouped {
 
     ghost item_order: { ItemKind → ℕ → Self → Ordering };
 
-    ghost item_group: { ItemKind → ℕ → ℕ };
+    ghost item_group: { ItemKind → ℕ → ℕ × ℕ };
 
     /// How the item of this kind and id stands to the one that it belongs to.
     fn item_order(&self, kind: ItemKind, id: u64) -> Ordering
         ensures { result ≡ item_order kind id self.now };
 
     /// The number of the group that the rows of an item are in.
-    fn item_group(kind: ItemKind, id: u64) -> u64
+    fn item_group(kind: ItemKind, id: u64) -> GroupId
         ensures { result ≡ item_group kind id };
 
     ghost belongs: { (kind : ItemKind) (id : ℕ) (r : Self) → is_of r kind id ≡ is_eq (item_order kind id r) };
@@ -187,16 +187,16 @@ impl OfItem for ReplicaRow {
 
     ghost falls = { λ kind id a b. replica_falls kind id a b };
 
-    ghost item_group = { λ _ id. id };
+    ghost item_group = { λ _ id. (0, id) };
 
-    ghost in_group = { λ kind id r same. item_leads kind id r.object same };
+    ghost in_group = { λ kind id r same. object_leads kind id r.object same };
 
     fn item_order(&self, kind: ItemKind, id: u64) -> Ordering {
         order_of_item(kind, id, ItemKind::Object, self.object)
     }
 
-    fn item_group(_kind: ItemKind, id: u64) -> u64 {
-        id
+    fn item_group(_kind: ItemKind, id: u64) -> GroupId {
+        (0, id)
     }
 }
 
@@ -209,16 +209,16 @@ impl OfItem for TripleRow {
 
     ghost falls = { λ kind id a b. triple_falls kind id a b };
 
-    ghost item_group = { λ _ _. 0 };
+    ghost item_group = { λ kind id. (item_number kind, id) };
 
-    ghost in_group = { λ kind id r same. refl };
+    ghost in_group = { λ kind id r same. item_leads kind id r.kind r.id same };
 
     fn item_order(&self, kind: ItemKind, id: u64) -> Ordering {
         order_of_item(kind, id, self.kind, self.id)
     }
 
-    fn item_group(_kind: ItemKind, _id: u64) -> u64 {
-        0
+    fn item_group(kind: ItemKind, id: u64) -> GroupId {
+        (item_number(kind), id)
     }
 }
 
@@ -231,16 +231,16 @@ impl OfItem for EntryRow {
 
     ghost falls = { λ kind id a b. entry_falls kind id a b };
 
-    ghost item_group = { λ _ _. 0 };
+    ghost item_group = { λ kind id. (item_number kind, id) };
 
-    ghost in_group = { λ kind id r same. refl };
+    ghost in_group = { λ kind id r same. item_leads kind id r.kind r.id same };
 
     fn item_order(&self, kind: ItemKind, id: u64) -> Ordering {
         order_of_item(kind, id, self.kind, self.id)
     }
 
-    fn item_group(_kind: ItemKind, _id: u64) -> u64 {
-        0
+    fn item_group(kind: ItemKind, id: u64) -> GroupId {
+        (item_number(kind), id)
     }
 }
 

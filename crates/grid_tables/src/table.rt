@@ -1,4 +1,4 @@
-ghost use Rattle.std.specs.Prelude.{◌≡◌, ◌<◌, ◌≤◌, ◌==◌, ◌&&◌, ℕ, Bool, true, false, [], length, find, filter, map, not, IsTrue, IfOk};
+ghost use Rattle.std.specs.Prelude.{◌≡◌, ◌<◌, ◌≤◌, ◌==◌, ◌&&◌, ℕ, Bool, true, false, [], ◌∷◌, length, find, filter, insert, map, not, None, IsTrue, IfOk, IfErr};
 ghost use Rattle.std.specs.Prelude.{IfSome, IfNone, OnOk, OnErr};
 ghost use Rattle.std.specs.List.{list_any};
 ghost use Rattle.std.specs.List.Sorted.{IsPartitionedBy, IsSearchInRange, IsStrictlyIncreasing, IsStrictlySortedBy};
@@ -12,6 +12,7 @@ use crate::row::{Numbered, OfItem, Row};
 use grid_model::ItemKind;
 use std::alloc::{AllocError, Global};
 use std::marker::Model;
+use std::mem::replace;
 
 /// Rows in rising order of their keys, no two with the same one. A row is found by its key in a number of steps that
 /// grows as the logarithm of theirs.
@@ -81,32 +82,70 @@ impl<T: Row> Table<T> {
 }
 
 impl<T: Row + Drop> Table<T> {
-    /// Puts a row in the place of the one with its key, or where it belongs. Fails for want of memory alone, and then
-    /// nothing is put, and no row has the key.
-    pub(crate) fn put(&mut self, row: T) -> Result<(), AllocError>
+    /// A table of one row. Fails for want of memory alone, and then gives the row back.
+    pub(crate) fn of(alloc: Global, row: T) -> Result<Table<T>, T>
         requires { IsTrue (T.fits row) }
-        ensures put { OnOk result (self.new ≡ with_row T.row_cmp self.old row) }
-        ensures failed { OnErr result (self.new ≡ self.old) }
-        ensures absent { OnErr result (list_any (λ r. eq_by_cmp T.row_cmp r row) self.old ≡ false) }
+        ensures made { IfOk result (λ table. table ≡ row ∷ []) }
+        ensures back { IfErr result (λ r. r ≡ row) }
     {
-        match place_of(&self.rows, &row) {
-            Ok(index) => {
-                self.rows[index] = row;
-                Ok(())
-            }
-            Err(index) => {
-                self.rows.insert(index, row)?;
-                Ok(())
-            }
+        let mut rows = match Vec::with_capacity(alloc, 1) {
+            Ok(rows) => rows,
+            Err(_) => return Err(row),
+        };
+        match rows.push(row) {
+            Ok(()) => Ok(Table { rows }),
+            Err(refused) => Err(refused.value),
         }
     }
 
-    /// Drops the row with this key, where there is one.
-    pub(crate) fn remove<Q: Probe<T>>(&mut self, key: Q)
-        ensures { self.new ≡ filter (λ r. not (Q.is_key_of key r)) self.old }
+    /// The row of a table of one.
+    pub(crate) fn only(self) -> T
+        requires { length self ≡ 1 }
+        ensures { self ≡ result ∷ [] }
     {
-        if let Ok(index) = place_of(&self.rows, key) {
-            self.rows.remove(index);
+        let Table { mut rows } = self;
+        rows.remove(0)
+    }
+}
+
+// Puts a row before another one. Fails for want of memory alone, and then nothing is put, and it gives the row back.
+fn insert_at<T: Row + Drop>(rows: &mut Vec<T>, index: usize, row: T) -> Result<Option<T>, T>
+    requires { index ≤ length rows.old.items }
+    ensures put { OnOk result (rows.new.items ≡ insert rows.old.items index row) }
+    ensures none { IfOk result (λ old. old ≡ None) }
+    ensures failed { OnErr result (rows.new.items ≡ rows.old.items) }
+    ensures back { IfErr result (λ r. r ≡ row) }
+{
+    match rows.insert(index, row) {
+        Ok(()) => Ok(None),
+        Err(refused) => Err(refused.value),
+    }
+}
+
+impl<T: Row + Drop> Table<T> {
+    /// Puts a row in the place of the one with its key, which it gives, or where it belongs. Fails for want of memory
+    /// alone, and then nothing is put, and it gives the row back.
+    pub(crate) fn put(&mut self, row: T) -> Result<Option<T>, T>
+        requires { IsTrue (T.fits row) }
+        ensures put { OnOk result (self.new ≡ with_row T.row_cmp self.old row) }
+        ensures replaced { IfOk result (λ old. old ≡ find (λ r. eq_by_cmp T.row_cmp r row) self.old) }
+        ensures failed { OnErr result (self.new ≡ self.old) }
+        ensures back { IfErr result (λ r. r ≡ row) }
+    {
+        match place_of(&self.rows, &row) {
+            Ok(index) => Ok(Some(replace(&mut self.rows[index], row))),
+            Err(index) => insert_at(&mut self.rows, index, row),
+        }
+    }
+
+    /// Takes the row with this key out, where there is one.
+    pub(crate) fn remove<Q: Probe<T>>(&mut self, key: Q) -> Option<T>
+        ensures left { self.new ≡ filter (λ r. not (Q.is_key_of key r)) self.old }
+        ensures gone { result ≡ find (λ r. Q.is_key_of key r) self.old }
+    {
+        match place_of(&self.rows, key) {
+            Ok(index) => Some(self.rows.remove(index)),
+            Err(_) => None,
         }
     }
 }

@@ -15,6 +15,7 @@ use crate::keyed::Keyed;
 use crate::probe::ReplicaKey;
 use crate::row::{Numbered, Row};
 use grid_model::{ItemKind, ReplicaRow};
+use sorted_list::Run;
 use std::alloc::{AllocError, Global};
 use std::cmp::Ordering;
 use std::marker::Model;
@@ -96,8 +97,8 @@ impl Replicas {
     }
 
     /// The replicas on a leaf, by object and number.
-    pub(crate) fn on_leaf(&self, leaf: u32) -> &[ReplicaOnLeaf]
-        ensures { AreKeysOf leaf_of leaf_cmp (filter (λ r. r.leaf == leaf) self.now) result.now }
+    pub(crate) fn on_leaf(&self, leaf: u32) -> Run<'_, ReplicaOnLeaf>
+        ensures { AreKeysOf leaf_of leaf_cmp (filter (λ r. r.leaf == leaf) self.now) result }
     {
         let _vaults = &self.vaults;
         self.rows.at(leaf)
@@ -144,7 +145,7 @@ impl Replicas {
         let vault = row.vault;
         let known = self.vaults.has(vault);
         let before = vault_of(&self.rows, row.object, row.number);
-        self.vaults.put(Vault { vault })?;
+        put_vault(&mut self.vaults, vault)?;
         match self.rows.put(row) {
             Ok(()) => {
                 drop_other(&mut self.vaults, before, vault);
@@ -166,9 +167,22 @@ impl Replicas {
         let before = vault_of(&self.rows, object, number);
         self.rows.remove(ReplicaKey { object, number });
         match before {
-            Some(vault) => self.vaults.remove(vault),
+            Some(vault) => {
+                self.vaults.remove(vault);
+            }
             None => {}
         }
+    }
+}
+
+// Puts a vault number. Fails for want of memory alone, and then nothing is put.
+fn put_vault(vaults: &mut Keyed<Vault>, vault: u64) -> Result<(), AllocError>
+    ensures put { OnOk result (vaults.new ≡ with_row ⟦<Vault as Row>⟧.row_cmp vaults.old (record { vault = vault })) }
+    ensures failed { OnErr result (vaults.new ≡ vaults.old) }
+{
+    match vaults.put(Vault { vault }) {
+        Ok(_) => Ok(()),
+        Err(_) => Err(AllocError),
     }
 }
 

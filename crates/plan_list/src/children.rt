@@ -5,7 +5,7 @@ ghost use Rattle.grid_model.specs.declared.deltas.Item.TheVariants as item;
 ghost use Rattle.plan_list.specs.Inside.{AreChildren, item_name};
 
 use grid_model::Item;
-use grid_tables::Tables;
+use grid_tables::{ChildIds, Tables};
 use std::alloc::{AllocError, Global};
 use std::cmp::Ordering;
 
@@ -23,23 +23,23 @@ pub(crate) fn child_items(alloc: Global, tables: &Tables, id: u64) -> Result<Vec
 }
 
 // Adds these collections but `/`.
-fn push_collections(items: &mut Vec<Item>, ids: &[u64]) -> Result<(), AllocError>
-    ensures { OnOk result (items.new.items ≡ items.old.items ++ map item.Collection (filter (λ id. not (id == 0)) ids.now)) }
+fn push_collections(items: &mut Vec<Item>, ids: ChildIds<'_>) -> Result<(), AllocError>
+    ensures { OnOk result (items.new.items ≡ items.old.items ++ map item.Collection (filter (λ id. not (id == 0)) ids.entry)) }
 {
     for id in ids {
-        if *id != 0 {
-            items.push(Item::Collection(*id))?;
+        if id != 0 {
+            items.push(Item::Collection(id))?;
         }
     }
     Ok(())
 }
 
 // Adds these objects.
-fn push_objects(items: &mut Vec<Item>, ids: &[u64]) -> Result<(), AllocError>
-    ensures { OnOk result (items.new.items ≡ items.old.items ++ map item.Object ids.now) }
+fn push_objects(items: &mut Vec<Item>, ids: ChildIds<'_>) -> Result<(), AllocError>
+    ensures { OnOk result (items.new.items ≡ items.old.items ++ map item.Object ids.entry) }
 {
     for id in ids {
-        items.push(Item::Object(*id))?;
+        items.push(Item::Object(id))?;
     }
     Ok(())
 }

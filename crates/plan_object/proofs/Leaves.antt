@@ -27,7 +27,7 @@ use Rattle.plan_object.specs.declared.placing.Target as rust
 
 -- ---- each leaf once
 
-abbrev Distinct : List ℕ → Type 0
+abbrev pub Distinct : List ℕ → Type 0
 Distinct [] = Unit {0}
 Distinct (x ∷ xs) = ((y : ℕ) → IsIn xs y → y ≡ x → ⊥) × Distinct xs
 
@@ -47,7 +47,7 @@ distinct_push (z ∷ xs) x distinct other = (
     parts (w ∷ ys) y (inl is) = inl (inl is)
     parts (w ∷ ys) y (inr later) = elim (parts ys y later) [ inl was ↦ inl (inr was) | inr is ↦ inr is ]
 
-distinct_leaves : (kept ids : List ℕ) → Distinct kept → Distinct (with_leaves kept ids)
+pub distinct_leaves : (kept ids : List ℕ) → Distinct kept → Distinct (with_leaves kept ids)
 distinct_leaves kept [] distinct = distinct
 distinct_leaves kept (id ∷ ids) distinct = distinct_leaves (with_leaf kept id) ids (by (list_any (λ k. k == id) kept) refl)
   where
@@ -55,7 +55,7 @@ distinct_leaves kept (id ∷ ids) distinct = distinct_leaves (with_leaf kept id)
     by true is = distinct
     by false is = distinct_push kept id distinct (λ y here e. let some : list_any (λ k. k == id) kept ≡ true = any_from_in (λ k. k == id) kept y here (eq-eqb y id e) in cc)
 
-all_leaves : (P : ℕ → Type 0) (kept ids : List ℕ) → AllByRecursion P kept → AllByRecursion P ids → AllByRecursion P (with_leaves kept ids)
+pub all_leaves : (P : ℕ → Type 0) (kept ids : List ℕ) → AllByRecursion P kept → AllByRecursion P ids → AllByRecursion P (with_leaves kept ids)
 all_leaves P kept [] all_kept all_ids = all_kept
 all_leaves P kept (id ∷ ids) all_kept all_ids = all_leaves P (with_leaf kept id) ids (by (list_any (λ k. k == id) kept)) all_ids.1
   where

@@ -28,3 +28,4 @@ pub mod CopyMarks
 pub mod ReplDeeds
 pub mod CopyRows
 pub mod CopyDeeds
+pub mod FewFiles

@@ -1,4 +1,5 @@
-ghost use Rattle.std.specs.Prelude.{◌+◌, ◌≤◌, ◌^◌, IsTrue, IfOk};
+ghost use Rattle.std.specs.Prelude.{◌+◌, ◌≤◌, ◌^◌, length, IsTrue, IfOk};
+ghost use Rattle.grid_headline.specs.Numbers.{leaf_count};
 ghost use Rattle.grid_model.specs.Applying.{IsMade, is_user};
 ghost use Rattle.grid_model.specs.Names.{Path};
 ghost use Rattle.grid_model.specs.Operations.Replicas.{copy_row};
@@ -56,8 +57,9 @@ pub fn plan_copy(
     requires user { IsTrue (is_user tables.now user) }
     requires may { (from : Path) × MayCopy tables.now (user_name tables.now user) from to.now resource.now file.now }
     requires vault { tables.now.numbers.next_vault + 2 ^ 32 ≤ 2 ^ 64 }
-    ensures { let name = user_name tables.now user in (from : Path) → MayCopy tables.now name from to.now resource.now file.now →
+    ensures copies { let name = user_name tables.now user in (from : Path) → MayCopy tables.now name from to.now resource.now file.now →
         IfOk result (CopiesFile tables.now (copy_row (grid_of tables.now) name from to.now resource.now) word now file.now) }
+    ensures few { IfOk result (λ plan. length plan.files ≤ leaf_count tables.now) }
 {
     let resource = match tables.resource_named(resource) {
         None => unreachable!(),

@@ -1,4 +1,5 @@
-ghost use Rattle.std.specs.Prelude.{◌+◌, ◌<◌, ◌^◌, length, IsTrue, IfOk};
+ghost use Rattle.std.specs.Prelude.{◌+◌, ◌<◌, ◌≤◌, ◌^◌, length, IsTrue, IfOk};
+ghost use Rattle.grid_headline.specs.Numbers.{leaf_count};
 ghost use Rattle.grid_model.specs.Applying.{IsMade, is_user};
 ghost use Rattle.grid_model.specs.RowGrids.{user_name};
 ghost use Rattle.plan_object.specs.Writing.{FindsTargets, GoesOnlyTo, MayWrite, PlansWriting, Recorded, Wanted};
@@ -58,6 +59,7 @@ pub fn plan_put(
     ensures plan { let r : Recorded = record { size = size; digest = digest; now = now } in
         IfOk result (PlansWriting tables.now (user_name tables.now user) path.now leaves.now r) }
     ensures slots { IfOk result (GoesOnlyTo tables.now leaves.now) }
+    ensures few { IfOk result (λ plan. length plan.files ≤ leaf_count tables.now) }
 {
     let targets = targets_of(alloc, tables, leaves.as_slice())?;
     // As many take more memory than there is.

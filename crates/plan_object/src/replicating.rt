@@ -1,4 +1,5 @@
 ghost use Rattle.std.specs.Prelude.{◌≡◌, ℕ, [], ◌+◌, ◌<◌, ◌≤◌, ◌^◌, length, IsTrue, IfOk};
+ghost use Rattle.grid_headline.specs.Numbers.{leaf_count};
 ghost use Rattle.grid_model.specs.Applying.{IsMade, is_user};
 ghost use Rattle.grid_model.specs.Names.{Text};
 ghost use Rattle.grid_model.specs.Operations.Replicas.{repl_row};
@@ -73,6 +74,7 @@ pub fn plan_repl(
     ensures copies { (user : Text) (from : OldFile) (now : ℕ) → MayRepl tables.now user path.now resource.now from →
         IfOk result (CopiesFile tables.now (repl_row (grid_of tables.now) user path.now resource.now) word now from) }
     ensures idle { IfOk result (λ plan. plan.files ≡ [] → IsIdle plan) }
+    ensures few { IfOk result (λ plan. length plan.files ≤ leaf_count tables.now) }
 {
     let id = match tables.object_at(path) {
         None => unreachable!(),

@@ -10,7 +10,8 @@ ghost use Rattle.query_run.specs.Narrowing.{WantsText, FindsPrinted, HasShownCol
 ghost use Rattle.query_run.specs.Unsorted.{HasMembers};
 
 use grid_model::{Column, Cond, ItemKind, Op, Path, PathError, Query, Text};
-use grid_tables::{BoxedItem, Kind, Tables};
+use grid_tables::{BoxedItem, ChildIds, Kind, Tables};
+use sorted_list::Run;
 use std::alloc::{AllocError, Global};
 
 /// Ids of objects, among which is each of which the query shows anybody something. Where conditions with `=` ask for a collection
@@ -80,19 +81,26 @@ fn fewest_inside(
 {
     let inside = tables.objects_in(id);
     let items = match items_asked_for(tables, query) {
-        None => return inside.to_vec(alloc),
+        None => return list_of(alloc, inside),
         Some(items) => items,
     };
     if inside.len() < items.len() {
-        return inside.to_vec(alloc);
+        return list_of(alloc, inside);
     }
     objects_once(alloc, items)
 }
 
+// These ids in a list of their own.
+fn list_of(alloc: Global, ids: ChildIds<'_>) -> Result<Vec<u64>, AllocError>
+    ensures { IfOk result (λ list. list.items ≡ ids.entry) }
+{
+    ids.collect(alloc)
+}
+
 // The items with the attribute that it asks for, and with the value of that where it asks for one too.
-fn items_asked_for<'t>(tables: &'t Tables, query: &Query) -> Option<&'t [BoxedItem]>
+fn items_asked_for<'t>(tables: &'t Tables, query: &Query) -> Option<Run<'t, BoxedItem>>
     requires { IsMade tables.now }
-    ensures { IfSome result (λ keys. (user : TextOf) → HasShownObjects tables.now user query.now (object_ids keys.now)) }
+    ensures { IfSome result (λ keys. (user : TextOf) → HasShownObjects tables.now user query.now (object_ids keys)) }
 {
     let conds = query.conds.as_slice();
     let attribute = match literal_of(conds, Column::MetaDataAttrName) {
@@ -106,8 +114,8 @@ fn items_asked_for<'t>(tables: &'t Tables, query: &Query) -> Option<&'t [BoxedIt
 }
 
 // The ids of the objects among these items, each once.
-fn objects_once(alloc: Global, keys: &[BoxedItem]) -> Result<Vec<u64>, AllocError>
-    ensures members { IfOk result (λ ids. HasMembers ids.items (object_ids keys.now)) }
+fn objects_once(alloc: Global, keys: Run<'_, BoxedItem>) -> Result<Vec<u64>, AllocError>
+    ensures members { IfOk result (λ ids. HasMembers ids.items (object_ids keys.entry)) }
     ensures rising { IfOk result (λ ids. IsStrictlySortedBy nat_cmp ids.items) }
 {
     let mut ids = object_ids(alloc, keys)?;
@@ -157,8 +165,8 @@ fn asks_for(cond: &Cond, column: Column) -> bool
 }
 
 // The ids of the objects among these items.
-fn object_ids(alloc: Global, keys: &[BoxedItem]) -> Result<Vec<u64>, AllocError>
-    ensures { IfOk result (λ ids. ids.items ≡ object_ids keys.now) }
+fn object_ids(alloc: Global, keys: Run<'_, BoxedItem>) -> Result<Vec<u64>, AllocError>
+    ensures { IfOk result (λ ids. ids.items ≡ object_ids keys.entry) }
 {
     let mut ids = Vec::new(alloc);
     for key in keys {

@@ -22,6 +22,7 @@ use Rattle.grid_deed.specs.Safe.{KeepBothWhole}
 use Rattle.grid_deed.proofs.Frames.{frame_as}
 use Rattle.grid_headline.specs.Files.{IsKnown}
 use Rattle.run_laws.specs.Passes.{AreReady, CallsPass, Seen}
+use Rattle.run_laws.specs.Steps.{HadNumbersFor}
 use Rattle.service_run.specs.Steps.{lines_of}
 use Rattle.service_run.specs.declared.command.Command.{Command}
 use Rattle.service_run.specs.declared.ending.Ending.{Ending}
@@ -111,11 +112,12 @@ module _ {D A P K : Type 0} (disk : D → DiskState) (ambient : A → AmbientSta
     -- `executes` of Handling over the clauses of `finish`, which was called behind the calls with these rows and this end.
     pub ended_so : (w : IsWholeEnd x.number text_of at request (IsKnown (world disk ambient plugin sink source from) before) taken)
         → w.d.reply ≡ reply_of taken y.passed shown_rows e
-        → w.d.state ≡ record at { grid = grid_of rows.cat } → StaysSo at request before taken w.d (disk from.outside.main) (disk new.outside.main)
+        → w.d.state ≡ record at { grid = grid_of rows.cat } → HadNumbersFor before request w.d
+        → StaysSo at request before taken w.d (disk from.outside.main) (disk new.outside.main)
         → Executes disk ambient plugin sink source at request before x from new r after
-    ended_so w reply state still =
+    ended_so w reply state had still =
         let F : ℕ → Type 0 = λ n. Finishes (disk mid.outside.main) (disk new.outside.main) (sink mid.sink) (sink new.sink) amid.holds.cat mid.outside.moments
         n rows y (y.untold ++ rest_text n y.passed shown_rows e) r after in
-        executes disk ambient plugin sink source at request before x asked text_of from mid y rows taken amid main_last shown_rows e w reply state new r after
-        (subst F (ap (λ (z : Command). z.number) amid.command) (finishes amid.holds.cat amid.holds.held)) failed sink_failed passes same
+        executes disk ambient plugin sink source at request before x asked text_of from mid y rows taken amid main_last shown_rows e w reply state had
+        new r after (subst F (ap (λ (z : Command). z.number) amid.command) (finishes amid.holds.cat amid.holds.held)) failed sink_failed passes same
         (wholes amid.holds.cat amid.holds.held) still

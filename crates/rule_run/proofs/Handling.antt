@@ -36,12 +36,15 @@ use Rattle.grid_deed.proofs.Keeping.{held_stands}
 use Rattle.grid_deed.proofs.Wholes.{one_cat, whole_before}
 use Rattle.grid_headline.specs.Causes.{AreCaused}
 use Rattle.grid_headline.specs.Files.{IsKnown}
+use Rattle.grid_headline.specs.Numbers.{KeepsNumbers}
 use Rattle.grid_headline.specs.Reads.{HasRules}
 use Rattle.grid_headline.specs.Served.{IsSure, cut, joined_texts, whole}
 use Rattle.grid_headline.specs.Stops.{AreFirst}
 use Rattle.grid_headline.specs.Worlds.{World}
+use Rattle.count_laws.specs.GivenNumbers.{GivesFew}
+use Rattle.count_laws.proofs.GivenNumbers.{gives_before, gives_more, gives_none}
 use Rattle.run_laws.specs.Passes.{CallsPass, Seen}
-use Rattle.run_laws.specs.Steps.{CallsNoRules, ComesAfter, Gave, IsHandledWhole, IsLeftBehind, IsLike, IsToldOf, OneOf, RequestStep, ShowsFew, SureTexts}
+use Rattle.run_laws.specs.Steps.{CallsNoRules, ComesAfter, Gave, HadNumbersFor, IsHandledWhole, IsLeftBehind, IsToldOf, OneOf, RequestStep, ShowsFew, SureTexts}
 use Rattle.run_laws.specs.Steps.{kept, kept_so, unseen as nothing_seen}
 use Rattle.run_laws.proofs.Causes.{caused-on}
 use Rattle.run_laws.proofs.Known.{told-less}
@@ -53,6 +56,7 @@ use Rattle.service_run.specs.Steps.{IsKnownBy, lines_of}
 use Rattle.service_run.specs.declared.command.Command.{Command}
 use Rattle.service_run.specs.declared.ending.Ending.{Ending}
 use Rattle.service_run.specs.declared.ending.Ending.TheVariants as ending
+use Rattle.service_run.proofs.StillSteps.{beside_same}
 use Rattle.call_laws.specs.Amid.{AreRan, HoldsSo, IsAmid, IsCutShort, Setting, WereAllWhole, world}
 use Rattle.call_laws.proofs.Joined.{went_of}
 use Rattle.call_laws.proofs.Ran.{caused_on, told_on}
@@ -61,10 +65,10 @@ use Rattle.call_laws.proofs.Told.{adds_all, adds_behind}
 use Rattle.rule_run.specs.Asked.{EndOf, IsAsked, IsFrontOfReply, IsOnMain, IsOnWay, asked_setting, mark_lines, not_noted, noted as noted_there, text_with}
 use Rattle.rule_run.specs.Executing.{ExecuteEnds, Executes, HasRunOut, IsRested}
 use Rattle.rule_run.specs.Finishing.{FinishEnds, Finishes, HasNothing, IsDone, IsLeft, ended, reply_of, rest_text}
-use Rattle.rule_run.proofs.Leaving.{grid_ended, keeps_ended, keeps_then, named_ended, users_ended}
+use Rattle.rule_run.proofs.Leaving.{gives_ended, grid_ended, keeps_ended, keeps_then, named_ended, users_ended}
 use Rattle.rule_run.proofs.Replies.{joined_lines, lines_first, part_of_sure}
 use Rattle.rule_run.proofs.SentReplies.{pieces_before, pieces_many, pieces_plain, pieces_sent, sent_front, sent_pieces, sent_text}
-use Rattle.rule_run.proofs.Settings.{like_self, on_way, one_image}
+use Rattle.rule_run.proofs.Settings.{on_way, one_image}
 
 -- What the request does with all of these marks: with clean marks it ends by the rows.
 pub record DoesAll (at : State) (request : Request) (marks : List Mark) : Type 0 where
@@ -114,8 +118,8 @@ module _ {n : ℕ} {text_of : List Mark → Text} {at : State} {request : Reques
   abbrev pub texts_of_all : {marks : List Mark} → IsWholeEnd n text_of at request known marks → SureTexts
   texts_of_all w = record { pieces = w.pieces; sure = reply_text n w.d.reply w.pieces }
 
-  abbrev pub end_of_all : {marks : List Mark} → IsWholeEnd n text_of at request known marks → EndOf n text_of at request
-  end_of_all {marks} w = record {
+  abbrev pub end_of_all : Cat → {marks : List Mark} → IsWholeEnd n text_of at request known marks → EndOf n text_of at request
+  end_of_all next {marks} w = record {
     marks = marks;
     d = w.d;
     does_so = w.does_so;
@@ -125,10 +129,11 @@ module _ {n : ℕ} {text_of : List Mark → Text} {at : State} {request : Reques
     reach = marks;
     reach_first = first_all marks;
     fronts = w.fronts;
+    next = next;
   }
 
-  abbrev pub end_of_cut : {taken marks : List Mark} → IsCutEnd n text_of at request known taken marks → EndOf n text_of at request
-  end_of_cut {marks = marks} w = record {
+  abbrev pub end_of_cut : Cat → {taken marks : List Mark} → IsCutEnd n text_of at request known taken marks → EndOf n text_of at request
+  end_of_cut next {marks = marks} w = record {
     marks = marks;
     d = w.d;
     does_so = w.does_so;
@@ -138,6 +143,7 @@ module _ {n : ℕ} {text_of : List Mark → Text} {at : State} {request : Reques
     reach = w.reach;
     reach_first = w.reach_first;
     fronts = w.fronts;
+    next = next;
   }
 
   -- all of it is sure
@@ -310,7 +316,10 @@ module _ {D A P K : Type 0} (disk : D → DiskState) (ambient : A → AmbientSta
         shown = shown_cut;
         caused = caused;
         gave = short.marks.gave;
-        images = short.safe.images (end_of_cut w) w.taken_first;
+        next = before;
+        keeps = (beside_same before).keeps;
+        few = gives_more (length (taken ++ rest)) (omega arith) (gives_none before);
+        images = short.safe.images (end_of_cut before w) w.taken_first;
       }
 
       -- What a command leaves that was cut short behind these marks: with the others, of which the same is true, it would have come to an end.
@@ -340,7 +349,8 @@ module _ {D A P K : Type 0} (disk : D → DiskState) (ambient : A → AmbientSta
       (main_last : (disk mid.outside.main).last ≤ mid.outside.moments)
       (shown_rows : List (List Text)) (e : End) (w : IsWholeEnd n text_of at request (IsKnown at_old before) taken)
       (reply_is : w.d.reply ≡ reply_of taken y.passed shown_rows e)
-      (state_is : w.d.state ≡ record at { grid = grid_of rows.cat }) (new : Seen D A P K) (result : Result ⊤ Ending) (after : Journal) where
+      (state_is : w.d.state ≡ record at { grid = grid_of rows.cat }) (had : HadNumbersFor before request w.d) (new : Seen D A P K) (result : Result ⊤ Ending)
+      (after : Journal) where
     abbrev at_mid : World P
     at_mid = world disk ambient plugin sink source mid
 
@@ -402,7 +412,7 @@ module _ {D A P K : Type 0} (disk : D → DiskState) (ambient : A → AmbientSta
 
     kept_before : (c : Cat) (told : List Mark) → IsOnMain at request before x c told → c.pending ≡ None → c ≡ before
     kept_before c told (not_noted same none) free = same
-    kept_before c told (noted_there p amid is line marks call named waits) free = absurd (let both : Some p ≡ None = sym is ∙ free in cc both)
+    kept_before c told (noted_there p amid few is line marks call named waits) free = absurd (let both : Some p ≡ None = sym is ∙ free in cc both)
 
     module _ (nothing : HasNothing rows y) where
       pub rows_before : rows.cat ≡ before
@@ -417,15 +427,24 @@ module _ {D A P K : Type 0} (disk : D → DiskState) (ambient : A → AmbientSta
       abbrev left : Cat
       left = finishes.left
 
-      comes_by : IsLeft n rows y left → ComesAfter before n w.d left
-      comes_by (inl is) = subst (ComesAfter before n w.d) (sym is) (kept left_behind)
+      comes_by : IsLeft n rows y left → ComesAfter before n request w.d left
+      comes_by (inl is) = subst (ComesAfter before n request w.d) (sym is) (kept left_behind had)
       comes_by (inr (nothing, is)) =
-          let same = is ∙ rows_before nothing in
-          nothing_seen (subst (IsLike before) (sym same) (like_self before)) (w.marks_are ∙ none_taken nothing)
+          nothing_seen (is ∙ rows_before nothing) (w.marks_are ∙ none_taken nothing)
           (ap (λ (s : State). s.grid) state_is ∙ ap grid_of (rows_before nothing)) rules_before
 
-      comes : ComesAfter before n w.d left
+      comes : ComesAfter before n request w.d left
       comes = comes_by finishes.is_left
+
+      -- few numbers were given for it
+      pub keeps_by : IsLeft n rows y left → KeepsNumbers before left
+      keeps_by (inl is) =
+          subst (KeepsNumbers before) (sym is) (keeps_then before rows.cat (ended n rows.cat) amid.beside.keeps (keeps_ended n rows.cat))
+      keeps_by (inr (nothing, is)) = subst (KeepsNumbers before) (sym is) amid.beside.keeps
+
+      pub gave_few : IsLeft n rows y left → GivesFew before left (length taken)
+      gave_few (inl is) = subst (λ (c : Cat). GivesFew before c (length taken)) (sym is) (gives_before amid.beside.few (gives_ended n rows.cat))
+      gave_few (inr (nothing, is)) = subst (λ (c : Cat). GivesFew before c (length taken)) (sym is) amid.beside.few
 
       grid_by : IsLeft n rows y left → grid_of left ≡ grid_of rows.cat
       grid_by (inl is) = ap grid_of is ∙ grid_ended n rows.cat
@@ -488,11 +507,11 @@ module _ {D A P K : Type 0} (disk : D → DiskState) (ambient : A → AmbientSta
       first_told = record { rest = holds.fresh; are = holds.taken_are }
 
       image_now : IsTrue at_old.sink.tells → (main shown : Text) → OneOfNote holds.cat left text at_mid.sink.holds main shown
-          → OneOf at before n request w.d texts at_old.sink.holds main shown
+          → OneOf at before left n request w.d texts at_old.sink.holds main shown
       image_now told main shown (unnoted stands still) =
-          one_image at request before x asked text_of (end_of_all w) holds.told first_told holds.cat holds.on_main at_old.sink.holds main shown stands
+          one_image at request before x asked text_of (end_of_all left w) holds.told first_told holds.cat holds.on_main at_old.sink.holds main shown stands
           (adds_all (text_of holds.told) at_old.sink.holds shown (still ∙ holds.shown told))
-      image_now told main shown (noted stands part) = kept_so left comes stands (part_all told shown part)
+      image_now told main shown (noted stands part) = kept_so comes stands (part_all told shown part)
 
       way_now : (main : Text) (c : Cat) → StandsFor main holds.cat ⊎ StandsFor main left → StandsFor main c → IsOnWay before x.line c
       way_now main c (inl was) stands =
@@ -509,12 +528,12 @@ module _ {D A P K : Type 0} (disk : D → DiskState) (ambient : A → AmbientSta
 
         pub images_all : IsTrue at_old.main.tells → IsTrue at_old.sink.tells → IsSettled at_old.main → IsSettled at_old.sink → (t : ℕ) (main shown : Text)
             → from.outside.moments < t → at_new.main.left t main → at_new.sink.left t shown
-            → OneOf at before n request w.d texts at_old.sink.holds main shown
+            → OneOf at before left n request w.d texts at_old.sink.holds main shown
         images_all told s_told settled s_settled t main shown late l s_left = elim (cases_lt mid.outside.moments t) [
           | inl now ↦ image_now s_told main shown
               (finishes.leaves.images (main_told told) (sink_told s_told) (holds.settled told settled) (holds.sink_settled s_told s_settled) t main shown now l
               s_left)
-          | inr early ↦ amid.safe.images (end_of_all w) (first_all taken) told s_told settled s_settled t main shown late
+          | inr early ↦ amid.safe.images (end_of_all left w) (first_all taken) told s_told settled s_settled t main shown late
               (passes.frame.main.earlier t main early l) (passes.goes.earlier t shown early s_left)
         ]
 
@@ -534,6 +553,9 @@ module _ {D A P K : Type 0} (disk : D → DiskState) (ambient : A → AmbientSta
           shown = shown_all;
           caused = caused-on at_old at_mid at_new taken (went_of disk plugin sink failed sink_failed ambient source mid new passes) amid.marks.caused;
           gave = gave_all;
+          next = left;
+          keeps = keeps_by finishes.is_left;
+          few = gave_few finishes.is_left;
           images = images_all;
         }
 
@@ -564,6 +586,7 @@ module _ {D A P K : Type 0} (disk : D → DiskState) (ambient : A → AmbientSta
             state = state_is ∙ ap (λ (g : Grid). record at { grid = g }) (sym (grid_by finishes.is_left));
             grid = refl;
             all_taken = refl;
+            is_next = refl;
             pieces_are = w.pieces_are;
             follows = comes;
             stands = λ told. held_stands left at_new.main after done.held (subst IsTrue (sym passes.frame.main.tells) (main_told told));

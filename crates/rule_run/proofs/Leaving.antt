@@ -15,6 +15,8 @@ use Rattle.file_laws.proofs.Turning.{turns_apply, turns_then}
 use Rattle.grid_journal.proofs.DeltaLemmas.{then_all}
 use Rattle.grid_headline.specs.Files.{KeepsNamed}
 use Rattle.grid_headline.specs.Numbers.{KeepsNumbers}
+use Rattle.count_laws.specs.GivenNumbers.{GivesFew}
+use Rattle.count_laws.proofs.GivenNumbers.{gives_alike}
 use Rattle.run_laws.proofs.Users.{KeepsUsers, users_same}
 use Rattle.tables_laws.proofs.Grids.{grid-same}
 use Rattle.rule_run.specs.Finishing.{end_deltas, ended}
@@ -44,6 +46,9 @@ module _ (n : ℕ) (c : Cat) where
 
   pub keeps_ended : KeepsNumbers c (ended n c)
   keeps_ended = record { rises = omega arith; names = λ slot name row low its. (row, names_back slot name row its) }
+
+  pub gives_ended : GivesFew c (ended n c) 0
+  gives_ended = gives_alike c (ended n c) refl refl
 
   pub named_ended : KeepsNamed c (ended n c)
   named_ended slot name one =

@@ -1,5 +1,5 @@
 -- A call of a request that is noted: main has the request pending there, where it waits.
-use Rattle.std.proofs.Common.{◌≡◌, List, ◌++◌, Ok, refl, sym, ap, ◌∙◌, subst}
+use Rattle.std.proofs.Common.{◌≡◌, ◌+◌, List, ◌++◌, length, Ok, refl, sym, ap, ◌∙◌, subst}
 use Rattle.grid_model.specs.Names.{Text}
 use Rattle.grid_model.specs.Rows.{Cat}
 use Rattle.grid_model.specs.RowGrids.{user_name}
@@ -11,6 +11,7 @@ use Rattle.grid_model.specs.declared.calls.Call.{Call}
 use Rattle.grid_model.specs.declared.marks.Mark.{Mark}
 use Rattle.grid_headline.specs.Files.{NamesCall}
 use Rattle.grid_headline.specs.Stops.{AreFirst}
+use Rattle.count_laws.specs.GivenNumbers.{GivesFew}
 use Rattle.run_laws.specs.Steps.{HasLine, IsAmid as IsAmidCommand, WaitsInDeed}
 use Rattle.service_run.specs.Commands.{IsNoted, KeepsBeside, WaitsAt, noted_in, place_by, waiting_at}
 use Rattle.service_run.specs.declared.command.Command.{Command}
@@ -21,7 +22,7 @@ use Rattle.rule_run.specs.Asked.{IsAsked, IsOnMain, IsOnWay, asked_setting, note
 module _ (at : State) (request : Request) (before : Cat) (x : Command) (asked : IsAsked at request before x)
     (text_of : List Mark → Text) (rows : Cat) (y : Command) (taken : List Mark) (call : Call)
     (undo : List Call) (command : y ≡ record x { marks = x.marks ++ taken; passed = y.passed; untold = y.untold })
-    (beside : KeepsBeside before rows) where
+    (beside : KeepsBeside before rows (length taken)) where
   -- it has the marks of its calls alone
   marks_are : y.marks ≡ taken
   marks_are = ap (λ (z : Command). z.marks) command ∙ ap (λ (z : Command). z.marks ++ taken) asked.begun
@@ -30,8 +31,12 @@ module _ (at : State) (request : Request) (before : Cat) (x : Command) (asked : 
   user_is = ap (λ (z : Command). z.user) command
 
   module _ (c : Cat) (is_noted : IsNoted rows y call undo c) where
-    all_beside : KeepsBeside before c
-    all_beside = beside_then before rows c beside is_noted.beside
+    all_beside : KeepsBeside before c (length taken + 1)
+    all_beside = beside_then before rows c (length taken) 1 beside is_noted.beside
+
+    -- numbers are given for its marks and one more
+    few_noted : GivesFew before c (length y.marks + 1)
+    few_noted = subst (λ (ms : List Mark). GivesFew before c (length ms + 1)) (sym marks_are) all_beside.few
 
     amid_command : IsAmidCommand before c
     amid_command = record { run = all_beside.run; last = all_beside.last; rules = all_beside.rules; stores = all_beside.stores; keeps = all_beside.keeps }
@@ -76,8 +81,8 @@ module _ (at : State) (request : Request) (before : Cat) (x : Command) (asked : 
       }
 
       on_noted : IsOnMain at request before x c taken
-      on_noted = noted (noted_in y call undo) amid_command is_noted.pending (ap (λ (z : Command). z.line) command) marks_are names_call all_beside.named
-          in_deed
+      on_noted = noted (noted_in y call undo) amid_command few_noted is_noted.pending (ap (λ (z : Command). z.line) command) marks_are names_call
+          all_beside.named in_deed
 
   -- The call, which does this, may be made: where it waits, the request does, with all that a stop there has done.
   pub may_call : (doing : Course → Meaning Did)

@@ -42,10 +42,11 @@ use Rattle.service_run.specs.SentFiles.{IsSentSo, SendsFile}
 use Rattle.service_run.specs.Steps.{IsKnownBy, IsStill, lines_of}
 use Rattle.service_run.specs.declared.command.Command.{Command}
 use Rattle.service_run.specs.declared.ending.Ending.{Ending}
+use Rattle.service_run.proofs.StillSteps.{beside_more, beside_same}
 use Rattle.call_laws.specs.Amid.{AreRan, HoldsSo, IsAmid, IsCutShort, IsSafe, world}
 use Rattle.call_laws.proofs.Joined.{passes_then, went_of}
 use Rattle.call_laws.proofs.Ran.{ran_caused, ran_told}
-use Rattle.call_laws.proofs.Rows.{first_all, first_front, first_then}
+use Rattle.call_laws.proofs.Rows.{beside_marks, first_all, first_front, first_then}
 use Rattle.call_laws.proofs.Told.{adds_behind}
 use Rattle.rule_run.specs.Asked.{EndOf, IsAsked, IsFrontOfReply, IsOnMain, asked_setting, text_with}
 use Rattle.rule_run.proofs.Handling.{known_by}
@@ -104,6 +105,7 @@ plain_end_of n data_sent taken at request f first = record {
   reach = taken;
   reach_first = first_then taken f.reach f.marks first f.reach_first;
   fronts = λ told its. by told its (f.fronts told (first_then told taken f.reach its first)) (cases_lt (length told) (length taken));
+  next = f.next;
 }
   where
     by : (told : List Mark) → AreFirst told taken → IsFrontOfReply n f.d f.texts told (text_with n (length taken) data_sent told)
@@ -226,7 +228,7 @@ module _ {D A P K : Type 0} (disk : D → DiskState) (ambient : A → AmbientSta
     image_now : (f : EndOf n text at request) → AreFirst taken f.reach → IsTrue (disk from.outside.main).tells → IsTrue (sink from.sink).tells
         → IsSettled (disk from.outside.main) → IsSettled (sink from.sink) → (t : ℕ) (main shown : Text) → mid.outside.moments < t
         → (disk new.outside.main).left t main → (sink new.sink).left t shown
-        → OneOf at before n request f.d f.texts (sink from.sink).holds main shown
+        → OneOf at before f.next n request f.d f.texts (sink from.sink).holds main shown
     image_now f first told s_told settled s_settled t main shown now left s_left =
         let same : main ≡ (disk mid.outside.main).holds =
         amid.holds.settled told settled t main (omega (arith, now, main_last)) (left_mid t main left) in
@@ -317,7 +319,8 @@ module _ {D A P K : Type 0} (disk : D → DiskState) (ambient : A → AmbientSta
         let safe = sent_safe file z (Ok ran) step ⊥ ⊥ passes in
         record {
           command = sent_command;
-          beside = amid.beside;
+          beside = beside_marks before rows.cat rows.cat taken (m ∷ []) amid.beside
+              (beside_more rows.cat rows.cat 0 1 (omega arith) (beside_same rows.cat));
           holds = sent_holds;
           marks = record {
             told_of = sent_told_on file z (Ok ran) step ⊥ ⊥ passes [] tt;

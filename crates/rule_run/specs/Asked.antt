@@ -1,5 +1,5 @@
 -- A request whose calls are made one after another: what main may have of it, and what a stop leaves.
-use Rattle.std.specs.Prelude.{◌≡◌, ℕ, ◌<◌, ◌≤◌, true, false, List, [], ◌++◌, Some, None, Ok, IsTrue, drop, length, map, nat_le, take}
+use Rattle.std.specs.Prelude.{◌≡◌, ℕ, ◌+◌, ◌<◌, ◌≤◌, true, false, List, [], ◌++◌, Some, None, Ok, IsTrue, drop, length, map, nat_le, take}
 use Rattle.grid_model.specs.Applying.{is_user}
 use Rattle.grid_model.specs.Maps.{get}
 use Rattle.grid_model.specs.Names.{Text}
@@ -18,6 +18,7 @@ use Rattle.grid_headline.specs.Files.{KeepsNamed, NamesCall}
 use Rattle.grid_headline.specs.Stops.{AreFirst}
 use Rattle.grid_headline.specs.Reads.{HasRules}
 use Rattle.grid_headline.specs.Served.{whole_in}
+use Rattle.count_laws.specs.GivenNumbers.{GivesFew}
 use Rattle.run_laws.specs.Steps.{HasLine, IsAmid as IsAmidCommand, IsUntold, OneOf, SureTexts, WaitsInDeed}
 use Rattle.service_run.specs.Steps.{lines_of}
 use Rattle.service_run.specs.declared.command.Command.{Command}
@@ -47,7 +48,7 @@ pub record IsFrontOfReply (n : ℕ) (d : Done) (texts : SureTexts) (told : List 
   pub untold : told ≡ [] → (count : ℕ) → count ≤ length text → IsUntold texts.pieces count
 
 -- What the request of this number may come to: all its marks, what it did with them, and texts of its reply, of which what tells the first marks
--- so is a front.
+-- so is a front; and the catalogue behind it, where it comes so far.
 pub record EndOf (n : ℕ) (text_of : List Mark → Text) (at : State) (request : Request) : Type 0 where
   pub marks : List Mark
   pub d : Done
@@ -59,11 +60,14 @@ pub record EndOf (n : ℕ) (text_of : List Mark → Text) (at : State) (request 
   pub reach : List Mark
   pub reach_first : AreFirst reach marks
   pub fronts : (told : List Mark) → AreFirst told reach → IsFrontOfReply n d texts told (text_of told)
+  pub next : Cat
 
--- main has what it had before and no mark is told, or the request is pending with the marks that are told
+-- main has what it had before and no mark is told, or the request is pending with the marks that are told, and numbers were given for these and
+-- one more
 pub data IsOnMain (at : State) (request : Request) (before : Cat) (x : Command) (c : Cat) (told : List Mark) : Type 0 where
   not_noted : c ≡ before → told ≡ [] → IsOnMain at request before x c told
-  noted : (p : Pending) → IsAmidCommand before c → c.pending ≡ Some p → p.line ≡ x.line → p.marks ≡ told → NamesCall c.pending → KeepsNamed before c
+  noted : (p : Pending) → IsAmidCommand before c → GivesFew before c (length p.marks + 1) → c.pending ≡ Some p → p.line ≡ x.line → p.marks ≡ told
+      → NamesCall c.pending → KeepsNamed before c
       → ((marks : List Mark) → AreFirst told marks → WaitsInDeed at x.number request marks c p) → IsOnMain at request before x c told
 
 -- a command that is pending names its call and has this line, and no file is lost track of
@@ -92,5 +96,5 @@ asked_setting at request before x text_of = record {
   OnMain = IsOnMain at request before x;
   OnWay = IsOnWay before x.line;
   marks_of = λ e. e.reach;
-  OneOf = λ e shown main sink. OneOf at before x.number request e.d e.texts shown main sink;
+  OneOf = λ e shown main sink. OneOf at before e.next x.number request e.d e.texts shown main sink;
 }

@@ -15,6 +15,7 @@ use Rattle.grid_model.specs.Meanings.{mapped}
 use Rattle.grid_model.specs.Values.{Env, Value}
 use Rattle.grid_model.specs.Chains.{begin_step, call_rule, counted}
 use Rattle.grid_model.specs.Obeying.{after_exec}
+use Rattle.grid_model.specs.Orders.{Order}
 use Rattle.grid_model.specs.Sessions.{State}
 use Rattle.grid_model.specs.Working.{begun, end_of}
 use Rattle.grid_model.specs.Runs.{Request, does}
@@ -26,6 +27,7 @@ use Rattle.grid_journal.specs.Journal.{ClosesAt, Journal}
 use Rattle.grid_journal.specs.Stands.{StandsFor}
 use Rattle.grid_deed.specs.Held.{IsHeld}
 use Rattle.grid_deed.specs.Safe.{KeepWhole}
+use Rattle.grid_headline.specs.Ends.{MakesFiles}
 use Rattle.grid_headline.specs.Numbers.{last_vault}
 use Rattle.grid_headline.specs.Worlds.{World}
 use Rattle.run_laws.specs.Around.{around}
@@ -45,6 +47,10 @@ use Rattle.rule_run.specs.Asked.{IsOnWay}
 abbrev pub DoesCall : State → Request → List Rule → Env → Call → List Value → Type 0
 DoesCall at request rules env call vs = (marks : List Mark)
     → does at request marks ≡ mapped (after_exec at) (begin_step (call_rule rules env) env.user vs call (counted (begun at.grid marks)))
+
+-- the request asks for nothing that makes files, but what rules do
+abbrev pub MakesNoFiles : Request → Type 0
+MakesNoFiles request = (session : ℕ) (order : Order) → request ≡ Ok (session, order) → MakesFiles order → ⊥
 
 -- how the outcome of rules ends a request: where no rule applied there is nothing to say
 abbrev pub end_by : told.Outcome → End

@@ -18,7 +18,7 @@ ghost use Rattle.run_laws.specs.Passes.{AreReady, CallsPass};
 ghost use Rattle.run_laws.specs.Steps.{CallsNoRules};
 ghost use Rattle.service_run.specs.declared.ending.Ending.{Ending};
 ghost use Rattle.rule_run.specs.Asked.{IsAsked};
-ghost use Rattle.rule_run.specs.Executing.{DoesCall, Executes, end_by};
+ghost use Rattle.rule_run.specs.Executing.{DoesCall, Executes, MakesNoFiles, end_by};
 
 use crate::finishing::finish;
 use crate::running::run_alone;
@@ -57,7 +57,7 @@ pub fn execute<D: Disk, K: Sink, A: Ambient, P: Plugin>(
     requires checked { first_fault (rules_faults (map rule_of rules.now.rules)) ≡ None }
     requires ready { AreReady D.disk P.plugin K.sink (2 ^ 78 + 2 ^ 10) (record { outside = outside.old; sink = sink.old }) }
     ensures executes { (source : SourceState) (at : State) (request : Request) (vs : List Value) → IsAsked at request store.old.cat command →
-        HasValues call vs → (CallsNoRules at request → ⊥) → DoesCall at request (rules_of rules.now) (env_of env.now) call vs →
+        HasValues call vs → (CallsNoRules at request → ⊥) → MakesNoFiles request → DoesCall at request (rules_of rules.now) (env_of env.now) call vs →
         Executes D.disk A.ambient P.plugin K.sink source at request store.old.cat command
         (record { outside = outside.old; sink = sink.old }) (record { outside = outside.new; sink = sink.new }) result store.new }
     ensures passes { CallsPass D.disk P.plugin K.sink (IsErrOf result Ending.Disk) (IsErrOf result Ending.Sink)

@@ -1,5 +1,5 @@
 -- The catalogue with which a run is begun: it has the rows that there were, no command has changed anything, and none is pending.
-use Rattle.std.proofs.Common.{◌≡◌, ℕ, ◌+◌, [], None, IsTrue, refl, ◌∙◌, arith}
+use Rattle.std.proofs.Common.{◌≡◌, ℕ, ◌+◌, [], None, length, IsTrue, refl, ◌∙◌, arith}
 use Rattle.grid_outside.specs.Files.{Files}
 use Rattle.grid_model.specs.Rows.{Cat}
 use Rattle.grid_model.specs.RowGrids.{grid_of}
@@ -9,6 +9,7 @@ use Rattle.tables_laws.proofs.Grids.{grid-same}
 use Rattle.grid_headline.specs.Ends.{HasRecovery}
 use Rattle.grid_headline.specs.Files.{KeepsNamed}
 use Rattle.grid_headline.specs.Numbers.{KeepsNumbers}
+use Rattle.count_laws.specs.GivenNumbers.{GivesFew}
 use Rattle.run_laws.specs.Opening.{IsBegunWith}
 use Rattle.run_laws.specs.Undone.{Undone}
 use Rattle.run_laws.proofs.Lists.{all-map}
@@ -49,17 +50,18 @@ module _ (rows : Cat) (n : ℕ) where
 
 -- With what recoveries left, where they lost track of no file, the run is begun.
 pub begun-with : (found : Cat) (u : Undone found) (rows : Cat) → rows.rules ≡ found.rules → rows.stores ≡ found.stores → grid_of rows ≡ u.opened.grid
-    → KeepsNumbers found rows
+    → KeepsNumbers found rows → GivesFew found rows (length u.report)
     → KeepsNamed found rows
     → (¬ HasRecovery found.pending → (slot name : ℕ) (r : ReplicaRow) → Names found slot name (by_replica r) → Names rows slot name (by_replica r))
     → IsBegunWith found u (run_begun rows (found.numbers.run + 1))
-begun-with found u rows rules stores grid keeps named replicas =
+begun-with found u rows rules stores grid keeps few named replicas =
     let n = found.numbers.run + 1 in
     record {
       of_run = record { number = refl; none = refl; keeps = keeps-then found rows (run_begun rows n) keeps (keeps_begun rows n); stores = stores };
       last = refl;
       grid = grid-begun rows n ∙ grid;
       rules = rules ∙ u.rules_are;
+      few = record { leaves = few.leaves; numbers = few.numbers };
       named = λ slot name one. named_begun rows n slot name (named slot name one);
       replicas = λ free slot name r its. names_begun rows n slot name (by_replica r) (replicas free slot name r its);
     }

@@ -1,5 +1,5 @@
 -- What a stop leaves of main and the sink, one request after another.
-use Rattle.std.proofs.Common.{◌≡◌, ◌⊎◌, inl, inr, ℕ, zero, suc, ◌+◌, ◌-◌, ◌<◌, ◌≤◌, List, [], ◌∷◌, ◌++◌, length, take, drop, slice_get, Option, Some, None, refl, sym, ap, ◌∙◌, subst, append_assoc, take-append-drop, length-append, arith}
+use Rattle.std.proofs.Common.{◌≡◌, ◌⊎◌, inl, inr, ℕ, zero, suc, ◌+◌, ◌-◌, ◌<◌, ◌≤◌, List, [], ◌∷◌, ◌++◌, length, take, drop, slice_get, Option, Some, None, Ok, Err, refl, sym, ap, ◌∙◌, subst, append_assoc, take-append-drop, length-append, arith}
 use Rattle.std.specs.Prelude.{max, Bool, true, false, ◌==◌, codes, decimal, flat_map}
 use Rattle.std.specs.Bool.{MatchBool}
 use Rattle.std.proofs.lemmas.List.{append-nil, take-append-le, take_at, take_all, length-take-le, nil_from_length}
@@ -10,6 +10,8 @@ use Rattle.grid_model.specs.Names.{Text}
 use Rattle.grid_model.specs.Rows.{Cat}
 use Rattle.grid_model.specs.RowGrids.{grid_of}
 use Rattle.grid_model.specs.Beginning.{begins}
+use Rattle.grid_model.specs.Inputs.{Asked}
+use Rattle.grid_model.specs.Orders.{sweeps}
 use Rattle.grid_model.specs.Sessions.{State}
 use Rattle.grid_model.specs.Working.{Done, Sent}
 use Rattle.grid_model.specs.Printing.{line, spaced}
@@ -23,12 +25,19 @@ use Rattle.grid_model.specs.declared.marks.Mark.{Mark}
 use Rattle.grid_journal.specs.Stands.{StandsFor}
 use Rattle.grid_headline.specs.Draws.{with_marks}
 use Rattle.grid_headline.specs.Served.{joined_texts, marks_of, whole_in}
-use Rattle.grid_headline.specs.Numbers.{KeepsNumbers}
-use Rattle.grid_headline.specs.Reads.{HasRules, MeansRequest}
+use Rattle.grid_headline.specs.Ends.{WasDone}
+use Rattle.grid_headline.specs.Numbers.{KeepsNumbers, last_vault}
+use Rattle.grid_headline.proofs.OneMeaning.{makes-alone}
+use Rattle.grid_headline.specs.Reads.{AsksToSweep, HasRules, MeansRequest}
+use Rattle.count_laws.specs.GivenNumbers.{GivesFew, GivesNone}
+use Rattle.count_laws.proofs.GivenNumbers.{none_self}
 use Rattle.grid_headline.specs.Stops.{AreFirst}
-use Rattle.run_laws.specs.Handled.{Handled, with_one, replies_of, marks_within, marks_shown, told_within, reached_by, state_behind, IsAmidRun, IsAmidSome, IsOfRun, IsBehindSome, OneOfRun, not_begun, in_run, in_deed_of_run, ShowsMost}
+use Rattle.run_laws.specs.Handled.{Handled, LastHadNumbers, IsAt, exact, opening, amid_sweep, cats_of, with_one, replies_of, marks_within, marks_shown}
+use Rattle.run_laws.specs.Handled.{told_within, reached_by, state_behind, IsAmidRun, IsAmidSome, IsOfRun, IsBehindSome, OneOfRun, not_begun, in_run}
+use Rattle.run_laws.specs.Handled.{in_deed_of_run, ShowsMost}
 use Rattle.run_laws.specs.Undone.{Undone, whole_report}
-use Rattle.run_laws.specs.Steps.{IsLike, IsLeftBehind, IsAmid, ComesAfter, kept, unseen, SureTexts, WaitsInDeed, HasLine, IsUntold, TellsFew, OneOf, not_kept, in_deed_so, kept_so}
+use Rattle.run_laws.specs.Steps.{HadNumbersFor, IsLike, IsLeftBehind, IsAmid, IsSweep, ComesAfter, kept, unseen, swept, SureTexts, WaitsInDeed, HasLine}
+use Rattle.run_laws.specs.Steps.{IsUntold, TellsFew, OneOf, not_kept, in_deed_so, kept_so}
 use Rattle.run_laws.proofs.Lists.{get-front, get-last, marks-push, state-more, state-last}
 use Rattle.run_laws.proofs.Texts.{HaveBytes, whole-none, whole-behind, whole-more, whole-most, whole-all, whole-less}
 
@@ -51,6 +60,17 @@ first-none None (Some ts) n none = refl
 first-none (Some m) None n none = refl
 first-none (Some m) (Some ts) n none = ap (λ k. take k m.marks) (none ts refl)
 
+pub like_self : (c : Cat) → IsLike c c
+like_self c = record {
+  grid = refl;
+  run = refl;
+  last = refl;
+  rules = refl;
+  stores = refl;
+  pending = refl;
+  keeps = record { rises = omega arith; names = λ slot name row low its. (row, its) };
+}
+
 pub like-of : (found c e : Cat) → IsOfRun found c → IsLike c e → IsOfRun found e
 like-of found c e its like = record {
   number = like.run ∙ its.number;
@@ -65,6 +85,12 @@ amid-of found c e its amid = record {
   keeps = keeps-then found c e its.keeps amid.keeps;
   stores = amid.stores ∙ its.stores;
 }
+
+-- a request that is a sweep asks for one
+pub asks-sweep : (at : State) (a : Asked) (request : Request) → MeansRequest at a request → IsSweep request → AsksToSweep a
+asks-sweep at a (Ok (session, sweeps)) means is = record { at = at; session = session; asks = means }
+asks-sweep at a (Ok (session, other)) means is = absurd is
+asks-sweep at a (Err r) means is = absurd is
 
 -- the first of some marks, where these are the first of all and as many at least
 pub first-kept : (all some : List Mark) (k : ℕ) → AreFirst some all → k ≤ length some → AreFirst (take k all) some
@@ -81,12 +107,30 @@ behind-of found c n d e its behind = record {
   stores = behind.stores ∙ its.stores;
 }
 
+-- what makes files was done by one request more only where there was a number for them
+pub had-now : (h : Handled) (m : Marked) (d : Done) (ts : SureTexts) (after : Cat) (size : ℕ) → length h.begun ≡ size → length h.done ≡ size → {c : Cat}
+    → slice_get (cats_of (with_one h m d ts after)) size ≡ Some c → (at : State) (request : Request) → MeansRequest at m.asked request
+    → d.reply.marks ≡ m.marks → HadNumbersFor c request d → LastHadNumbers (with_one h m d ts after) (suc size)
+had-now h m d ts after size begun done {c} is_last at request means marks_are had k is x y z is_x is_y is_z be session order asks makes some was =
+    let more : Handled = with_one h m d ts after in
+    let e : k ≡ size = omega (arith, is) in
+    let same_c : x ≡ c = same_Some x c (sym is_x ∙ ap (slice_get (cats_of more)) e ∙ is_last) in
+    let same_m : y ≡ m = same_Some y m (sym is_y ∙ ap (slice_get more.begun) (e ∙ sym begun) ∙ get-last h.begun m) in
+    let same_d : z ≡ d = same_Some z d (sym is_z ∙ ap (slice_get more.done) (e ∙ sym done) ∙ get-last h.done d) in
+    let M : Marked → Type 0 = λ v. MeansRequest be v.asked (Ok (session, order)) in
+    let own = makes-alone be at m.asked session order request (subst M same_m asks) makes means in
+    let V : Cat → Type 0 = λ v. v.numbers.next_vault ≤ last_vault in
+    let W : Done → Type 0 = λ v. WasDone v.reply.end in
+    subst V (sym same_c)
+    (had own.0 own.1 own.2 own.3 (λ none. some (ap (λ (v : Marked). v.marks) same_m ∙ sym marks_are ∙ none)) (subst W same_d was))
+
 -- one request more than those that were handled, with this text, these texts of its marks, and what is sure of it
-pub record IsOneMore (h : Handled) (m : Marked) (d : Done) (ts : SureTexts) (t : Text) : Type 0 where
-  pub texts_are : replies_of (with_one h m d ts) ≡ replies_of h ++ t ∷ []
+pub record IsOneMore (h : Handled) (m : Marked) (d : Done) (ts : SureTexts) (after : Cat) (t : Text) : Type 0 where
+  pub texts_are : replies_of (with_one h m d ts after) ≡ replies_of h ++ t ∷ []
   pub begun_length : length h.begun ≡ length (replies_of h)
   pub done_length : length h.done ≡ length (replies_of h)
   pub pieces_length : length h.pieces ≡ length (replies_of h)
+  pub cats_length : length h.behind ≡ length (replies_of h)
   pub has_bytes : 0 < length t
   pub pieces_have : HaveBytes ts.pieces
   pub rest : Text
@@ -96,18 +140,44 @@ pub record IsOneMore (h : Handled) (m : Marked) (d : Done) (ts : SureTexts) (t :
   -- all before it is sure
   pub all_sure : h.sure ≡ joined_texts (replies_of h)
 
-module _ (found : Cat) (u : Undone found) (h : Handled) (m : Marked) (d : Done) (ts : SureTexts) (t : Text) (one : IsOneMore h m d ts t) where
+module _ (found : Cat) (u : Undone found) (h : Handled) (m : Marked) (d : Done) (ts : SureTexts) (after : Cat) (t : Text)
+    (one : IsOneMore h m d ts after t) where
   abbrev size : ℕ
   size = length (replies_of h)
 
   abbrev more : Handled
-  more = with_one h m d ts
+  more = with_one h m d ts after
 
   abbrev report : Text
   report = whole_report found u
 
   abbrev bytes : ℕ
   bytes = length (joined_texts (replies_of h))
+
+  -- ---- the catalogues
+
+  get_cat : (n : ℕ) (c : Cat) → slice_get (cats_of h) n ≡ Some c → slice_get (cats_of more) n ≡ Some c
+  get_cat n c is = get-front (cats_of h) (after ∷ []) n (slice_get_within (cats_of h) n c is) ∙ is
+
+  at-more : (n : ℕ) (c : Cat) → IsAt found u h n c → IsAt found u more n c
+  at-more n c (exact is) = exact (get_cat n c is)
+  at-more n c (opening none few gives) = opening none few gives
+  at-more n c (amid_sweep e f of is_e is_f is_of asks since until) =
+      amid_sweep e f of (get_cat n e is_e) (get-front h.behind (after ∷ []) n (slice_get_within h.behind n f is_f) ∙ is_f)
+      (get-front h.begun (m ∷ []) n (slice_get_within h.begun n of is_of) ∙ is_of) asks since until
+
+  -- what the last of the requests before it had
+  had-more : (n : ℕ) → n ≤ size → LastHadNumbers h n → LastHadNumbers more n
+  had-more n most had k is c x y is_c is_x is_y =
+      let cats : k < length (cats_of h) = omega (arith, is, most, one.cats_length) in
+      let begun : k < length h.begun = omega (arith, is, most, one.begun_length) in
+      let done : k < length h.done = omega (arith, is, most, one.done_length) in
+      had k is c x y (sym (get-front (cats_of h) (after ∷ []) k cats) ∙ is_c) (sym (get-front h.begun (m ∷ []) k begun) ∙ is_x)
+      (sym (get-front h.done (d ∷ []) k done) ∙ is_y)
+
+  -- it is the last of them
+  get_after : slice_get more.behind size ≡ Some after
+  get_after = ap (slice_get more.behind) (sym one.cats_length) ∙ get-last h.behind after
 
   -- ---- a front of the texts before it
 
@@ -149,6 +219,9 @@ module _ (found : Cat) (u : Undone found) (h : Handled) (m : Marked) (d : Done) 
           near = omega (arith, b.near, same_whole);
           rules = subst (λ (x : State). HasRules c x.rules) (sym s) b.rules;
           grid = b.grid ∙ ap (λ (x : State). x.grid) (sym s);
+          at = subst (λ n. IsAt found u more n c) (sym r) (at-more (reached_by found u h c count) c b.at);
+          had_numbers = subst (LastHadNumbers more) (sym r)
+              (had-more (reached_by found u h c count) (omega (arith, b.within, one.begun_length)) b.had_numbers);
           untold = λ less. ap (λ k. told_within more k count) same_whole
               ∙ no_more_told (whole_in (replies_of h) count) (whole-most (replies_of h) count) (b.untold (omega (arith, less, same_whole)));
         }
@@ -178,6 +251,9 @@ module _ (found : Cat) (u : Undone found) (h : Handled) (m : Marked) (d : Done) 
               let told_same : told_within h (whole_in (replies_of h) count) count ≡ told_within more (whole_in (replies_of more) count) count =
               sym (ap (λ k. told_within more k count) same_whole ∙ told_less (whole_in (replies_of h) count) (omega (arith, less, one.begun_length, a.reached))) in
               subst (λ (x : List Mark). AreFirst x p.marks) told_same a.told;
+          since = λ e is.
+              let within : n < length (cats_of h) = omega (arith, less, one.begun_length, one.cats_length) in
+              a.since e (sym (get-front (cats_of h) (after ∷ []) n within) ∙ is);
         }
 
   -- a front of what was sure is a front of what is now
@@ -260,9 +336,9 @@ module _ (found : Cat) (u : Undone found) (h : Handled) (m : Marked) (d : Done) 
     -- a catalogue with so many bytes shown, where that many requests are shown whole, and that many done
     made : (c : Cat) (k w n : ℕ) → IsOfRun found c → whole_in (replies_of more) (bytes + k) ≡ w → max w c.numbers.last ≡ n → n ≤ suc size
         → c.numbers.last ≤ w + 1
-        → (s : State) → state_behind found u more n ≡ s → HasRules c s.rules → grid_of c ≡ s.grid → (c.numbers.last < w + 1 → told_within more w (bytes + k) ≡ [])
-        → IsBehindSome found u more c (bytes + k)
-    made c k w n its whole most within near s state rules grid told =
+        → (s : State) → state_behind found u more n ≡ s → HasRules c s.rules → grid_of c ≡ s.grid → IsAt found u more n c → LastHadNumbers more n
+        → (c.numbers.last < w + 1 → told_within more w (bytes + k) ≡ []) → IsBehindSome found u more c (bytes + k)
+    made c k w n its whole most within near s state rules grid at_one had told =
         let r : reached_by found u more c (bytes + k) ≡ n = ap (λ i. max i c.numbers.last) whole ∙ most in
         let e : s ≡ state_behind found u more (reached_by found u more c (bytes + k)) = sym (ap (state_behind found u more) r ∙ state) in
         record {
@@ -271,24 +347,49 @@ module _ (found : Cat) (u : Undone found) (h : Handled) (m : Marked) (d : Done) 
           near = omega (arith, near, whole);
           rules = subst (λ (x : State). HasRules c x.rules) e rules;
           grid = grid ∙ ap (λ (x : State). x.grid) e;
+          at = subst (λ i. IsAt found u more i c) (sym r) at_one;
+          had_numbers = subst (LastHadNumbers more) (sym r) had;
           untold = λ less. ap (λ i. told_within more i (bytes + k)) whole ∙ told (omega (arith, less, whole));
         }
 
-    module _ (c : Cat) (its : IsOfRun found c) (last : c.numbers.last ≤ size) (grid : grid_of c ≡ at.grid) (rules : HasRules c at.rules)
-        (marks_are : d.reply.marks ≡ m.marks)
-        (n : ℕ) (n_is : n ≡ size + 1) where
-      -- nothing is seen to be changed, and no mark is told
-      not_changed : (e : Cat) (k : ℕ) → IsLike c e → k < length t → whole_in ts.pieces k ≡ 0 → IsBehindSome found u more e (bytes + k)
-      not_changed e k like less none =
-          made e k size size (like-of found c e its like) (whole_cut k less) (omega (arith, last, like.last)) (omega arith) (omega (arith, last, like.last)) at at_size
-          (like.rules ∙ rules) (like.grid ∙ grid) (λ l. told_next k ∙ ap (λ i. take i m.marks) none)
+    module _ (c : Cat) (its : IsOfRun found c) (is_last : slice_get (cats_of h) size ≡ Some c) (last : c.numbers.last ≤ size)
+        (grid : grid_of c ≡ at.grid) (rules : HasRules c at.rules) (marks_are : d.reply.marks ≡ m.marks) (n : ℕ) (n_is : n ≡ size + 1)
+        (request : Request) (means : MeansRequest at m.asked request) (had_last : LastHadNumbers h size) where
+      -- the requests before it, and with it
+      had_before : LastHadNumbers more size
+      had_before = had-more size (omega arith) had_last
+
+      had_after : HadNumbersFor c request d → LastHadNumbers more (suc size)
+      had_after had = had-now h m d ts after size one.begun_length one.done_length (get_cat size c is_last) at request means marks_are had
+
+      no_marks_had : d.reply.marks ≡ [] → LastHadNumbers more (suc size)
+      no_marks_had none = had_after (λ session order is makes some was. absurd (some none))
+
+      at_before : IsAt found u more size c
+      at_before = exact (get_cat size c is_last)
+
+      at_after : IsAt found u more (suc size) after
+      at_after = exact get_after
+
+      -- it asks for a sweep, which is under way
+      at_swept : (e : Cat) → IsSweep request → GivesNone c e → GivesNone e after → IsAt found u more size e
+      at_swept e asks since until =
+          amid_sweep c after m (get_cat size c is_last) get_after (ap (slice_get more.begun) (sym one.begun_length) ∙ get-last h.begun m)
+          (asks-sweep at m.asked request means asks) since until
+
+      -- nothing is changed, and no mark is told
+      not_changed : (k : ℕ) → k < length t → whole_in ts.pieces k ≡ 0 → IsBehindSome found u more c (bytes + k)
+      not_changed k less none =
+          made c k size size its (whole_cut k less) (omega (arith, last)) (omega arith) (omega (arith, last)) at at_size rules grid at_before had_before
+          (λ l. told_next k ∙ ap (λ i. take i m.marks) none)
 
       -- it is pending, and no more marks are told than are kept
-      waiting : (e : Cat) (p : Pending) (k : ℕ) (request : Request) → MeansRequest at m.asked request → IsAmid c e → p.line ≡ m.asked.line
+      waiting : (e : Cat) (p : Pending) (k : ℕ) → IsAmid c e → GivesFew c e (length p.marks + 1) → p.line ≡ m.asked.line
           → WaitsInDeed at n request d.reply.marks e p → TellsFew ts.pieces (length t) (length p.marks) k → IsAmidSome found u more e p size (bytes + k)
-      waiting e p k request means amid line waits tells =
+      waiting e p k amid few line waits tells =
           let whole : whole_in (replies_of more) (bytes + k) ≡ size = whole_cut k tells.cut in
-          let first : AreFirst (take (whole_in ts.pieces k) m.marks) p.marks = first-kept m.marks p.marks (whole_in ts.pieces k) (subst (λ (x : List Mark). AreFirst p.marks x) marks_are waits.kept) tells.few in
+          let first : AreFirst (take (whole_in ts.pieces k) m.marks) p.marks =
+          first-kept m.marks p.marks (whole_in ts.pieces k) (subst (λ (x : List Mark). AreFirst p.marks x) marks_are waits.kept) tells.few in
           record {
             of_run = amid-of found c e its amid;
             reached = ap (λ j. max j e.numbers.last) whole ∙ omega (arith, last, amid.last);
@@ -304,29 +405,56 @@ module _ (found : Cat) (u : Undone found) (h : Handled) (m : Marked) (d : Done) 
                   (subst (λ j. WaitsInDeed at j request m.marks e p) n_is (subst (λ (x : List Mark). WaitsInDeed at n request x e p) marks_are waits));
             };
             told = subst (λ (x : List Mark). AreFirst x p.marks) (sym (ap (λ j. told_within more j (bytes + k)) whole ∙ told_next k)) first;
+            since = λ x is.
+                let same : x ≡ c = same_Some x c (sym is ∙ get_cat size c is_last) in
+                let P : Cat → Type 0 = λ y. KeepsNumbers y e × GivesFew y e (length p.marks + 1) in
+                subst P (sym same) (amid.keeps, few);
           }
 
       -- it was kept
-      changed : (e : Cat) (k : ℕ) → IsLeftBehind c n d e → (k < length t) ⊎ (length t ≡ k) → IsBehindSome found u more e (bytes + k)
-      changed e k behind (inl less) =
-          made e k size (suc size) (behind-of found c n d e its behind) (whole_cut k less) (omega (arith, behind.last, n_is)) (omega arith) (omega (arith, behind.last, n_is)) d.state at_next
-          behind.rules behind.grid (λ l. absurd (omega (arith, l, behind.last, n_is)))
-      changed e k behind (inr all) =
-          made e k (suc size) (suc size) (behind-of found c n d e its behind) (whole_full k all) (omega (arith, behind.last, n_is)) (omega arith) (omega (arith, behind.last, n_is)) d.state at_next
-          behind.rules behind.grid (λ l. told_past k)
+      changed : (k : ℕ) → IsLeftBehind c n d after → HadNumbersFor c request d → (k < length t) ⊎ (length t ≡ k) → IsBehindSome found u more after (bytes + k)
+      changed k behind had (inl less) =
+          made after k size (suc size) (behind-of found c n d after its behind) (whole_cut k less) (omega (arith, behind.last, n_is)) (omega arith)
+          (omega (arith, behind.last, n_is)) d.state at_next behind.rules behind.grid at_after (had_after had)
+          (λ l. absurd (omega (arith, l, behind.last, n_is)))
+      changed k behind had (inr all) =
+          made after k (suc size) (suc size) (behind-of found c n d after its behind) (whole_full k all) (omega (arith, behind.last, n_is)) (omega arith)
+          (omega (arith, behind.last, n_is)) d.state at_next behind.rules behind.grid at_after (had_after had) (λ l. told_past k)
 
-      -- there was nothing to keep
-      no_change : (e : Cat) (k : ℕ) → IsLike c e → m.marks ≡ [] → d.state.grid ≡ grid_of c → HasRules c d.state.rules → (k < length t) ⊎ (length t ≡ k) → IsBehindSome found u more e (bytes + k)
-      no_change e k like no_marks same its_rules (inl less) =
+      -- nothing is seen of it, before its whole text is shown and then
+      no_change : (e : Cat) (k : ℕ) → IsLike c e → m.marks ≡ [] → k < length t → IsAt found u more size e → IsBehindSome found u more e (bytes + k)
+      no_change e k like no_marks less at_one =
           made e k size size (like-of found c e its like) (whole_cut k less) (omega (arith, last, like.last)) (omega arith) (omega (arith, last, like.last)) at at_size
-          (like.rules ∙ rules) (like.grid ∙ grid) (λ l. told_next k ∙ ap (take (whole_in ts.pieces k)) no_marks ∙ take_nil (whole_in ts.pieces k))
-      no_change e k like no_marks same its_rules (inr all) =
-          made e k (suc size) (suc size) (like-of found c e its like) (whole_full k all) (omega (arith, last, like.last)) (omega arith) (omega (arith, last, like.last)) d.state at_next
-          (like.rules ∙ its_rules) (like.grid ∙ sym same) (λ l. told_past k)
+          (like.rules ∙ rules) (like.grid ∙ grid) at_one had_before
+          (λ l. told_next k ∙ ap (take (whole_in ts.pieces k)) no_marks ∙ take_nil (whole_in ts.pieces k))
 
-      follows : (e : Cat) (k : ℕ) → ComesAfter c n d e → (k < length t) ⊎ (length t ≡ k) → IsBehindSome found u more e (bytes + k)
-      follows e k (kept behind) most = changed e k behind most
-      follows e k (unseen like no_marks grid_same its_rules) most = no_change e k like (sym marks_are ∙ no_marks) grid_same its_rules most
+      no_change_told : (k : ℕ) → IsLike c after → m.marks ≡ [] → d.state.grid ≡ grid_of c → HasRules c d.state.rules → length t ≡ k
+          → IsBehindSome found u more after (bytes + k)
+      no_change_told k like no_marks same its_rules all =
+          made after k (suc size) (suc size) (like-of found c after its like) (whole_full k all) (omega (arith, last, like.last)) (omega arith) (omega (arith, last, like.last))
+          d.state at_next (like.rules ∙ its_rules) (like.grid ∙ sym same) at_after (no_marks_had (marks_are ∙ no_marks)) (λ l. told_past k)
+
+      follows_unseen : (k : ℕ) → c ≡ after → m.marks ≡ [] → d.state.grid ≡ grid_of c → HasRules c d.state.rules → (k < length t) ⊎ (length t ≡ k)
+          → IsBehindSome found u more after (bytes + k)
+      follows_unseen k same no_marks grid_same its_rules (inl less) =
+          let P : Cat → Type 0 = λ x. IsBehindSome found u more x (bytes + k) in
+          subst P same (no_change c k (like_self c) no_marks less at_before)
+      follows_unseen k same no_marks grid_same its_rules (inr all) =
+          let P : Cat → Type 0 = λ x. IsLike c x in
+          no_change_told k (subst P same (like_self c)) no_marks grid_same its_rules all
+
+      follows_swept : (k : ℕ) → IsSweep request → IsLike c after → GivesNone c after → m.marks ≡ [] → d.state.grid ≡ grid_of c → HasRules c d.state.rules
+          → (k < length t) ⊎ (length t ≡ k) → IsBehindSome found u more after (bytes + k)
+      follows_swept k asks like gives no_marks grid_same its_rules (inl less) = no_change after k like no_marks less (at_swept after asks gives (none_self after))
+      follows_swept k asks like gives no_marks grid_same its_rules (inr all) = no_change_told k like no_marks grid_same its_rules all
+
+      follows : (e : Cat) → e ≡ after → (k : ℕ) → ComesAfter c n request d e → (k < length t) ⊎ (length t ≡ k) → IsBehindSome found u more after (bytes + k)
+      follows e same k (kept behind had) most = changed k (let P : Cat → Type 0 = λ x. IsLeftBehind c n d x in subst P same behind) had most
+      follows e same k (unseen is no_marks grid_same its_rules) most = follows_unseen k (sym is ∙ same) (sym marks_are ∙ no_marks) grid_same its_rules most
+      follows e same k (swept asks like gives no_marks grid_same its_rules) most =
+          let P : Cat → Type 0 = λ x. IsLike c x × GivesNone c x in
+          let so = subst P same (like, gives) in
+          follows_swept k asks so.0 so.1 (sym marks_are ∙ no_marks) grid_same its_rules most
 
   -- ---- a part of its text is shown
 
@@ -442,30 +570,31 @@ untold_cut [] t rest k some e untold = (omega (arith, some, untold), refl)
 untold_cut (u ∷ ts) t rest k some e untold =
     (omega (arith, untold, ap length e, length-append (u ++ joined_texts ts) rest, length-append u (joined_texts ts)), whole-less u ts k untold)
 
--- while a request is handled a stop leaves that nothing is seen of it, that it is pending, or that it is kept
-pub image-one : (found : Cat) (u : Undone found) (c : Cat) (h : Handled) (m : Marked) (d : Done) (ts : SureTexts) (n : ℕ)
-    → IsOneMore h m d ts (reply_text n d.reply ts.pieces) → (at : State) (request : Request)
-    → MeansRequest at m.asked request → state_behind found u h (length (replies_of h)) ≡ at → HasRules c at.rules → IsOfRun found c
-    → c.numbers.last ≤ length (replies_of h) → grid_of c ≡ at.grid
-    → d.reply.marks ≡ m.marks → n ≡ length (replies_of h) + 1 → (old_sink shown main sink : Text)
-    → shown ≡ (old_sink ++ whole_report found u) ++ joined_texts (replies_of h)
-    → ((e : Cat) → StandsFor main e → HasLine m.asked.line e.pending) → OneOf at c n request d ts shown main sink
-    → OneOfRun found u (with_one h m d ts) old_sink main sink
-image-one found u c h m d ts n one at request means at_is rules its last grid marks_are n_is old_sink shown main sink shown_is noted
-    (not_kept e like stands adds untold) =
-    let cut = untold_cut ts.pieces (reply_text n d.reply ts.pieces) one.rest adds.count one.has_bytes one.pieces_first untold in
-    image_by found u h m d ts (reply_text n d.reply ts.pieces) one old_sink shown sink shown_is adds main e stands
-    (not_changed found u h m d ts (reply_text n d.reply ts.pieces) one at at_is c its last grid rules marks_are n n_is e adds.count like cut.0 cut.1)
-image-one found u c h m d ts n one at request means at_is rules its last grid marks_are n_is old_sink shown main sink shown_is noted
-    (in_deed_so e p amid waits stands adds tells) =
-    image_waiting found u h m d ts (reply_text n d.reply ts.pieces) one old_sink shown sink shown_is adds main e p stands
-    (waiting found u h m d ts (reply_text n d.reply ts.pieces) one at at_is c its last grid rules marks_are n n_is e p adds.count request means amid
-    (subst (HasLine m.asked.line) waits.is (noted e stands)) waits tells)
-image-one found u c h m d ts n one at request means at_is rules its last grid marks_are n_is old_sink shown main sink shown_is noted
-    (kept_so e after stands adds) =
-    image_by found u h m d ts (reply_text n d.reply ts.pieces) one old_sink shown sink shown_is adds main e stands
-    (follows found u h m d ts (reply_text n d.reply ts.pieces) one at at_is c its last grid rules marks_are n n_is e adds.count after
-    (cut_or_full found u h m d ts (reply_text n d.reply ts.pieces) one old_sink shown sink shown_is adds))
+module _ (found : Cat) (u : Undone found) (c : Cat) (h : Handled) (m : Marked) (d : Done) (ts : SureTexts) (after : Cat) (n : ℕ)
+    (one : IsOneMore h m d ts after (reply_text n d.reply ts.pieces)) (at : State) (request : Request)
+    (means : MeansRequest at m.asked request) (at_is : state_behind found u h (length (replies_of h)) ≡ at) (rules : HasRules c at.rules)
+    (its : IsOfRun found c) (is_last : slice_get (cats_of h) (length (replies_of h)) ≡ Some c) (last : c.numbers.last ≤ length (replies_of h))
+    (grid : grid_of c ≡ at.grid) (marks_are : d.reply.marks ≡ m.marks) (n_is : n ≡ length (replies_of h) + 1)
+    (had_last : LastHadNumbers h (length (replies_of h))) (old_sink shown main sink : Text)
+    (shown_is : shown ≡ (old_sink ++ whole_report found u) ++ joined_texts (replies_of h))
+    (noted : (e : Cat) → StandsFor main e → HasLine m.asked.line e.pending) where
+  abbrev its_text : Text
+  its_text = reply_text n d.reply ts.pieces
+
+  -- while a request is handled a stop leaves that nothing is changed, that it is pending, or that it is kept
+  pub image-one : OneOf at c after n request d ts shown main sink → OneOfRun found u (with_one h m d ts after) old_sink main sink
+  image-one (not_kept stands adds untold) =
+      let cut = untold_cut ts.pieces its_text one.rest adds.count one.has_bytes one.pieces_first untold in
+      image_by found u h m d ts after its_text one old_sink shown sink shown_is adds main c stands
+      (not_changed found u h m d ts after its_text one at at_is c its is_last last grid rules marks_are n n_is request means had_last adds.count cut.0 cut.1)
+  image-one (in_deed_so e p amid few waits stands adds tells) =
+      image_waiting found u h m d ts after its_text one old_sink shown sink shown_is adds main e p stands
+      (waiting found u h m d ts after its_text one at at_is c its is_last last grid rules marks_are n n_is request means had_last e p adds.count amid few
+      (subst (HasLine m.asked.line) waits.is (noted e stands)) waits tells)
+  image-one (kept_so comes stands adds) =
+      image_by found u h m d ts after its_text one old_sink shown sink shown_is adds main after stands
+      (follows found u h m d ts after its_text one at at_is c its is_last last grid rules marks_are n n_is request means had_last after refl adds.count comes
+      (cut_or_full found u h m d ts after its_text one old_sink shown sink shown_is adds))
 
 -- ---- texts have bytes
 

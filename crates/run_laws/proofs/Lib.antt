@@ -9,12 +9,13 @@ pub mod Recoveries
 pub mod Images
 pub mod Sureness
 pub mod Beginning
-pub mod FirstDeeds
 pub mod Orphans
 pub mod More
 pub mod Opening
 pub mod Silent
 pub mod Quiet
+pub mod RunOf
+pub mod Silence
 pub mod Runs
 pub mod RunLaws
 pub mod OneMark

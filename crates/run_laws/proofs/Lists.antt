@@ -1,8 +1,9 @@
 -- Requests that were handled, one more.
-use Rattle.std.proofs.Common.{◌≡◌, ℕ, zero, suc, ◌+◌, ◌<◌, ◌≤◌, List, [], ◌∷◌, ◌++◌, length, slice_get, Option, Some, refl, ap, ◌∙◌, subst, arith}
+use Rattle.std.proofs.Common.{◌≡◌, ℕ, zero, suc, ◌+◌, ◌<◌, ◌≤◌, List, [], ◌∷◌, ◌++◌, length, slice_get, Option, Some, refl, sym, ap, ◌∙◌, subst, arith}
 use Rattle.std.specs.List.{AllByRecursion}
 use Rattle.std.proofs.lemmas.List.{append-nil}
 use Rattle.std.proofs.lemmas.Grind.{flat_map-append}
+use Rattle.std.proofs.lemmas.Option.{same_Some}
 use Rattle.grid_model.specs.Grid.{Grid}
 use Rattle.grid_model.specs.Names.{Text}
 use Rattle.grid_model.specs.Inputs.{Asked}
@@ -16,6 +17,8 @@ use Rattle.grid_model.specs.declared.marks.Mark.{Mark}
 use Rattle.grid_headline.specs.Ends.{AllStill, IsStill}
 use Rattle.grid_headline.specs.Reads.{MeansRequest}
 use Rattle.grid_headline.specs.Served.{AllPieces, reply_texts, marks_of, asked_of}
+use Rattle.grid_model.specs.Rows.{Cat}
+use Rattle.run_laws.specs.Handled.{AllGaveFew, GaveFew}
 use Rattle.run_laws.specs.Sofar.{AllByRows}
 
 -- ---- lists
@@ -70,6 +73,33 @@ pub by_rows-push : {s end : State} {ms : List Marked} {ds : List Done} (m : Mark
     → AllByRows (ms ++ m ∷ []) (ds ++ d ∷ [])
 by_rows-push m d none rows row = (row, tt)
 by_rows-push m d (next request means did left more) rows row = (rows.0, by_rows-push m d more rows.1 row)
+
+-- ---- the catalogues behind them
+
+pub few-length : (c : Cat) (ms : List Marked) (es : List Cat) → AllGaveFew c ms es → length es ≡ length ms
+few-length c [] [] all = refl
+few-length c (m ∷ ms) (e ∷ es) all = ap suc (few-length e ms es all.1)
+few-length c [] (e ∷ es) all = absurd all
+few-length c (m ∷ ms) [] all = absurd all
+
+pub few-push : (c e f : Cat) (ms : List Marked) (es : List Cat) (m : Marked) → AllGaveFew c ms es → slice_get (c ∷ es) (length ms) ≡ Some e
+    → GaveFew e m f → AllGaveFew c (ms ++ m ∷ []) (es ++ f ∷ [])
+few-push c e f [] [] m all last gave = (let P : Cat → Type 0 = λ x. GaveFew x m f in subst P (sym (same_Some c e last)) gave, tt)
+few-push c e f (n ∷ ms) (x ∷ es) m all last gave = (all.0, few-push x e f ms es m all.1 last gave)
+few-push c e f [] (x ∷ es) m all last gave = absurd all
+few-push c e f (n ∷ ms) [] m all last gave = absurd all
+
+-- that behind one of them
+pub few-at : (c e f : Cat) (ms : List Marked) (es : List Cat) (m : Marked) (n : ℕ) → AllGaveFew c ms es → slice_get (c ∷ es) n ≡ Some e
+    → slice_get es n ≡ Some f → slice_get ms n ≡ Some m → GaveFew e m f
+few-at c e f (m ∷ ms) (x ∷ es) p zero all is_e is_f is_m = by (same_Some c e is_e) (same_Some x f is_f) (same_Some m p is_m)
+  where
+    by : c ≡ e → x ≡ f → m ≡ p → GaveFew e p f
+    by h i j = rw (sym h, sym i, sym j) all.0
+few-at c e f (m ∷ ms) (x ∷ es) p (suc n) all is_e is_f is_m = few-at x e f ms es p n all.1 is_e is_f is_m
+few-at c e f [] [] p n all is_e is_f is_m = absurd (cc is_f)
+few-at c e f [] (x ∷ es) p n all is_e is_f is_m = absurd all
+few-at c e f (m ∷ ms) [] p n all is_e is_f is_m = absurd all
 
 -- ---- requests that change nothing
 

@@ -1,7 +1,8 @@
 -- One more request, behind those that were handled.
-use Rattle.std.proofs.Common.{◌≡◌, ◌⊎◌, inl, inr, ℕ, ◌+◌, ◌<◌, ◌≤◌, List, [], ◌∷◌, ◌++◌, None, length, IsTrue, refl, sym, ap, ◌∙◌, subst, append_assoc, length-append, arith}
+use Rattle.std.proofs.Common.{◌≡◌, ◌⊎◌, inl, inr, ℕ, ◌+◌, ◌<◌, ◌≤◌, List, [], ◌∷◌, ◌++◌, None, Some, suc, length, slice_get, IsTrue, refl, sym, ap, ◌∙◌, subst, append_assoc, length-append, arith}
 use Rattle.std.specs.List.{AllByRecursion}
 use Rattle.std.proofs.lemmas.Bool.{cases_lt}
+use Rattle.std.proofs.lemmas.Option.{slice_get_within}
 use Rattle.grid_outside.specs.Device.{IsSettled}
 use Rattle.grid_model.specs.Names.{Text}
 use Rattle.grid_model.specs.Rows.{Cat}
@@ -24,21 +25,22 @@ use Rattle.grid_headline.specs.Stops.{AreFirst}
 use Rattle.grid_headline.specs.Headline.{BeginsOn}
 use Rattle.grid_headline.proofs.OneMeaning.{quits-alone}
 use Rattle.grid_headline.proofs.PutStops.{the_catalogue}
-use Rattle.run_laws.specs.Handled.{Handled, with_one, replies_of, marks_told, IsOfRun, state_behind, OneOfRun, ShowsMost}
-use Rattle.run_laws.specs.Steps.{IsToldOf, ComesAfter, kept, unseen, NotesLine, RequestStep, IsHandledWhole}
+use Rattle.run_laws.specs.Handled.{GaveFew, Handled, LastHadNumbers, cats_of, with_one, replies_of, marks_told, IsOfRun, state_behind, OneOfRun, ShowsMost}
+use Rattle.run_laws.specs.Steps.{HadNumbersFor, IsToldOf, ComesAfter, kept, unseen, swept, NotesLine, RequestStep, IsHandledWhole}
 use Rattle.run_laws.specs.Silent.{LeavesFew}
 use Rattle.run_laws.specs.Sofar.{Ran, Sofar, KeepsWhole, KeepsNames}
 use Rattle.run_laws.specs.Undone.{Undone, whole_report}
 use Rattle.run_laws.specs.Went.{Went, AreInOrder}
 use Rattle.run_laws.proofs.Texts.{joined-push}
-use Rattle.run_laws.proofs.Lists.{all-append, all-map, marks-push, asked-push, asked-length, after-length, after-push, by_rows-push, state-all, many-replies, pieces-push, replies-push, still-split}
+use Rattle.run_laws.proofs.Lists.{all-append, all-map, marks-push, asked-push, asked-length, after-length, after-push, by_rows-push, state-all, many-replies}
+use Rattle.run_laws.proofs.Lists.{pieces-push, replies-push, still-split, few-length, few-push, get-front, get-last}
 use Rattle.run_laws.proofs.Known.{pieces-less, told-less}
 use Rattle.run_laws.proofs.Goings.{disks-settled, whole-now, known-now, went-then, whole-then}
 use Rattle.run_laws.proofs.Causes.{caused-then}
 use Rattle.run_laws.proofs.Draws.{gave-then}
 use Rattle.run_laws.proofs.BuiltOrders.{is_no_call, removes_nothing}
 use Rattle.run_laws.proofs.Recoveries.{told-behind}
-use Rattle.run_laws.proofs.Images.{IsOneMore, behind-of, like-of, image-more, image-one, shows-one, shown-taken, reply_has}
+use Rattle.run_laws.proofs.Images.{IsOneMore, behind-of, had-now, like-of, image-more, image-one, shows-one, shown-taken, reply_has}
 use Rattle.run_laws.proofs.Sureness.{sure-front, sure-have, sure-less, sure-many, sure-pieces, sure-whole}
 use Rattle.run_laws.proofs.Orphans.{LastOne, swept_last, quit_last, few-before, few-behind, few-swept, last-one, quit-leaves}
 
@@ -110,7 +112,7 @@ module _ {B : Type 0} (old mid new : World B) (found c : Cat) (at : State) (aske
   m = record { asked = a; marks = step.marks }
 
   abbrev more : Handled
-  more = with_one h m step.d step.texts
+  more = with_one h m step.d step.texts step.next
 
   -- its text, by the texts of its marks
   abbrev its_text : Text
@@ -122,7 +124,10 @@ module _ {B : Type 0} (old mid new : World B) (found c : Cat) (at : State) (aske
   texts_are : replies_of more ≡ replies_of h ++ its_text ∷ []
   texts_are = replies-push known 1 (length asked + 1) h.done h.pieces step.d step.texts.pieces (omega (arith, done-many old mid found at asked so.ran)) so.pieces_are
 
-  pub one-more : IsOneMore h m step.d step.texts its_text
+  cats_many : length h.behind ≡ length asked
+  cats_many = few-length h.first h.begun h.behind so.ran.all_few ∙ begun-many old mid found at asked so.ran
+
+  pub one-more : IsOneMore h m step.d step.texts step.next its_text
   one-more =
       let replies = replies-many old mid found at asked so.ran in
       let front = sure-front (IsKnown mid c) (length asked + 1) step.d step.texts.pieces step.texts.sure step.are_sure in
@@ -131,6 +136,7 @@ module _ {B : Type 0} (old mid new : World B) (found c : Cat) (at : State) (aske
         begun_length = begun-many old mid found at asked so.ran ∙ sym replies;
         done_length = done-many old mid found at asked so.ran ∙ sym replies;
         pieces_length = texts-many old mid found at asked so.ran ∙ done-many old mid found at asked so.ran ∙ sym replies;
+        cats_length = cats_many ∙ sym replies;
         has_bytes = reply_has (length asked + 1) step.d.reply step.texts.pieces;
         pieces_have = sure-have (IsKnown mid c) (length asked + 1) step.d step.texts.pieces step.texts.sure step.are_sure;
         rest = rest_lines (length asked + 1) step.d.reply;
@@ -167,12 +173,14 @@ module _ {B : Type 0} (old mid new : World B) (found c : Cat) (at : State) (aske
 
         by : (mid.moments < t) ⊎ (t ≤ mid.moments) → OneOfRun found u more old.sink.holds main sink
         by (inl later) =
-            image-one found u c h m step.d step.texts (length asked + 1) one-more at request means (state-now old mid found at asked so.ran) so.rules so.of_run
+            image-one found u c h m step.d step.texts step.next (length asked + 1) one-more at request means (state-now old mid found at asked so.ran) so.rules so.of_run
+            (ap (slice_get (cats_of h)) (replies-many old mid found at asked so.ran) ∙ so.is_last)
             (omega (arith, so.last, replies-many old mid found at asked so.ran)) so.grid step.marks_are (omega (arith, replies-many old mid found at asked so.ran))
+            (subst (LastHadNumbers h) (sym (replies-many old mid found at asked so.ran)) so.had_numbers)
             old.sink.holds mid.sink.holds main sink (so.text tells) (λ e stands. noted mid_tells (so.main_settled settled.disks.of_main) t main e later main_left stands)
             (step.images mid_tells sink-mid (so.main_settled settled.disks.of_main) (so.sink_settled tells settled.of_sink) t main sink later main_left sink_left)
         by (inr early) =
-            image-more found u h m step.d step.texts its_text one-more old.sink.holds main sink
+            image-more found u h m step.d step.texts step.next its_text one-more old.sink.holds main sink
             (so.ran.images tells settled t main sink late (then.main.earlier t main early main_left) (then.sink.earlier t sink early sink_left))
 
   -- where all of its text is sure, each of its marks has a text
@@ -181,7 +189,7 @@ module _ {B : Type 0} (old mid new : World B) (found c : Cat) (at : State) (aske
       sure-many (IsKnown mid c) (length asked + 1) step.d step.texts.pieces step.texts.sure step.are_sure reaches ∙ ap length step.marks_are
 
   abbrev shown-part : IsTrue old.sink.tells → ShowsMost (whole_report found u) more old.sink.holds new.sink.holds
-  shown-part tells = shows-one found u h m step.d step.texts its_text one-more old.sink.holds mid.sink.holds new.sink.holds (so.text tells)
+  shown-part tells = shows-one found u h m step.d step.texts step.next its_text one-more old.sink.holds mid.sink.holds new.sink.holds (so.text tells)
       (step.shown (sink-mid tells)).part
 
   -- the marks that are told are the first of those that were come to
@@ -189,7 +197,7 @@ module _ {B : Type 0} (old mid new : World B) (found c : Cat) (at : State) (aske
   told-drawn tells =
       let s = step.shown (sink-mid tells) in
       let part = (shown-part tells).part in
-      let first = shown-taken found u h m step.d step.texts its_text one-more old.sink.holds mid.sink.holds new.sink.holds
+      let first = shown-taken found u h m step.d step.texts step.next its_text one-more old.sink.holds mid.sink.holds new.sink.holds
       (so.text tells) s.part step.taken step.first many_pieces s.few in
       let all : u.report ++ (marks_of h.begun ++ step.taken) ≡ so.ran.drawn ++ step.taken =
       sym (append_assoc u.report (marks_of h.begun) step.taken) ∙ ap (λ (x : List Mark). x ++ step.taken) (sym so.all_drawn) in
@@ -206,6 +214,10 @@ module _ {B : Type 0} (old mid new : World B) (found c : Cat) (at : State) (aske
       (sure-less (IsKnown mid c) known (known-so old mid found c at asked so begin order) (length asked + 1) step.d step.texts.pieces step.texts.sure step.are_sure))
       (ap (λ (s : Text). s ++ step.texts.sure) so.all_sure)
 
+  -- few numbers were given for it
+  pub gave-few : GaveFew c m step.next
+  gave-few = record { keeps = step.keeps; few = step.few }
+
   -- it was begun, and maybe not handled whole
   abbrev pub ran-more : Ran old new found step.d.state (asked ++ a ∷ [])
   ran-more = record {
@@ -216,6 +228,9 @@ module _ {B : Type 0} (old mid new : World B) (found c : Cat) (at : State) (aske
     are_sure = sure-more;
     told_of = told-more;
     by_rows = by_rows-push m step.d so.ran.after so.ran.by_rows step.by_rows;
+    few_before = so.ran.few_before;
+    all_few = few-push h.first c step.next h.begun h.behind m so.ran.all_few
+        (ap (slice_get (cats_of h)) (begun-many old mid found at asked so.ran) ∙ so.is_last) gave-few;
     went = went-then old mid new so.ran.went then;
     shown = shown-part;
     caused = subst (AreCaused old new) (sym marks_more) (caused-then old mid new (u.report ++ marks_of h.begun) step.marks so.ran.went.count so.ran.caused step.caused);
@@ -252,24 +267,43 @@ module _ {B : Type 0} (old mid new : World B) (found c : Cat) (at : State) (aske
     pub of-run-more : IsOfRun found after
     of-run-more = by whole.follows
       where
-        by : ComesAfter c (length asked + 1) step.d after → IsOfRun found after
-        by (kept behind) = behind-of found c (length asked + 1) step.d after so.of_run behind
-        by (unseen like no_marks grid rules) = like-of found c after so.of_run like
+        by : ComesAfter c (length asked + 1) request step.d after → IsOfRun found after
+        by (kept behind had) = behind-of found c (length asked + 1) step.d after so.of_run behind
+        by (unseen is no_marks grid rules) = let P : Cat → Type 0 = λ x. IsOfRun found x in subst P (sym is) so.of_run
+        by (swept asks like gives no_marks grid rules) = like-of found c after so.of_run like
 
     last_more : after.numbers.last ≤ length (asked ++ a ∷ [])
     last_more = by whole.follows
       where
-        by : ComesAfter c (length asked + 1) step.d after → after.numbers.last ≤ length (asked ++ a ∷ [])
-        by (kept behind) = omega (arith, behind.last, length-append asked (a ∷ []))
-        by (unseen like no_marks grid rules) = omega (arith, like.last, so.last, length-append asked (a ∷ []))
+        by : ComesAfter c (length asked + 1) request step.d after → after.numbers.last ≤ length (asked ++ a ∷ [])
+        by (kept behind had) = omega (arith, behind.last, length-append asked (a ∷ []))
+        by (unseen is no_marks grid rules) = omega (arith, ap (λ (x : Cat). x.numbers.last) is, so.last, length-append asked (a ∷ []))
+        by (swept asks like gives no_marks grid rules) = omega (arith, like.last, so.last, length-append asked (a ∷ []))
 
     -- it has the rules that the request left
     pub rules-more : HasRules after step.d.state.rules
     rules-more = by whole.follows
       where
-        by : ComesAfter c (length asked + 1) step.d after → HasRules after step.d.state.rules
-        by (kept behind) = behind.rules
-        by (unseen like no_marks grid rules) = like.rules ∙ rules
+        by : ComesAfter c (length asked + 1) request step.d after → HasRules after step.d.state.rules
+        by (kept behind had) = behind.rules
+        by (unseen is no_marks grid rules) = ap (λ (x : Cat). x.rules) is ∙ rules
+        by (swept asks like gives no_marks grid rules) = like.rules ∙ rules
+
+    -- what makes files was done by it only where there was a number for them
+    had-more : LastHadNumbers more (suc (length asked))
+    had-more = by whole.follows
+      where
+        is_last : slice_get (cats_of more) (length asked) ≡ Some c
+        is_last = get-front (cats_of h) (step.next ∷ []) (length asked) (slice_get_within (cats_of h) (length asked) c so.is_last) ∙ so.is_last
+
+        so_if : HadNumbersFor c request step.d → LastHadNumbers more (suc (length asked))
+        so_if had = had-now h m step.d step.texts step.next (length asked) (begun-many old mid found at asked so.ran) (done-many old mid found at asked so.ran)
+            is_last at request means step.marks_are had
+
+        by : ComesAfter c (length asked + 1) request step.d after → LastHadNumbers more (suc (length asked))
+        by (kept behind had) = so_if had
+        by (unseen is no_marks grid rules) = so_if (λ session order asks makes some was. absurd (some no_marks))
+        by (swept asks like gives no_marks grid rules) = so_if (λ session order asks makes some was. absurd (some no_marks))
 
     pub stands-more : StandsFor new.main.holds after
     stands-more = whole.stands (subst IsTrue (sym so.ran.went.main.tells) begin.main_tells)
@@ -319,6 +353,10 @@ module _ {B : Type 0} (old mid new : World B) (found c : Cat) (at : State) (aske
       text = text-more;
       of_run = of-run-more;
       last = last_more;
+      is_last =
+          let size : length (asked ++ a ∷ []) ≡ suc (length h.behind) = length-append asked (a ∷ []) ∙ omega (arith, cats_many) in
+          ap (slice_get (cats_of more)) size ∙ get-last h.behind step.next ∙ ap Some whole.is_next;
+      had_numbers = subst (LastHadNumbers more) (sym (length-append asked (a ∷ []) ∙ omega arith)) had-more;
       grid = whole.grid ∙ ap (λ (s : State). s.grid) (sym whole.state);
       rules = rules-more;
       still = still-more;

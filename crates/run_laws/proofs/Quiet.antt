@@ -17,8 +17,9 @@ use Rattle.grid_headline.specs.Reads.{HasRules}
 use Rattle.grid_headline.specs.Served.{NoneSweeps, joined_texts, whole_in, marks_of}
 use Rattle.grid_headline.specs.Stops.{AreFirst}
 use Rattle.grid_headline.specs.Headline.{BeginsOn}
-use Rattle.run_laws.specs.Handled.{Handled, replies_of, marks_told, marks_within, reached_by, state_behind, IsBehindSome, OneOfRun, in_run, ShowsMost}
-use Rattle.run_laws.specs.Steps.{IsLike, Gave, IsQuiet}
+use Rattle.run_laws.specs.Handled.{Handled, LastHadNumbers, replies_of, marks_told, marks_within, reached_by, state_behind, IsAt, exact, IsBehindSome, OneOfRun}
+use Rattle.run_laws.specs.Handled.{in_run, ShowsMost}
+use Rattle.run_laws.specs.Steps.{Gave, IsQuiet}
 use Rattle.run_laws.specs.Sofar.{Ran, Sofar, KeepsWhole, KeepsNames}
 use Rattle.run_laws.specs.Undone.{Undone, whole_report}
 use Rattle.run_laws.specs.Went.{Went, AreInOrder}
@@ -27,7 +28,7 @@ use Rattle.run_laws.proofs.Goings.{went-then}
 use Rattle.run_laws.proofs.Causes.{caused-on}
 use Rattle.run_laws.proofs.Draws.{gave-then, shown-first}
 use Rattle.run_laws.proofs.Recoveries.{told-behind}
-use Rattle.run_laws.proofs.Images.{like-of, shows-all, shows-whole}
+use Rattle.run_laws.proofs.Images.{shows-all, shows-whole}
 use Rattle.run_laws.proofs.More.{begun-many, replies-many, state-now, whole-so, named-so}
 
 module _ {B : Type 0} (old mid new : World B) (found c : Cat) (at : State) (asked : List Asked) (begin : BeginsOn old found) (order : AreInOrder mid)
@@ -48,20 +49,22 @@ module _ {B : Type 0} (old mid new : World B) (found c : Cat) (at : State) (aske
   pub sink-mid : IsTrue old.sink.tells → IsTrue mid.sink.tells
   sink-mid tells = subst IsTrue (sym so.ran.went.sink.tells) tells
 
-  -- a catalogue in which nothing is seen to be changed, with all replies shown
-  like_all : (e : Cat) → IsLike c e → IsBehindSome found u h e bytes
-  like_all e like =
+  -- the catalogue, with all replies shown
+  all_shown : IsBehindSome found u h c bytes
+  all_shown =
       let w : whole_in (replies_of h) bytes ≡ length (replies_of h) = whole-all (replies_of h) in
       let many = replies-many old mid found at asked so.ran in
       let many_begun = begun-many old mid found at asked so.ran in
-      let r : reached_by found u h e bytes ≡ length (replies_of h) = ap (λ k. max k e.numbers.last) w ∙ omega (arith, like.last, so.last, many) in
-      let s : state_behind found u h (reached_by found u h e bytes) ≡ at = ap (state_behind found u h) r ∙ state-now old mid found at asked so.ran in
+      let r : reached_by found u h c bytes ≡ length (replies_of h) = ap (λ k. max k c.numbers.last) w ∙ omega (arith, so.last, many) in
+      let s : state_behind found u h (reached_by found u h c bytes) ≡ at = ap (state_behind found u h) r ∙ state-now old mid found at asked so.ran in
       record {
-        of_run = like-of found c e so.of_run like;
+        of_run = so.of_run;
         within = omega (arith, r, many, many_begun);
-        near = omega (arith, w, like.last, so.last, many);
-        rules = subst (λ (x : State). HasRules e x.rules) (sym s) (like.rules ∙ so.rules);
-        grid = like.grid ∙ so.grid ∙ ap (λ (x : State). x.grid) (sym s);
+        near = omega (arith, w, so.last, many);
+        rules = subst (λ (x : State). HasRules c x.rules) (sym s) so.rules;
+        grid = so.grid ∙ ap (λ (x : State). x.grid) (sym s);
+        at = subst (λ n. IsAt found u h n c) (sym (r ∙ many)) (exact so.is_last);
+        had_numbers = subst (LastHadNumbers h) (sym (r ∙ many)) so.had_numbers;
         untold = λ less.
             let past : slice_get h.begun (whole_in (replies_of h) bytes) ≡ None = slice_get_past h.begun (whole_in (replies_of h) bytes) (omega (arith, w, many, many_begun)) in
             ap (λ (o : Option Marked). marks_within o (slice_get h.pieces (whole_in (replies_of h) bytes)) (bytes - length (joined_texts (take (whole_in (replies_of h) bytes) (replies_of h))))) past;
@@ -76,8 +79,8 @@ module _ {B : Type 0} (old mid new : World B) (found c : Cat) (at : State) (aske
           let q = quiet.images (subst IsTrue (sym so.ran.went.main.tells) begin.main_tells) (sink-mid tells) (so.main_settled settled.disks.of_main)
           (so.sink_settled tells settled.of_sink) t main sink later main_left sink_left in
           let behind : bytes ≡ length (report ++ joined_texts (replies_of h)) - length report = omega (arith, length-append report (joined_texts (replies_of h))) in
-          in_run q.0 (report ++ joined_texts (replies_of h)) [] q.2 (q.3 ∙ so.text tells ∙ append_assoc old.sink.holds report (joined_texts (replies_of h)))
-          (ap (λ (x : Text). report ++ x) so.all_sure ∙ sym (append-nil (report ++ joined_texts (replies_of h)))) (subst (IsBehindSome found u h q.0) behind (like_all q.0 q.1))
+          in_run c (report ++ joined_texts (replies_of h)) [] q.0 (q.1 ∙ so.text tells ∙ append_assoc old.sink.holds report (joined_texts (replies_of h)))
+          (ap (λ (x : Text). report ++ x) so.all_sure ∙ sym (append-nil (report ++ joined_texts (replies_of h)))) (subst (IsBehindSome found u h c) behind all_shown)
       by (inr early) = so.ran.images tells settled t main sink late (then.main.earlier t main early main_left) (then.sink.earlier t sink early sink_left)
 
   pub shown_all : IsTrue old.sink.tells → ShowsMost report h old.sink.holds new.sink.holds
@@ -103,6 +106,8 @@ module _ {B : Type 0} (old mid new : World B) (found c : Cat) (at : State) (aske
     are_sure = so.ran.are_sure;
     told_of = so.ran.told_of;
     by_rows = so.ran.by_rows;
+    few_before = so.ran.few_before;
+    all_few = so.ran.all_few;
     went = went-then old mid new so.ran.went then;
     shown = shown_all;
     caused = caused-on old mid new (u.report ++ marks_of h.begun) then so.ran.caused;
@@ -133,6 +138,8 @@ module _ {B : Type 0} (old now : World B) (source : SourceState) where
     are_sure = ran.are_sure;
     told_of = ran.told_of;
     by_rows = ran.by_rows;
+    few_before = ran.few_before;
+    all_few = ran.all_few;
     went = went_on ran.went;
     shown = ran.shown;
     caused = record { counted = ran.caused.counted; there = ran.caused.there };
@@ -157,6 +164,8 @@ module _ {B : Type 0} (old now : World B) (source : SourceState) where
     text = so.text;
     of_run = so.of_run;
     last = so.last;
+    is_last = so.is_last;
+    had_numbers = so.had_numbers;
     grid = so.grid;
     rules = so.rules;
     still = so.still;

@@ -31,9 +31,9 @@ use Rattle.run_laws.proofs.Silent.{ran-swept, sofar-swept}
 
 -- the run is begun, and has swept
 pub none_yet : {B : Type 0} {old mid now : World B} {found begun c : Cat} → BeginsOn old found → (opened : Opened old mid found begun)
-    → Sweeps mid now begun → IsSwept mid now begun c → Sofar old now found c (begins opened.opens.undone.opened.grid opened.opens.undone.rules) []
+    → Sweeps mid now begun c → IsSwept mid now begun c → Sofar old now found c (begins opened.opens.undone.opened.grid opened.opens.undone.rules) []
 none_yet {old = old} {mid = mid} {now = now} {found = found} {begun = begun} {c = c} begin opened sweeps swept =
-    sofar-swept old mid now found begun begin opened sweeps c swept
+    sofar-swept old mid now found begun c begin opened sweeps swept
 
 -- the source alone was read
 pub read_on : {B : Type 0} {old now : World B} {found c : Cat} {at : State} {asked : List Asked} (source : SourceState) → Sofar old now found c at asked
@@ -70,10 +70,10 @@ ends_before {old = old} {now = now} {found = found} {end = end} begin opens stop
     serves old now found (begins opens.undone.opened.grid opens.undone.rules) [] (ran-none old now found opens) (inl (old.source.left, none_taken)) tt begin.main_tells end (inr stops) good
 
 -- the run is begun, and maybe has not swept all
-pub ends_swept : {B : Type 0} {old mid now : World B} {found begun : Cat} {end : RunEnd} → BeginsOn old found → (opened : Opened old mid found begun)
-    → Sweeps mid now begun → StopsSo old now found (begins opened.opens.undone.opened.grid opened.opens.undone.rules) [] end → IsGoodIfNoneFailed old now end → Serves old now found end
-ends_swept {old = old} {mid = mid} {now = now} {found = found} {begun = begun} {end = end} begin opened sweeps stops good =
-    serves old now found (begins opened.opens.undone.opened.grid opened.opens.undone.rules) [] (ran-swept old mid now found begun begin opened sweeps)
+pub ends_swept : {B : Type 0} {old mid now : World B} {found begun left : Cat} {end : RunEnd} → BeginsOn old found → (opened : Opened old mid found begun)
+    → Sweeps mid now begun left → StopsSo old now found (begins opened.opens.undone.opened.grid opened.opens.undone.rules) [] end → IsGoodIfNoneFailed old now end → Serves old now found end
+ends_swept {old = old} {mid = mid} {now = now} {found = found} {begun = begun} {left = left} {end = end} begin opened sweeps stops good =
+    serves old now found (begins opened.opens.undone.opened.grid opened.opens.undone.rules) [] (ran-swept old mid now found begun left begin opened sweeps)
     (inl (old.source.left, none_taken)) tt begin.main_tells end (inr stops) good
 
 -- the input was read, and all is answered

@@ -39,8 +39,9 @@ use Rattle.run_laws.proofs.Causes.{clean, clean-back, clean-both, clean-front, c
 use Rattle.run_laws.proofs.Draws.{AreFirstAt, IsFront, shown, some-all, some-of, some-then, front-shown, some-front, words-shown}
 use Rattle.run_laws.proofs.More.{begun-many, done-many}
 use Rattle.run_laws.proofs.Recoveries.{recoveries-first}
+use Rattle.run_laws.proofs.RunOf.{run-of}
+use Rattle.run_laws.proofs.Silence.{had_numbers, none_silent}
 
--- a mark that a run tells is no stop
 of_unknown : (known : ℕ → Type 0) (stores : ℕ) (m : Mark) → IsToldOf known stores m → IsOfUnknown known stores m
 of_unknown known stores (mark.Ran word now []) told = tt
 of_unknown known stores (mark.Ran word now (b ∷ bad)) told = told
@@ -48,17 +49,13 @@ of_unknown known stores (mark.Fault slot sent) told = tt
 of_unknown known stores (mark.Bad slot len found sent) told = told.1
 of_unknown known stores mark.Stop told = tt
 
-pub no_stop : (known : ℕ → Type 0) (stores : ℕ) (m : Mark) → IsToldOf known stores m → m ≢ Stop
-no_stop known stores m told e = subst (IsToldOf known stores) e told
-
-makes_files : {B : Type 0} {known : ℕ → Type 0} {found : Cat} {input : Text} (run : Run known found input) (old new : World B) (rules : Type 0)
-    (order : Order) → MakesFile order ⊎ rules → MakesFiles run old new order ⊎ IsExec run old new order ⊎ rules
-makes_files run old new rules order (inr there) = inr (inr there)
-makes_files run old new rules (works (put p r mode body) count) (inl makes) = inl tt
-makes_files run old new rules (works (repl p r) count) (inl makes) = inl tt
-makes_files run old new rules closes (inl makes) = inl tt
-makes_files run old new rules (executes call) (inl makes) = inr (inl tt)
-makes_files run old new rules other (inl makes) = absurd makes
+makes_files : (rules : Type 0) (order : Order) → MakesFile order ⊎ rules → MakesFiles order ⊎ IsExec order ⊎ rules
+makes_files rules order (inr there) = inr (inr there)
+makes_files rules (works (put p r mode body) count) (inl makes) = inl tt
+makes_files rules (works (repl p r) count) (inl makes) = inl tt
+makes_files rules closes (inl makes) = inl tt
+makes_files rules (executes call) (inl makes) = inr (inl tt)
+makes_files rules other (inl makes) = absurd makes
 
 -- ---- the run
 
@@ -68,24 +65,7 @@ module _ {B : Type 0} (old new : World B) (found : Cat) (at : State) (asked : Li
   u = ran.undone
 
   abbrev run : Run (IsKnown old found) found old.source.left
-  run = record {
-    report = u.report;
-    opened = u.opened;
-    opened_is = u.opened_is;
-    opened_all = u.opened_all;
-    rules = u.rules;
-    rules_are = u.rules_are;
-    begun = ran.handled.begun;
-    first = subst (BeginsWithRequests old.source.left) (sym ran.asked_are) first;
-    end_last = subst EndsInputLast (sym ran.asked_are) end_last;
-    done = ran.handled.done;
-    end = at;
-    after = ran.after;
-    pieces = ran.handled.pieces;
-    sure = ran.handled.sure;
-    are_sure = ran.are_sure;
-    no_stop = all-map (IsToldOf (IsKnown old found) (length old.stores)) (λ (m : Mark). m ≢ Stop) (no_stop (IsKnown old found) (length old.stores)) (u.report ++ marks_of ran.handled.begun) ran.told_of;
-  }
+  run = run-of old new found at asked ran first end_last
 
   -- ---- what is shown
 
@@ -332,7 +312,7 @@ module _ {B : Type 0} (old new : World B) (found : Cat) (at : State) (asked : Li
           session = next.session;
           order = next.order;
           asks = subst (λ (x : State). MeansRequest x next.next (Ok (next.session, next.order))) (sym now) next.asks;
-          makes = makes_files run old new ((state_at run k).rules ≢ []) next.order (subst (λ (x : State). MakesFile next.order ⊎ (x.rules ≢ [])) (sym now) next.makes);
+          makes = makes_files ((state_at run k).rules ≢ []) next.order (subst (λ (x : State). MakesFile next.order ⊎ (x.rules ≢ [])) (sym now) next.makes);
         },
       )
   needs wear.Log none = tt
@@ -356,7 +336,7 @@ module _ {B : Type 0} (old new : World B) (found : Cat) (at : State) (asked : Li
           session = session;
           order = order;
           asks = subst (λ (y : State). MeansRequest y a (Ok (session, order))) (sym now) asks;
-          makes = makes_files run old new ((state_at run k).rules ≢ []) order (subst (λ (y : State). MakesFile order ⊎ (y.rules ≢ [])) (sym now) makes);
+          makes = makes_files ((state_at run k).rules ≢ []) order (subst (λ (y : State). MakesFile order ⊎ (y.rules ≢ [])) (sym now) makes);
         },
       )
 
@@ -399,6 +379,8 @@ module _ {B : Type 0} (old new : World B) (found : Cat) (at : State) (asked : Li
     images = λ tells settled t i late leaves. image i (ran.images tells settled t i.main i.sink late leaves.disks.of_main leaves.of_sink);
     whole = ran.whole;
     named = ran.named;
+    silent = λ tells settled. none_silent old new found at asked ran first end_last tells settled;
+    numbers = λ tells settled. had_numbers old new found at asked ran first end_last tells settled;
     orphans = few;
     caused = ran.caused;
     completes = λ tells none tell settled whole fits. completes tells end none tell settled whole (good none fits);

@@ -13,10 +13,12 @@ use Rattle.grid_model.specs.declared.marks.Mark.{Mark}
 use Rattle.grid_journal.specs.Stands.{StandsFor}
 use Rattle.grid_headline.specs.Causes.{AreCaused}
 use Rattle.grid_headline.specs.Ends.{HasOneMore, HasRecovery}
+use Rattle.grid_headline.specs.Numbers.{KeepsNumbers}
 use Rattle.grid_headline.specs.Files.{AllStayWhole, DisksAreSettled, IsKnown, KeepsNamed, ReplicasStayNamed, WereWhole}
 use Rattle.grid_headline.specs.Reads.{HasRules}
 use Rattle.grid_headline.specs.Stops.{AreFirst}
 use Rattle.grid_headline.specs.Worlds.{World}
+use Rattle.count_laws.specs.GivenNumbers.{GivesFew}
 use Rattle.run_laws.specs.Handled.{IsOfRun, IsUnbegun}
 use Rattle.run_laws.specs.Steps.{Gave, IsToldOf}
 use Rattle.run_laws.specs.Undone.{Undone, report_begun, whole_report, recoveries_told}
@@ -29,16 +31,18 @@ module _ (found : Cat) (u : Undone found) where
     pub last : c.numbers.last ≡ 0
     pub grid : grid_of c ≡ u.opened.grid
     pub rules : HasRules c u.rules
+    -- few numbers were given for the marks of recoveries
+    pub few : GivesFew found c (length u.report)
     pub named : KeepsNamed found c
     -- where no recovery was to be done the replicas are those that there were
     pub replicas : ¬ HasRecovery found.pending → (slot name : ℕ) (r : ReplicaRow) → Names found slot name (by_replica r) → Names c slot name (by_replica r)
 
   -- What a stop while a run is opened leaves of main, and of the sink that had these bytes before: the run is not begun and no more is shown
-  -- than what is told until then, or it is begun and a front of the report is shown.
-  pub data OneOfOpening (old_sink main sink : Text) : Type 0 where
+  -- than what is told until then, or it is begun, with this catalogue, and a front of the report is shown.
+  pub data OneOfOpening (first : Cat) (old_sink main sink : Text) : Type 0 where
     not_begun : (c : Cat) → StandsFor main c → (part : AddsPart (report_begun found u) old_sink sink) → IsUnbegun found u c part.count
-        → OneOfOpening old_sink main sink
-    begun : (c : Cat) → IsBegunWith c → StandsFor main c → AddsPart (whole_report found u) old_sink sink → OneOfOpening old_sink main sink
+        → OneOfOpening first old_sink main sink
+    begun : IsBegunWith first → StandsFor main first → AddsPart (whole_report found u) old_sink sink → OneOfOpening first old_sink main sink
 
   -- a part of the report is shown, which tells the first of these marks of recoveries and no others
   pub record ShowsReport (taken : List Mark) (before after : Text) : Type 0 where
@@ -56,17 +60,22 @@ module _ {B : Type 0} (old now : World B) (found : Cat) where
     pub went : Went old now
     pub caused : AreCaused old now undone.report
     pub gave : IsTrue now.ambient.tells → Gave taken old.ambient now.ambient
+    -- the catalogue with which the run is begun, where it comes so far
+    pub begins : Cat
+    pub keeps : KeepsNumbers found begins
+    pub few : GivesFew found begins (length undone.report)
     pub shown : IsTrue old.sink.tells → ShowsReport found undone taken old.sink.holds now.sink.holds
     pub whole : DisksAreSettled old → WereWhole old old.moments found → AllStayWhole now old.moments
     pub named : ¬ HasRecovery found.pending → IsSettled old.main → ReplicasStayNamed now old.moments found
     pub images : IsTrue old.sink.tells → IsSettled old.main → IsSettled old.sink → (t : ℕ) (main sink : Text) → old.moments < t → now.main.left t main
-        → now.sink.left t sink → OneOfOpening found undone old.sink.holds main sink
+        → now.sink.left t sink → OneOfOpening found undone begins old.sink.holds main sink
 
   -- It was done: this is the catalogue of the run.
   pub record Opened (c : Cat) : Type 0 where
     pub opens : Opens
     pub all : opens.taken ≡ opens.undone.report
     pub text : IsTrue old.sink.tells → now.sink.holds ≡ old.sink.holds ++ whole_report found opens.undone
+    pub begins_is : opens.begins ≡ c
     pub begun : IsBegunWith found opens.undone c
     pub stands : StandsFor now.main.holds c
     pub settled : IsSettled old.main → IsSettled now.main

@@ -1,5 +1,5 @@
 -- The requests of a run that were handled so far.
-use Rattle.std.specs.Prelude.{◌≡◌, ℕ, ◌<◌, ◌≤◌, List, [], ◌∷◌, ◌++◌, None, length, IsTrue}
+use Rattle.std.specs.Prelude.{◌≡◌, ℕ, ◌<◌, ◌≤◌, List, [], ◌∷◌, ◌++◌, Some, None, length, slice_get, IsTrue}
 use Rattle.std.specs.List.{AllByRecursion}
 use Rattle.grid_outside.specs.Device.{IsSettled}
 use Rattle.grid_model.specs.Names.{Text}
@@ -20,7 +20,9 @@ use Rattle.grid_headline.specs.Files.{IsKnown, AreSettled, DisksAreSettled, Were
 use Rattle.grid_headline.specs.Causes.{AreCaused}
 use Rattle.grid_headline.specs.Ends.{AllStill, HasOneMore, HasFewOrphans, HasRecovery, EndsSwept}
 use Rattle.grid_headline.specs.Stops.{AreFirst}
-use Rattle.run_laws.specs.Handled.{Handled, replies_of, marks_told, state_behind, IsOfRun, OneOfRun, ShowsMost}
+use Rattle.grid_headline.specs.Numbers.{KeepsNumbers}
+use Rattle.count_laws.specs.GivenNumbers.{GivesFew}
+use Rattle.run_laws.specs.Handled.{AllGaveFew, Handled, LastHadNumbers, cats_of, replies_of, marks_told, state_behind, IsOfRun, OneOfRun, ShowsMost}
 use Rattle.run_laws.specs.Steps.{Gave, IsToldOf}
 use Rattle.run_laws.specs.Undone.{Undone, whole_report}
 use Rattle.run_laws.specs.Went.{Went, AreInOrder}
@@ -56,6 +58,9 @@ pub record Ran {B : Type 0} (old now : World B) (found : Cat) (at : State) (aske
   pub are_sure : AreSure (IsKnown old found) handled.done handled.pieces handled.sure
   pub told_of : AllByRecursion (IsToldOf (IsKnown old found) (length old.stores)) (undone.report ++ marks_of handled.begun)
   pub by_rows : AllByRows handled.begun handled.done
+  -- few numbers were given before the requests and for each of them
+  pub few_before : KeepsNumbers found handled.first × GivesFew found handled.first (length undone.report)
+  pub all_few : AllGaveFew handled.first handled.begun handled.behind
   pub went : Went old now
   pub shown : IsTrue old.sink.tells → ShowsMost (whole_report found undone) handled old.sink.holds now.sink.holds
   pub caused : AreCaused old now (undone.report ++ marks_of handled.begun)
@@ -79,6 +84,8 @@ pub record Sofar {B : Type 0} (old now : World B) (found c : Cat) (at : State) (
   -- the catalogue
   pub of_run : IsOfRun found c
   pub last : c.numbers.last ≤ length asked
+  pub is_last : slice_get (cats_of ran.handled) (length asked) ≡ Some c
+  pub had_numbers : LastHadNumbers ran.handled (length asked)
   pub grid : grid_of c ≡ at.grid
   pub rules : HasRules c at.rules
   -- where there were no rules, nothing was pending, no orphan was found, and all left the grid and the rules as they were and told no mark, main

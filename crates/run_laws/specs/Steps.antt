@@ -1,5 +1,5 @@
 -- One request of a run: what it did, what it wrote, and what a stop at any moment of it leaves.
-use Rattle.std.specs.Prelude.{◌≡◌, ℕ, ◌<◌, ◌≤◌, List, [], ◌∷◌, ◌++◌, Option, Some, None, Ok, length, IsTrue}
+use Rattle.std.specs.Prelude.{◌≡◌, ◌≢◌, ℕ, ◌+◌, ◌<◌, ◌≤◌, List, [], ◌∷◌, ◌++◌, Option, Some, None, Ok, length, IsTrue}
 use Rattle.std.specs.List.{AllByRecursion}
 use Rattle.grid_outside.specs.Device.{IsSettled}
 use Rattle.grid_outside.specs.Ambient.{AmbientState}
@@ -16,14 +16,15 @@ use Rattle.grid_model.specs.Orders.{Order, executes, sweeps}
 use Rattle.grid_model.specs.Obeying.{command}
 use Rattle.grid_model.specs.Runs.{Request, does}
 use Rattle.grid_model.specs.Completing.{AreClean, EndsByRows}
-use Rattle.grid_model.specs.declared.calls.Call.{Call}
 use Rattle.grid_model.specs.declared.deltas.Pending.{Pending}
 use Rattle.grid_model.specs.declared.marks.Mark.{Mark}
 use Rattle.grid_model.specs.declared.marks.Mark.TheVariants.{Ran, Fault, Bad, Stop}
 use Rattle.grid_journal.specs.Stands.{StandsFor}
 use Rattle.grid_headline.specs.Worlds.{World}
 use Rattle.grid_headline.specs.Files.{IsKnown}
-use Rattle.grid_headline.specs.Numbers.{KeepsNumbers}
+use Rattle.grid_headline.specs.Numbers.{KeepsNumbers, last_vault}
+use Rattle.grid_headline.specs.Ends.{MakesFiles, WasDone}
+use Rattle.count_laws.specs.GivenNumbers.{GivesFew, GivesNone}
 use Rattle.grid_headline.specs.Causes.{AreCaused}
 use Rattle.grid_headline.specs.Draws.{AreSomeOf, told_words, times_of}
 use Rattle.grid_headline.specs.Reads.{HasRules}
@@ -52,30 +53,24 @@ pub record IsLeftBehind (before : Cat) (n : ℕ) (d : Done) (c : Cat) : Type 0 w
   pub pending : c.pending ≡ before.pending
   pub keeps : KeepsNumbers before c
 
--- the request was kept, or there was nothing to keep: it told no mark, and nothing is seen of it
-pub data ComesAfter (before : Cat) (n : ℕ) (d : Done) : Cat → Type 0 where
-  kept : {c : Cat} → IsLeftBehind before n d c → ComesAfter before n d c
-  unseen : {c : Cat} → IsLike before c → d.reply.marks ≡ [] → d.state.grid ≡ grid_of before → HasRules before d.state.rules → ComesAfter before n d c
+-- the request asks for a sweep
+abbrev pub IsSweep : Request → Type 0
+IsSweep (Ok (session, sweeps)) = Unit {0}
+IsSweep other = ⊥
 
--- ---- a command in its first deed
+-- what makes files was done with a mark only where there was a number for them before it
+abbrev pub HadNumbersFor : Cat → Request → Done → Type 0
+HadNumbersFor before request d = (session : ℕ) (order : Order) → request ≡ Ok (session, order) → MakesFiles order → d.reply.marks ≢ []
+    → WasDone d.reply.end → before.numbers.next_vault ≤ last_vault
 
--- the command of this run and number, which waits in the call of its first deed: it has told no mark, and has no recovery
-abbrev pub in_deed : ℕ → ℕ → ℕ → Text → Call → Pending
-in_deed run n user line call = record { run = run; number = n; user = user; line = line; marks = []; passed = []; running = Some call; undo = [] }
+-- the request was kept, or there was nothing to keep: it told no mark, and nothing is seen of it, though a sweep may have removed rows of orphans
+pub data ComesAfter (before : Cat) (n : ℕ) (request : Request) (d : Done) : Cat → Type 0 where
+  kept : {c : Cat} → IsLeftBehind before n d c → HadNumbersFor before request d → ComesAfter before n request d c
+  unseen : {c : Cat} → c ≡ before → d.reply.marks ≡ [] → d.state.grid ≡ grid_of before → HasRules before d.state.rules → ComesAfter before n request d c
+  swept : {c : Cat} → IsSweep request → IsLike before c → GivesNone before c → d.reply.marks ≡ [] → d.state.grid ≡ grid_of before
+      → HasRules before d.state.rules → ComesAfter before n request d c
 
--- these rows, where the command of this number is pending so
-abbrev pub with_deed : Cat → ℕ → ℕ → Text → Call → Cat
-with_deed rows n user line call = record rows { pending = Some (in_deed rows.numbers.run n user line call) }
-
--- The request is an order of the user with this id in these rows, and waits in this call before it has told a mark.
-pub record WaitsIn (at : State) (request : Request) (rows : Cat) (user : ℕ) (call : Call) : Type 0 where
-  pub session : ℕ
-  pub order : Order
-  pub is : request ≡ Ok (session, order)
-  pub of : Session
-  pub logged_in : get at.sessions session ≡ Some of
-  pub name : user_name rows user ≡ of.user
-  pub waits_there : command at session order [] ≡ waits (record { call = call; grid = at.grid; taken = []; passed = []; undo = [] })
+-- ---- a command under way
 
 -- It is a catalogue amid a command: what it has beside the grid and the pending command is as before.
 pub record IsAmid (before c : Cat) : Type 0 where
@@ -133,16 +128,16 @@ pub record TellsFew (pieces : List Text) (whole marks count : ℕ) : Type 0 wher
   pub cut : count < whole
   pub few : whole_in pieces count ≤ marks
 
--- What a stop leaves of main and of the sink: nothing is seen to be changed and no mark is told, or the request is pending and no more marks
--- are told than are kept, or main stands for the catalogue behind the request.
-pub data OneOf (at : State) (before : Cat) (n : ℕ) (request : Request) (d : Done) (texts : SureTexts) (shown main sink : Text) : Type 0 where
-  not_kept : (c : Cat) → IsLike before c → StandsFor main c → (part : AddsPart texts.sure shown sink)
-      → IsUntold texts.pieces part.count → OneOf at before n request d texts shown main sink
-  in_deed_so : (c : Cat) (p : Pending) → IsAmid before c → WaitsInDeed at n request d.reply.marks c p → StandsFor main c
-      → (part : AddsPart texts.sure shown sink)
-      → TellsFew texts.pieces (length (reply_text n d.reply texts.pieces)) (length p.marks) part.count → OneOf at before n request d texts shown main sink
-  kept_so : (c : Cat) → ComesAfter before n d c → StandsFor main c → AddsPart texts.sure shown sink
-      → OneOf at before n request d texts shown main sink
+-- What a stop leaves of main and of the sink: nothing is changed and no mark is told, or the request is pending and no more marks are told than
+-- are kept, or main stands for the catalogue behind the request.
+pub data OneOf (at : State) (before next : Cat) (n : ℕ) (request : Request) (d : Done) (texts : SureTexts) (shown main sink : Text) : Type 0 where
+  not_kept : StandsFor main before → (part : AddsPart texts.sure shown sink) → IsUntold texts.pieces part.count
+      → OneOf at before next n request d texts shown main sink
+  in_deed_so : (c : Cat) (p : Pending) → IsAmid before c → GivesFew before c (length p.marks + 1) → WaitsInDeed at n request d.reply.marks c p
+      → StandsFor main c → (part : AddsPart texts.sure shown sink)
+      → TellsFew texts.pieces (length (reply_text n d.reply texts.pieces)) (length p.marks) part.count
+      → OneOf at before next n request d texts shown main sink
+  kept_so : ComesAfter before n request d next → StandsFor main next → AddsPart texts.sure shown sink → OneOf at before next n request d texts shown main sink
 
 -- ---- marks
 
@@ -190,8 +185,12 @@ pub record RequestStep {B : Type 0} (old new : World B) (at : State) (before : C
   pub shown : IsTrue old.sink.tells → ShowsFew texts.pieces texts.sure (length taken) old.sink.holds new.sink.holds
   pub caused : AreCaused old new marks
   pub gave : IsTrue new.ambient.tells → Gave taken old.ambient new.ambient
+  -- the catalogue behind it, where it comes so far: few numbers were given
+  pub next : Cat
+  pub keeps : KeepsNumbers before next
+  pub few : GivesFew before next (length marks)
   pub images : IsTrue old.main.tells → IsTrue old.sink.tells → IsSettled old.main → IsSettled old.sink → (t : ℕ) (main sink : Text)
-      → old.moments < t → new.main.left t main → new.sink.left t sink → OneOf at before n request d texts old.sink.holds main sink
+      → old.moments < t → new.main.left t main → new.sink.left t sink → OneOf at before next n request d texts old.sink.holds main sink
 
 -- the request asks for no sweep
 abbrev pub RemovesNoFile : Request → Type 0
@@ -214,8 +213,9 @@ pub record IsHandledWhole {B : Type 0} (old new : World B) (at : State) (before 
   pub state : step.d.state ≡ end
   pub grid : grid_of after ≡ end.grid
   pub all_taken : step.taken ≡ step.marks
+  pub is_next : step.next ≡ after
   pub pieces_are : ArePieces (IsKnown old before) n step.d.sent 0 step.d.reply.marks step.texts.pieces
-  pub follows : ComesAfter before n step.d after
+  pub follows : ComesAfter before n request step.d after
   pub stands : IsTrue old.main.tells → StandsFor new.main.holds after
   pub text : IsTrue old.sink.tells → new.sink.holds ≡ old.sink.holds ++ reply_text n step.d.reply step.texts.pieces
   -- where it told no mark, left the grid as it was, was no sweep and no call of rules, and there were none and are none, main is as it was
@@ -224,10 +224,9 @@ pub record IsHandledWhole {B : Type 0} (old new : World B) (at : State) (before 
   pub main_settled : IsTrue old.main.tells → IsSettled old.main → IsSettled new.main
   pub sink_settled : IsTrue old.sink.tells → IsSettled old.sink → IsSettled new.sink
 
--- Nothing is seen of a request, though numbers may have been drawn for it.
+-- Nothing is seen of a request, though times and words may have been given for it.
 pub record IsQuiet {B : Type 0} (old new : World B) (before : Cat) : Type 0 where
   pub sink : IsTrue old.sink.tells → new.sink.holds ≡ old.sink.holds
   pub gave : IsTrue new.ambient.tells → Gave [] old.ambient new.ambient
   pub images : IsTrue old.main.tells → IsTrue old.sink.tells → IsSettled old.main → IsSettled old.sink → (t : ℕ) (main sink : Text)
-      → old.moments < t → new.main.left t main → new.sink.left t sink
-      → (c : Cat) × IsLike before c × StandsFor main c × (sink ≡ old.sink.holds)
+      → old.moments < t → new.main.left t main → new.sink.left t sink → StandsFor main before × (sink ≡ old.sink.holds)

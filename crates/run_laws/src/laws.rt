@@ -36,7 +36,7 @@ pub fn a_run_is_begun<D: Disk, S: Source, K: Sink, A: Ambient, P: Plugin>(
 )
     ensures { let from = world D.disk S.source K.sink A.ambient P.plugin old.now in let by = world D.disk S.source K.sink A.ambient P.plugin mid.now in
         let to = world D.disk S.source K.sink A.ambient P.plugin now.now in
-        (found begun c : Cat) → BeginsOn from found → (opened : Opened from by found begun) → Sweeps by to begun →
+        (found begun c : Cat) → BeginsOn from found → (opened : Opened from by found begun) → Sweeps by to begun c →
         IsSwept by to begun c → Sofar from to found c (begins opened.opens.undone.opened.grid opened.opens.undone.rules) [] }
 {}
 
@@ -48,7 +48,7 @@ pub fn a_run_ends_in_its_sweep<D: Disk, S: Source, K: Sink, A: Ambient, P: Plugi
 )
     ensures { let from = world D.disk S.source K.sink A.ambient P.plugin old.now in let by = world D.disk S.source K.sink A.ambient P.plugin mid.now in
         let to = world D.disk S.source K.sink A.ambient P.plugin now.now in
-        (found begun : Cat) (end : RunEnd) → BeginsOn from found → (opened : Opened from by found begun) → Sweeps by to begun →
+        (found begun left : Cat) (end : RunEnd) → BeginsOn from found → (opened : Opened from by found begun) → Sweeps by to begun left →
         StopsSo from to found (begins opened.opens.undone.opened.grid opened.opens.undone.rules) [] end →
         IsGoodIfNoneFailed from to end → Serves from to found end }
 {}

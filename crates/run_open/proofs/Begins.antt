@@ -70,7 +70,7 @@ module _ {B : Type 0} (old mid : World B) (found : Cat) (rules : List Rule) (beg
   is-begun =
       let I : ℕ → Type 0 = λ n. IsBegunWith found before.undone (begun_as rows.cat n) in
       subst I (ap (λ n. n + 1) (sym prepared.run))
-      (begun-with found before.undone rows.cat prepared.rules prepared.stores prepared.grid prepared.keeps prepared.named prepared.replicas)
+      (begun-with found before.undone rows.cat prepared.rules prepared.stores prepared.grid prepared.keeps prepared.few prepared.named prepared.replicas)
 
   -- what a stop leaves of main from there on
   either : IsSettled old.main → (t : ℕ) (image : Text) → mid.moments < t → main.left t image → StandsEither kept its image
@@ -122,10 +122,11 @@ module _ {B : Type 0} (old mid : World B) (found : Cat) (rules : List Rule) (beg
 
   -- behind the commit, and before the rest is told
   module _ (tells : IsTrue old.sink.tells) (settled : IsSettled old.main) (of_sink : IsSettled old.sink) where
-    pub image-begun : (t : ℕ) (image shown : Text) → mid.moments < t → main.left t image → shown ≡ mid.sink.holds → OneOfOpening found before.undone old.sink.holds image shown
+    pub image-begun : (t : ℕ) (image shown : Text) → mid.moments < t → main.left t image → shown ≡ mid.sink.holds
+        → OneOfOpening found before.undone its old.sink.holds image shown
     image-begun t image shown late left same = by (either settled t image late left)
       where
-        by : StandsEither kept its image → OneOfOpening found before.undone old.sink.holds image shown
+        by : StandsEither kept its image → OneOfOpening found before.undone its old.sink.holds image shown
         by (inl is) =
             let u = prepared.unbegun tells settled of_sink in
             let report = report_begun found before.undone in
@@ -133,14 +134,18 @@ module _ {B : Type 0} (old mid : World B) (found : Cat) (rules : List Rule) (beg
         by (inr is) =
             let u = prepared.unbegun tells settled of_sink in
             let report = whole_report found before.undone in
-            begun its is-begun is (adds-as report report old.sink.holds mid.sink.holds shown refl same (begun-part found before.undone old.sink.holds mid.sink.holds u.0))
+            begun is-begun is
+            (adds-as report report old.sink.holds mid.sink.holds shown refl same (begun-part found before.undone old.sink.holds mid.sink.holds u.0))
 
-    pub images-begun : (t : ℕ) (image shown : Text) → old.moments < t → main.left t image → mid.sink.left t shown → OneOfOpening found before.undone old.sink.holds image shown
+    pub images-begun : (t : ℕ) (image shown : Text) → old.moments < t → main.left t image → mid.sink.left t shown
+        → OneOfOpening found before.undone its old.sink.holds image shown
     images-begun t image shown late left sink_left = by (cases_lt mid.moments t)
       where
-        by : (mid.moments < t) ⊎ (t ≤ mid.moments) → OneOfOpening found before.undone old.sink.holds image shown
+        by : (mid.moments < t) ⊎ (t ≤ mid.moments) → OneOfOpening found before.undone its old.sink.holds image shown
         by (inl later) = image-begun t image shown later left (prepared.sink_settled tells of_sink t shown (omega (arith, mid_order.sink_last, later)) sink_left)
-        by (inr early) = before.images tells settled of_sink t image shown late (goes.earlier t image early left) sink_left
+        by (inr early) =
+            let I : Cat → Type 0 = λ c. OneOfOpening found before.undone c old.sink.holds image shown in
+            subst I prepared.begins_is (before.images tells settled of_sink t image shown late (goes.earlier t image early left) sink_left)
 
   -- whether it was done or not
   abbrev pub opens-begun : Opens old new found
@@ -152,6 +157,9 @@ module _ {B : Type 0} (old mid : World B) (found : Cat) (rules : List Rule) (beg
     went = went-then old mid new before.went went-begun;
     caused = caused-on old mid new before.undone.report went-begun before.caused;
     gave = before.gave;
+    begins = its;
+    keeps = is-begun.of_run.keeps;
+    few = is-begun.few;
     shown = before.shown;
     whole = whole-begun;
     named = named-begun;

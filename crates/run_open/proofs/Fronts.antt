@@ -16,6 +16,7 @@ use Rattle.call_laws.specs.Amid.{AreRan}
 use Rattle.call_laws.proofs.Ran.{ran_caused, ran_told}
 use Rattle.call_laws.proofs.Told.{adds_more}
 use Rattle.undo_run.proofs.Completing.{completes}
+use Rattle.run_open.specs.Beginning.{run_begun}
 use Rattle.run_open.specs.Preparing.{OpensOver, Prepared}
 use Rattle.grid_model.specs.Rows.{Cat}
 use Rattle.grid_model.specs.RuleText.{Rule}
@@ -32,10 +33,13 @@ use Rattle.grid_headline.specs.Served.{joined_texts, report_back, report_front, 
 use Rattle.grid_headline.specs.Stops.{IsSame, KeepsReport}
 use Rattle.grid_headline.specs.Worlds.{World}
 use Rattle.grid_headline.proofs.PutStops.{the_catalogue}
-use Rattle.run_laws.specs.Handled.{IsUnbegun}
+use Rattle.count_laws.specs.GivenNumbers.{GivesFew}
+use Rattle.count_laws.proofs.GivenNumbers.{gives_alike, gives_more, gives_none}
+use Rattle.run_laws.specs.Handled.{GivesBeforeRun, IsUnbegun}
 use Rattle.run_laws.specs.Opening.{OneOfOpening, Opens, not_begun}
 use Rattle.run_laws.specs.Undone.{Undone, report_begun, whole_report}
 use Rattle.run_laws.specs.Went.{AreInOrder, StoreGoes, Went}
+use Rattle.run_laws.proofs.Beginning.{keeps_begun}
 use Rattle.run_laws.proofs.Draws.{gave-none}
 use Rattle.run_laws.proofs.Goings.{faults-rise}
 use Rattle.run_open.proofs.Parts.{adds-as, adds-none}
@@ -65,6 +69,24 @@ keeps_report : (found : Cat) (report : List Mark) (o : Option Pending) (count : 
 keeps_report found report None count within = tt
 keeps_report found report (Some p) count within = λ e. told-before p report count within
 
+-- no number was given yet
+pub keeps_same : (c : Cat) → KeepsNumbers c c
+keeps_same c = record { rises = omega arith; names = λ slot name row low its. (row, its) }
+
+pub gives_same : (c : Cat) (marks : ℕ) → GivesFew c c marks
+gives_same c marks = gives_more marks (omega arith) (gives_none c)
+
+gives_before_run : (found : Cat) (o : Option Pending) → GivesBeforeRun found found o o
+gives_before_run found None = gives_none found
+gives_before_run found (Some p) = λ d is. gives_same found (length d)
+
+-- and none is with which a run is begun
+pub keeps_start : (c : Cat) → KeepsNumbers c (run_begun c)
+keeps_start c = keeps_begun c (c.numbers.run + 1)
+
+pub gives_start : (c : Cat) → GivesFew c (run_begun c) 0
+gives_start c = gives_alike c (run_begun c) refl refl
+
 -- the first lines
 abbrev pub front_of : Cat → Text
 front_of found = joined_texts (report_front found.pending [])
@@ -83,7 +105,8 @@ module _ (found : Cat) (u : Undone found) where
       shown = omega (arith, within, front-length);
     };
     told = keeps_report found u.report found.pending count within;
-    keeps = record { rises = omega arith; names = λ slot name row low its. (row, its) };
+    keeps = keeps_same found;
+    few = gives_before_run found found.pending;
     stores = refl;
   }
 
@@ -141,16 +164,17 @@ module _ {B : Type 0} (old : World B) (found : Cat) (begin : BeginsOn old found)
         let is : c ≡ found = the_catalogue main [] found c (stands-found settled t main late left []) (stands []) in
         subst (KeepsReplicas found) (sym is) (λ slot name row names one. one)
 
-    module _ (u : Undone found) where
+    -- with whatever catalogue the run is to be begun
+    module _ (u : Undone found) (start : Cat) where
       pub images-told : IsTrue old.sink.tells → IsSettled old.main → IsSettled old.sink → (t : ℕ) (main shown : Text) → old.moments < t → old.main.left t main → sink.left t shown
-          → OneOfOpening found u old.sink.holds main shown
+          → OneOfOpening found u start old.sink.holds main shown
       images-told tells settled sink_settled t main shown late main_left sink_left =
           let part = since_settled old.moments m (AddsPart (front_of found)) old.sink sink tells sink_settled order.sink_last told t shown late sink_left in
           not_begun found (stands-found settled t main late main_left) (front-part found u old.sink.holds shown part) (unbegun_found found u part.count part.within)
 
       -- no recovery was run
-      abbrev pub opens-front : AreRan u.report → Opens old told_world found
-      opens-front clean = record {
+      abbrev pub opens-front : KeepsNumbers found start → GivesFew found start (length u.report) → AreRan u.report → Opens old told_world found
+      opens-front keeps few clean = record {
         undone = u;
         taken = [];
         first = record { rest = u.report; are = refl };
@@ -158,6 +182,9 @@ module _ {B : Type 0} (old : World B) (found : Cat) (begin : BeginsOn old found)
         went = went-told;
         caused = ran_caused old told_world u.report (faults-rise old told_world went-told) clean;
         gave = gave-none old.ambient;
+        begins = start;
+        keeps = keeps;
+        few = few;
         shown = λ tells. (let part = told.holds tells in record {
           part = begun-part found u old.sink.holds sink.holds (front-part found u old.sink.holds sink.holds part);
           told = none-told found.pending u.report part.count part.within;
@@ -207,7 +234,7 @@ pub opens-still : {B : Type 0} (old : World B) (found : Cat) (rules : List Rule)
 opens-still old found rules begin order rules_are =
     let u = some-undone found rules rules_are in
     let none = stays old.moments old.moments (AddsPart (front_of found)) old.sink order.sink_last (omega arith) (adds-none (front_of found)) in
-    (opens-front old found begin order old.sink old.moments (omega arith) none u.0 u.1, u.2)
+    (opens-front old found begin order old.sink old.moments (omega arith) none u.0 found (keeps_same found) (gives_same found (length u.0.report)) u.1, u.2)
 
 -- where nothing is pending all is prepared
 pub prepared-none : {B : Type 0} (old : World B) (c : Cat) (rules : List Rule) → c.pending ≡ None → BeginsOn old c → HasRules c rules → AreInOrder old
@@ -236,9 +263,11 @@ prepared-none {B = B} old c rules none begin rules_are order rows = subst P same
     base : P found
     base begin its is held = record {
       opens = opens-front old found begin order old.sink old.moments (omega arith)
-          (stays old.moments old.moments (AddsPart (front_of found)) old.sink order.sink_last (omega arith) (adds-none (front_of found))) (u its) tt;
+          (stays old.moments old.moments (AddsPart (front_of found)) old.sink order.sink_last (omega arith) (adds-none (front_of found))) (u its)
+          (run_begun found) (keeps_start found) (gives_start found) tt;
       rules_are = refl;
       all = refl;
+      begins_is = ap run_begun (sym is);
       kept = found;
       held = held;
       unbegun = λ tells settled of_sink. (adds-none (report_begun found (u its)) old.sink.holds, unbegun_found found (u its) 0 (omega arith));
@@ -246,7 +275,8 @@ prepared-none {B = B} old c rules none begin rules_are order rows = subst P same
       run = ap (λ (x : Cat). x.numbers.run) is;
       rules = ap (λ (x : Cat). x.rules) is;
       stores = ap (λ (x : Cat). x.stores) is;
-      keeps = subst (KeepsNumbers found) (sym is) (record { rises = omega arith; names = λ slot name row low its. (row, its) });
+      keeps = subst (KeepsNumbers found) (sym is) (keeps_same found);
+      few = subst (λ (x : Cat). GivesFew found x 0) (sym is) (gives_none found);
       named = subst (KeepsNamed found) (sym is) (λ slot name one. one);
       replicas = λ free slot name r names. (let N : Cat → Type 0 = λ x. Names x slot name (by_replica r) in subst N (sym is) names);
       whole_now = λ settled whole t late. (let was = whole t late in

@@ -1,5 +1,5 @@
 -- Parts of texts that were added to what there was.
-use Rattle.std.proofs.Common.{◌≡◌, ℕ, [], ◌++◌, length, take, refl, sym, ap, ◌∙◌, append_assoc, arith}
+use Rattle.std.proofs.Common.{◌≡◌, ◌++◌, length, take, refl, sym, ap, ◌∙◌, append_assoc, arith}
 use Rattle.std.proofs.lemmas.List.{append-nil, append_cancel_left}
 use Rattle.grid_outside.specs.Sink.{AddsPart}
 use Rattle.grid_model.specs.Names.{Text}

@@ -1,5 +1,5 @@
 -- The rest of a report, behind the commit that begins the run.
-use Rattle.std.proofs.Common.{◌≡◌, ◌⊎◌, inl, inr, ℕ, ◌+◌, ◌<◌, ◌≤◌, List, [], ◌++◌, Ok, IsTrue, refl, sym, ap, ◌∙◌, subst, arith}
+use Rattle.std.proofs.Common.{◌≡◌, ◌⊎◌, inl, inr, ℕ, ◌<◌, ◌≤◌, List, ◌++◌, Ok, IsTrue, refl, sym, ap, ◌∙◌, subst, arith}
 use Rattle.std.proofs.lemmas.Bool.{cases_lt}
 use Rattle.grid_outside.specs.Device.{Between, IsSettled}
 use Rattle.grid_outside.specs.Disk.{DiskState}
@@ -85,17 +85,17 @@ module _ {B : Type 0} (old mid : World B) (found : Cat) (rules : List Rule) (beg
   begun-with = begins.is-begun old mid found rules begin rows rest prepared mid_order main spare m drawn goes spare_rests (Ok tt) after committed
 
   pub images-last : IsTrue old.sink.tells → IsSettled old.main → IsSettled old.sink → (t : ℕ) (image shown : Text) → old.moments < t → main.left t image → sink.left t shown
-      → OneOfOpening found one.undone old.sink.holds image shown
+      → OneOfOpening found one.undone (run_begun rows.cat) old.sink.holds image shown
   images-last tells settled of_sink t image shown late left sink_left = by (cases_lt m t)
     where
-      by : (m < t) ⊎ (t ≤ m) → OneOfOpening found one.undone old.sink.holds image shown
+      by : (m < t) ⊎ (t ≤ m) → OneOfOpening found one.undone (run_begun rows.cat) old.sink.holds image shown
       by (inr early) = one.images tells settled of_sink t image shown late left ((told.earlier t shown early).0 sink_left)
       by (inl past) =
           let same : image ≡ main.holds = committed.ends.settled mid_tells t image (omega (arith, main_last, past)) left in
           let S : Text → Type 0 = λ x. StandsFor x (run_begun rows.cat) in
           let u = prepared.unbegun tells settled of_sink in
           let part = since_settled m n (AddsPart rest) mid.sink sink (sink_tells tells) (prepared.sink_settled tells of_sink) (omega (arith, mid_order.sink_last, drawn)) told t shown past sink_left in
-          begun (run_begun rows.cat) begun-with (subst S (sym same) stands-begun)
+          begun begun-with (subst S (sym same) stands-begun)
           (part-of tells (begun-part found one.undone old.sink.holds mid.sink.holds u.0) shown part)
 
   -- all marks were taken
@@ -112,6 +112,9 @@ module _ {B : Type 0} (old mid : World B) (found : Cat) (rules : List Rule) (beg
     went = went-then old now last one.went went-last;
     caused = caused-on old now last one.undone.report went-last one.caused;
     gave = one.gave;
+    begins = run_begun rows.cat;
+    keeps = one.keeps;
+    few = one.few;
     shown = λ tells. (let part = part-of tells (one.shown tells).part sink.holds (told.holds (sink_tells tells)) in
         record { part = part; told = all-taken part.count });
     whole = whole-last;
@@ -128,6 +131,7 @@ module _ {B : Type 0} (old mid : World B) (found : Cat) (rules : List Rule) (beg
         record {
           opens = opens-last;
           all = prepared.all;
+          begins_is = refl;
           text = λ tells. whole_rest (sink_tells tells) ∙ prepared.text tells;
           begun = begun-with;
           stands = stands-begun;

@@ -12,22 +12,27 @@ use Rattle.grid_model.specs.RuleText.{Rule}
 use Rattle.grid_model.specs.Whole.{Names, by_replica}
 use Rattle.grid_model.specs.declared.calls.Call.{Call}
 use Rattle.grid_model.specs.declared.deltas.Pending.{Pending}
+use Rattle.grid_model.specs.declared.marks.Mark.{Mark}
 use Rattle.grid_journal.specs.Journal.{Journal}
 use Rattle.grid_deed.specs.Safe.{AreWhole}
 use Rattle.grid_deed.proofs.Keeping.{held_stands}
 use Rattle.grid_headline.specs.Ends.{HasRecovery}
 use Rattle.grid_headline.specs.Files.{AllStayWhole, DisksAreSettled, IsKnown, KeepsReplicas, ReplicasStayNamed, WereWhole}
 use Rattle.grid_headline.specs.Headline.{BeginsOn}
+use Rattle.grid_headline.specs.Numbers.{KeepsNumbers}
 use Rattle.grid_headline.specs.Served.{report_back}
 use Rattle.grid_headline.specs.Stops.{AreFirst}
 use Rattle.grid_headline.specs.Worlds.{World}
 use Rattle.grid_headline.proofs.PutStops.{the_catalogue}
+use Rattle.count_laws.specs.GivenNumbers.{GivesFew}
+use Rattle.count_laws.proofs.GivenNumbers.{gives_before}
 use Rattle.run_laws.specs.Handled.{IsUnbegun}
 use Rattle.run_laws.specs.Opening.{OneOfOpening, Opens, ShowsReport, not_begun}
 use Rattle.run_laws.specs.Steps.{IsToldOf}
 use Rattle.run_laws.specs.Undone.{Undone, recoveries_told, report_begun, whole_report}
 use Rattle.run_laws.specs.Went.{AreInOrder, Went}
 use Rattle.run_laws.proofs.Goings.{went-then, whole-then}
+use Rattle.run_laws.proofs.Images.{keeps-then}
 use Rattle.run_laws.proofs.Known.{told-less}
 use Rattle.run_laws.proofs.Lists.{all-map}
 use Rattle.service_run.specs.Steps.{IsKnownBy, lines_of}
@@ -36,9 +41,11 @@ use Rattle.service_run.specs.declared.ending.Ending.{Ending}
 use Rattle.service_run.specs.declared.ending.Ending.TheVariants as ending
 use Rattle.call_laws.proofs.Told.{adds_behind, adds_more, lines-append}
 use Rattle.undo_run.specs.Undoing.{Undoes, IsOut}
+use Rattle.run_open.specs.Beginning.{run_begun}
 use Rattle.run_open.specs.Errors.{error_by}
 use Rattle.run_open.specs.Preparing.{OpenStops, OpensOver, Prepared}
-use Rattle.run_open.proofs.Fronts.{any_spare, front_of, images-told, named-told, told_world, went-told, whole-told}
+use Rattle.run_open.proofs.Fronts.{any_spare, front_of, gives_same, gives_start, images-told, keeps_same, keeps_start, named-told, told_world}
+use Rattle.run_open.proofs.Fronts.{went-told, whole-told}
 use Rattle.run_open.proofs.Parts.{adds-as}
 use Rattle.run_open.proofs.ToldMarks.{front-split, recoveries-told}
 
@@ -86,7 +93,7 @@ module _ {B : Type 0} (old : World B) (base : Cat) (p : Pending) where
     }
 
     module _ (new : World B) (went : Went mid new) (rules : List Rule) (result : Result ⊤ Ending) (y : Command) (after : Journal)
-        (undoes : Undoes mid new found p rules result y after) where
+        (undoes : Undoes mid new found p rules result y after) (start : Cat) where
       abbrev u : Undone found
       u = undoes.undone
 
@@ -144,18 +151,19 @@ module _ {B : Type 0} (old : World B) (base : Cat) (p : Pending) where
           by (inr early) = named-told old found begin order sink m drawn told free settled t main c late (went.main.earlier t main early left) stands
 
       pub images-undone : IsTrue old.sink.tells → IsSettled old.main → IsSettled old.sink → (t : ℕ) (main shown : Text) → old.moments < t → new.main.left t main → new.sink.left t shown
-          → OneOfOpening found u old.sink.holds main shown
+          → OneOfOpening found u start old.sink.holds main shown
       images-undone tells settled of_sink t main shown late main_left sink_left = by (cases_lt m t)
         where
-          by : (m < t) ⊎ (t ≤ m) → OneOfOpening found u old.sink.holds main shown
+          by : (m < t) ⊎ (t ≤ m) → OneOfOpening found u start old.sink.holds main shown
           by (inl later) =
               let one = undoes.images begin.main_tells (mid_tells tells) settled (sink_settled tells of_sink) t main shown later main_left sink_left in
               not_begun one.cat one.stands (lines-part sink.holds shown (all tells) one.part) one.unbegun
           by (inr early) =
-              images-told old found begin order sink m drawn told u tells settled of_sink t main shown late (went.main.earlier t main early main_left) (went.sink.earlier t shown early sink_left)
+              images-told old found begin order sink m drawn told u start tells settled of_sink t main shown late (went.main.earlier t main early main_left)
+              (went.sink.earlier t shown early sink_left)
 
-      abbrev pub opens-undone : Opens old new found
-      opens-undone = record {
+      abbrev pub opens-undone : KeepsNumbers found start → GivesFew found start (length u.report) → Opens old new found
+      opens-undone keeps few = record {
         undone = u;
         taken = undoes.taken;
         first = undoes.first;
@@ -164,6 +172,9 @@ module _ {B : Type 0} (old : World B) (base : Cat) (p : Pending) where
         went = went-then old mid new (went-told old found begin order sink m drawn told) went;
         caused = record { counted = undoes.caused.counted; there = undoes.caused.there };
         gave = undoes.gave;
+        begins = start;
+        keeps = keeps;
+        few = few;
         shown = shown-undone;
         whole = whole-undone;
         named = named-undone;
@@ -180,9 +191,11 @@ module _ {B : Type 0} (old : World B) (base : Cat) (p : Pending) where
           let u = undoes.undone in
           let kept = undoes.ends.0 in
           record {
-            opens = opens-undone new went rules (Ok tt) y after undoes;
+            opens = opens-undone new went rules (Ok tt) y after undoes (run_begun after.cat)
+                (keeps-then found after.cat (run_begun after.cat) d.keeps (keeps_start after.cat)) (gives_before (few_rows undoes) (gives_start after.cat));
             rules_are = undoes.rules_are;
             all = d.all;
+            begins_is = refl;
             kept = kept;
             held = d.held;
             unbegun = λ tells settled of_sink. unbegun_kept undoes tells settled of_sink;
@@ -191,6 +204,7 @@ module _ {B : Type 0} (old : World B) (base : Cat) (p : Pending) where
             rules = d.rules;
             stores = d.stores;
             keeps = d.keeps;
+            few = few_rows undoes;
             named = d.named;
             replicas = λ free slot name r names. (let N : Cat → Type 0 = λ c. Names c slot name (by_replica r) in subst N (sym (same (no_undo p free))) names);
             whole_now = λ settled whole. d.whole_now (whole-mid whole) begin.main_tells settled.of_main;
@@ -200,6 +214,9 @@ module _ {B : Type 0} (old : World B) (base : Cat) (p : Pending) where
             none = λ none. absurd (cc none);
           }
         where
+          few_rows : (undoes : Undoes mid new found p rules (Ok tt) y after) → GivesFew found after.cat (length undoes.undone.report)
+          few_rows undoes = subst (λ (ms : List Mark). GivesFew found after.cat (length ms)) undoes.ends.1.all undoes.ends.1.few
+
           text_is : (undoes : Undoes mid new found p rules (Ok tt) y after) → IsTrue old.sink.tells → new.sink.holds ++ rest ≡ old.sink.holds ++ whole_report found undoes.undone
           text_is undoes tells =
               let d = undoes.ends.1 in
@@ -225,7 +242,7 @@ module _ {B : Type 0} (old : World B) (base : Cat) (p : Pending) where
               let one = undoes.images begin.main_tells (mid_tells tells) settled (sink_settled tells of_sink) t new.main.holds new.sink.holds (omega (arith, went.drawn))
               (new.main.now main_told t (omega (arith, new_last))) (new.sink.now sink_told t (omega (arith, new_sink_last))) in
               let is : one.cat ≡ kept = the_catalogue new.main.holds [] kept one.cat (held_stands kept new.main after undoes.ends.1.held main_told []) (one.stands []) in
-              let part = lines-part new went rules (Ok tt) y after undoes sink.holds new.sink.holds (all tells) one.part in
+              let part = lines-part new went rules (Ok tt) y after undoes kept sink.holds new.sink.holds (all tells) one.part in
               (part, subst (λ (c : Cat). IsUnbegun found undoes.undone c part.count) is one.unbegun)
 
 -- ---- over the catalogue that was found
@@ -245,7 +262,11 @@ module _ {B : Type 0} (old : World B) (c : Cat) (p : Pending) (pending : c.pendi
           → Undoes (record old { sink = sink; moments = m }) new f p rules r y after → OpensOver old new f rules
 
       base : P (record c { pending = Some p })
-      base begin told all undoes = (opens-undone old c p begin order sink m drawn told all sink_settled new went rules r y after undoes, undoes.rules_are)
+      base begin told all undoes = (
+        opens-undone old c p begin order sink m drawn told all sink_settled new went rules r y after undoes (found old c p) (keeps_same (found old c p))
+            (gives_same (found old c p) (length undoes.undone.report)),
+        undoes.rules_are,
+      )
 
   -- all were
   pub prepared-at : new.main.last ≤ new.moments → new.sink.last ≤ new.moments → Undoes (record old { sink = sink; moments = m }) new c p rules (Ok tt) y after

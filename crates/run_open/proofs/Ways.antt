@@ -1,5 +1,5 @@
 -- How errors of recoveries and of a commit are those of an opening.
-use Rattle.std.proofs.Common.{◌≡◌, ℕ, false, [], Err, IsTrue, refl, sym, subst}
+use Rattle.std.proofs.Common.{◌≡◌, false, [], Err, IsTrue, refl, sym, subst}
 use Rattle.std.specs.Prelude.{IsErrOf}
 use Rattle.grid_outside.specs.Disk.{DiskState}
 use Rattle.grid_outside.specs.Source.{SourceState}

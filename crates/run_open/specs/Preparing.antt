@@ -1,5 +1,5 @@
 -- What is done before a run is begun: what is pending is told and undone.
-use Rattle.std.specs.Prelude.{◌≡◌, ◌≢◌, ℕ, ◌-◌, ◌^◌, ◌<◌, ◌≤◌, ◌++◌, List, None, Result, Ok, Err, IsTrue}
+use Rattle.std.specs.Prelude.{◌≡◌, ◌≢◌, ℕ, ◌-◌, ◌^◌, ◌<◌, ◌≤◌, ◌++◌, List, None, Result, Ok, Err, IsTrue, length}
 use Rattle.grid_outside.specs.Device.{IsSettled}
 use Rattle.grid_outside.specs.Disk.{DiskState}
 use Rattle.grid_outside.specs.Sink.{AddsPart}
@@ -17,9 +17,11 @@ use Rattle.grid_headline.specs.Ends.{HasRecovery}
 use Rattle.grid_headline.specs.Files.{DisksAreSettled, KeepsNamed, WereWhole}
 use Rattle.grid_headline.specs.Numbers.{KeepsNumbers, last_vault}
 use Rattle.grid_headline.specs.Worlds.{World}
+use Rattle.count_laws.specs.GivenNumbers.{GivesFew}
 use Rattle.run_laws.specs.Handled.{IsUnbegun}
 use Rattle.run_laws.specs.Opening.{Opens}
 use Rattle.run_laws.specs.Undone.{report_begun, whole_report}
+use Rattle.run_open.specs.Beginning.{run_begun}
 use Rattle.run_open.specs.declared.error.OpenError.{OpenError}
 use Rattle.run_open.specs.declared.error.OpenError.TheVariants as error
 
@@ -37,6 +39,8 @@ module _ {B : Type 0} (old now : World B) (found : Cat) (these : List Rule) wher
     pub opens : Opens old now found
     pub rules_are : opens.undone.rules ≡ these
     pub all : opens.taken ≡ opens.undone.report
+    -- with these rows the run is to be begun
+    pub begins_is : opens.begins ≡ run_begun after.cat
     pub kept : Cat
     pub held : IsHeld kept now.main after
     -- what main has is before the run is begun
@@ -48,6 +52,7 @@ module _ {B : Type 0} (old now : World B) (found : Cat) (these : List Rule) wher
     pub rules : after.cat.rules ≡ found.rules
     pub stores : after.cat.stores ≡ found.stores
     pub keeps : KeepsNumbers found after.cat
+    pub few : GivesFew found after.cat (length opens.undone.report)
     pub named : KeepsNamed found after.cat
     pub replicas : ¬ HasRecovery found.pending → (slot name : ℕ) (r : ReplicaRow) → Names found slot name (by_replica r)
         → Names after.cat slot name (by_replica r)

@@ -54,7 +54,10 @@ use Rattle.grid_deed.specs.declared.copying.Copied.TheVariants as copied
 use Rattle.grid_deed.proofs.Wholes.{whole_turned_none}
 use Rattle.grid_headline.specs.Causes.{AreCaused}
 use Rattle.grid_headline.specs.Files.{KeepsNamed}
+use Rattle.grid_headline.specs.Numbers.{leaf_count}
 use Rattle.grid_headline.specs.Worlds.{World}
+use Rattle.count_laws.specs.GivenNumbers.{GivesFew}
+use Rattle.count_laws.proofs.GivenNumbers.{gives_alike, gives_behind, gives_drawn, gives_planned}
 use Rattle.chain_run.specs.Places.{course_at}
 use Rattle.plan_object.specs.CopyPlans.{MayCopy}
 use Rattle.plan_object.specs.ReplPlans.{CopiesFile, MayRepl}
@@ -197,7 +200,7 @@ module _ {B : Type 0} (old new : World B) (kept : Cat) (rows : Journal) (x : Com
   -- one mark was taken
   module _ (m : Mark) (after : Journal) (ran : Result ⊤ Failure)
       (did : (more : List Mark) (begun : ℕ) (stopped : Bool) → ComesTo does ran (course_at (place_by rows.cat x) (m ∷ more) begun stopped) (course_at (place_by after.cat (with_mark told m)) more begun stopped))
-      (user : user_name after.cat x.user ≡ user_name rows.cat x.user) (beside : KeepsBeside rows.cat after.cat) (spelled : IsTrue (mark_fits m)) (pending : after.cat.pending ≡ Some (noted_in x call undo))
+      (user : user_name after.cat x.user ≡ user_name rows.cat x.user) (beside : KeepsBeside rows.cat after.cat 1) (spelled : IsTrue (mark_fits m)) (pending : after.cat.pending ≡ Some (noted_in x call undo))
       (numbers : after.cat.numbers ≡ mid.numbers) (held : IsHeld mid new.main after)
       (settled : IsTrue old.main.tells → IsSettled new.main) (sink_told : IsTrue old.sink.tells → new.sink.holds ≡ old.sink.holds ++ x.untold) (sink_settled : IsTrue old.sink.tells → IsSettled old.sink → IsSettled new.sink)
       (told_of : IsToldOf (IsKnownBy old rows.cat) (length old.stores) m) (caused : AreCaused old new (m ∷ [])) (gave : IsTrue new.ambient.tells → Gave (m ∷ []) old.ambient new.ambient)
@@ -243,6 +246,9 @@ module _ (c : Cat) (x : Command) (call : Call) (undo : List Call) (c1 : Cat) (c1
   users_before : KeepsUsers c c1
   users_before = users_same c c1 (ap (λ (e : Cat). e.users) c1_is)
 
+  gives_noted : GivesFew c c1 0
+  gives_noted = gives_alike c c1 (ap (λ (e : Cat). e.resources) c1_is) (ap (λ (e : Cat). e.numbers.next_vault) c1_is)
+
   module _ (files : ℕ) (d : Cat) (draws : Draws c1 files d) (users : KeepsUsers c1 d) where
     draws_since : Draws (with_pending c p) files d
     draws_since = let D : Cat → Type 0 = λ e. Draws e files d in subst D c1_is draws
@@ -250,8 +256,8 @@ module _ (c : Cat) (x : Command) (call : Call) (undo : List Call) (c1 : Cat) (c1
     pub pending_since : d.pending ≡ Some (noted_in x call undo)
     pending_since = draws_since.pending
 
-    pub beside_since : IsTrue (is_user c x.user) → KeepsNamed c1 d → KeepsBeside c d
-    beside_since user named =
+    pub beside_since : IsTrue (is_user c x.user) → KeepsNamed c1 d → GivesFew c1 d 1 → KeepsBeside c d 1
+    beside_since user named few =
         let all = users_then c c1 d users_before users in
         let s = draws_since in
         record {
@@ -263,6 +269,7 @@ module _ (c : Cat) (x : Command) (call : Call) (undo : List Call) (c1 : Cat) (c1
             rises = omega (arith, ap (λ (k : Numbers). k.next_vault) s.numbers);
             names = λ slot name row before named. (let was = s.names slot name row before named in (was.0, names_pending c p slot name was.0 was.1));
           };
+          few = gives_behind gives_noted few;
           named = λ slot name is. named slot name ((turns_before user).named slot name is);
           users = all.there;
           names = all.names;
@@ -272,7 +279,8 @@ module _ (c : Cat) (x : Command) (call : Call) (undo : List Call) (c1 : Cat) (c1
 
 module _ {D A P K : Type 0} (disk : D → DiskState) (ambient : A → AmbientState) (plugin : P → StoreState) (sink : K → SinkState) (source : SourceState) (o n : Outside D A P) (a : A) (k l : K) (kept : Cat) (rows : Journal) (x : Command) (call : Call) (undo : List Call)
     (user : IsTrue (is_user rows.cat x.user)) (s1 : Journal) (announced : s1.cat ≡ with_pending rows.cat (noted_in x call undo)) (row : Or Act) (file : OldFile) (named : IsNamedFile rows.cat file) (within : file.slot < rows.cat.stores)
-    (count : ℕ) (count_is : s1.cat.stores ≡ count) (slots : rows.cat.stores ≡ length o.stores.items) (word now : ℕ) (plan : Plan) (w : CopiesFile s1.cat row word now file plan) where
+    (count : ℕ) (count_is : s1.cat.stores ≡ count) (slots : rows.cat.stores ≡ length o.stores.items) (word now : ℕ) (plan : Plan) (w : CopiesFile s1.cat row word now file plan)
+    (few : length plan.files ≤ leaf_count s1.cat) where
   abbrev pub its_plan : IsCopyPlan s1.cat s1.cat count plan file
   its_plan = copy_plan_as s1.cat plan s1.cat.stores count file count_is w.makes.is_plan
 
@@ -299,8 +307,15 @@ module _ {D A P K : Type 0} (disk : D → DiskState) (ambient : A → AmbientSta
   named_last (inl idle) = (w.makes.is_plan.ends [] (λ some. absurd (some idle))).named
   named_last (inr copies) = (w.makes.is_plan.ends copies.bytes (λ some. copies.says)).named
 
-  beside_mid : KeepsBeside rows.cat mid
-  beside_mid = beside_since rows.cat x call undo s1.cat announced (length plan.files) mid w.makes.drawn_first users_mid user w.makes.is_plan.begins.named
+  few_mid : GivesFew s1.cat mid 1
+  few_mid = gives_drawn s1.cat mid (length plan.files) w.makes.drawn_first.numbers few plan.before w.makes.is_plan.first
+
+  few_end : GivesFew s1.cat end 1
+  few_end = gives_planned s1.cat end (length plan.files) w.makes.drawn.numbers few mid plan.before plan.after w.makes.is_plan.first w.makes.is_plan.then
+
+  beside_mid : KeepsBeside rows.cat mid 1
+  beside_mid =
+      beside_since rows.cat x call undo s1.cat announced (length plan.files) mid w.makes.drawn_first users_mid user w.makes.is_plan.begins.named few_mid
 
   pending_mid : mid.pending ≡ Some (noted_in x call undo)
   pending_mid = pending_since rows.cat x call undo s1.cat announced (length plan.files) mid w.makes.drawn_first users_mid
@@ -311,14 +326,15 @@ module _ {D A P K : Type 0} (disk : D → DiskState) (ambient : A → AmbientSta
   pub its_note : IsNoted rows.cat x call undo mid
   its_note = record { grid = grid_mid; beside = beside_mid; pending = pending_mid }
 
+  numbers_end : end.numbers ≡ mid.numbers
+  numbers_end = w.makes.drawn.numbers ∙ sym w.makes.drawn_first.numbers
+
   -- where the file was copied
-  beside_end : {olds news : List P} → CopySays plugin plan.files file olds news copied.Done → KeepsBeside rows.cat end
+  beside_end : {olds news : List P} → CopySays plugin plan.files file olds news copied.Done → KeepsBeside rows.cat end 1
   beside_end says =
       let p = w.makes.is_plan in
       beside_since rows.cat x call undo s1.cat announced (length plan.files) end w.makes.drawn users_end user (λ slot name is. named_last says slot name (p.begins.named slot name is))
-
-  numbers_end : end.numbers ≡ mid.numbers
-  numbers_end = w.makes.drawn.numbers ∙ sym w.makes.drawn_first.numbers
+      few_end
 
   pending_end : end.pending ≡ Some (noted_in x call undo)
   pending_end = pending_since rows.cat x call undo s1.cat announced (length plan.files) end w.makes.drawn users_end
@@ -381,13 +397,13 @@ module _ {D A P K : Type 0} (disk : D → DiskState) (ambient : A → AmbientSta
 
     module _ (s2 : Journal) (whole : KeepBothWhole plugin o.moments kept s1.cat (disk o.main) (disk n.main) o.stores.items n.stores.items) where
       -- the catalogue behind it leads on from the noted one
-      done_so : (answer : Copied) → IsCopiedNoted disk plugin sink its_plan x.untold first last kept (Ok answer) s2 → (m : Mark) (ran : Result ⊤ Failure) (fin : Cat) → s2.cat ≡ fin → KeepsBeside rows.cat fin → IsTrue (mark_fits m) → fin.pending ≡ Some (noted_in x call undo) → fin.numbers ≡ mid.numbers
+      done_so : (answer : Copied) → IsCopiedNoted disk plugin sink its_plan x.untold first last kept (Ok answer) s2 → (m : Mark) (ran : Result ⊤ Failure) (fin : Cat) → s2.cat ≡ fin → KeepsBeside rows.cat fin 1 → IsTrue (mark_fits m) → fin.pending ≡ Some (noted_in x call undo) → fin.numbers ≡ mid.numbers
           → ((grid : Grid) → grid ≡ grid_of fin → (more : List Mark) (begun : ℕ) (stopped : Bool) → ComesTo its_does ran (course_at (place_by rows.cat x) (m ∷ more) begun stopped)
           (record (course_at (place_by fin (with_mark x m)) more begun stopped) { grid = grid }))
           → IsToldOf (IsKnownBy old rows.cat) (length o.stores.items) m → AreCaused old new (m ∷ []) → (IsTrue (ambient n.ambient).tells → Gave (m ∷ []) (ambient o.ambient) (ambient n.ambient))
           → IsStep old new kept rows x call undo (with_mark (record x { untold = [] }) m) s2 its_does (Ok ran)
       done_so answer it m ran fin fin_is beside spelled pending numbers did told_of caused gave =
-          let Q : Cat → Type 0 = λ e. KeepsBeside rows.cat e in
+          let Q : Cat → Type 0 = λ e. KeepsBeside rows.cat e 1 in
           let N : Cat → Type 0 = λ e. e.pending ≡ Some (noted_in x call undo) in
           let U : Cat → Type 0 = λ e. e.numbers ≡ mid.numbers in
           let beside_now = subst Q (sym fin_is) beside in

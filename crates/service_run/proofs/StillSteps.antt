@@ -31,6 +31,7 @@ use Rattle.grid_deed.specs.Safe.{AreWhole, KeepBothWhole}
 use Rattle.grid_deed.proofs.Keeping.{held_stands}
 use Rattle.grid_deed.proofs.Wholes.{one_cat, whole_of}
 use Rattle.grid_headline.specs.Worlds.{World}
+use Rattle.count_laws.proofs.GivenNumbers.{gives_by_changes, gives_more, gives_none}
 use Rattle.run_laws.specs.Around.{around}
 use Rattle.run_laws.specs.Steps.{Gave}
 use Rattle.run_laws.proofs.Users.{users_apply_all}
@@ -64,20 +65,21 @@ whole_looked plugin t c old new count looks w = record {
 -- ---- rows
 
 -- nothing of them changed
-pub beside_same : (c : Cat) → KeepsBeside c c
+pub beside_same : (c : Cat) → KeepsBeside c c 0
 beside_same c = record {
   run = refl;
   last = refl;
   rules = refl;
   stores = refl;
   keeps = record { rises = omega arith; names = λ slot name row before named. (row, named) };
+  few = gives_none c;
   named = λ slot name named. named;
   users = λ id is. is;
   names = λ id is. refl;
 }
 
 -- changes lead on from them
-pub beside_led : (c after : Cat) (deltas : List Delta) → LeadOn c deltas after → KeepsBeside c after
+pub beside_led : (c after : Cat) (deltas : List Delta) → LeadOn c deltas after → KeepsBeside c after 0
 beside_led c after deltas leads =
     let users = users_apply_all deltas c after leads.applied in
     record {
@@ -86,10 +88,25 @@ beside_led c after deltas leads =
       rules = leads.rules;
       stores = leads.stores;
       keeps = leads.keeps;
+      few = gives_by_changes c after deltas leads.applied (ap (λ (k : Numbers). k.next_vault) leads.numbers);
       named = leads.turns.named;
       users = users.there;
       names = users.names;
     }
+
+-- and so for more marks
+pub beside_more : (c after : Cat) (j k : ℕ) → j ≤ k → KeepsBeside c after j → KeepsBeside c after k
+beside_more c after j k more b = record {
+  run = b.run;
+  last = b.last;
+  rules = b.rules;
+  stores = b.stores;
+  keeps = b.keeps;
+  few = gives_more k more b.few;
+  named = b.named;
+  users = b.users;
+  names = b.names;
+}
 
 -- ---- marks
 

@@ -50,7 +50,7 @@ use Rattle.service_run.specs.declared.looking.Looked.{Looked}
 use Rattle.service_run.specs.declared.looking.Looked.TheVariants as looked
 use Rattle.service_run.specs.Sums.{AreSeen, IsFileIn, LooksSay, TookLooked}
 use Rattle.service_run.proofs.SeenFiles.{at_all, found_so, slot_of_file, told_found}
-use Rattle.service_run.proofs.StillSteps.{beside_led, beside_same, one_fits, stays_away, step_still, whole_looked}
+use Rattle.service_run.proofs.StillSteps.{beside_led, beside_more, beside_same, one_fits, stays_away, step_still, whole_looked}
 
 -- ---- what it stages
 
@@ -152,7 +152,7 @@ module _ {D A P : Type 0} (disk : D → DiskState) (ambient : A → AmbientState
     pub failed : IsSumStep (with_mark x fault) rows (Ok (Err (Refused (refusal.Fault slot))))
     failed = ends_so (with_mark x fault) rows (Ok (Err (Refused (refusal.Fault slot)))) (record {
       did = record { user = refl; marks = fault ∷ []; taken = refl; did = λ more begun stopped. (stopped, did_fault more begun stopped) };
-      beside = beside_same rows.cat;
+      beside = beside_more rows.cat rows.cat 0 1 (omega arith) (beside_same rows.cat);
       marks = fault ∷ [];
       marks_are = refl;
       rest = refl;
@@ -180,8 +180,8 @@ module _ {D A P : Type 0} (disk : D → DiskState) (ambient : A → AmbientState
     leads : LeadOn rows.cat led.deltas after.cat
     leads = let L : Cat → Type 0 = λ c. LeadOn rows.cat led.deltas c in subst L (sym its_cat) led.leads
 
-    beside : KeepsBeside rows.cat after.cat
-    beside = beside_led rows.cat after.cat led.deltas leads
+    beside : KeepsBeside rows.cat after.cat 1
+    beside = beside_more rows.cat after.cat 0 1 (omega arith) (beside_led rows.cat after.cat led.deltas leads)
 
     held_after : IsHeld kept (disk n.main) after
     held_after = led.staged.held

@@ -9,6 +9,7 @@ use Rattle.grid_model.specs.declared.calls.Call.{Call}
 use Rattle.grid_model.specs.declared.deltas.Pending.{Pending}
 use Rattle.grid_headline.specs.Files.{KeepsNamed}
 use Rattle.grid_headline.specs.Numbers.{KeepsNumbers}
+use Rattle.count_laws.specs.GivenNumbers.{GivesFew}
 use Rattle.chain_run.specs.Places.{Place, course_at}
 use Rattle.service_run.specs.declared.command.Command.{Command}
 
@@ -30,21 +31,22 @@ noted_in x call undo = record {
 }
 
 -- What rows have beside the grid and the pending command is as it was, and each user that is there keeps the name. No number of a
--- vault file is given again, and no file is lost track of.
-pub record KeepsBeside (before after : Cat) : Type 0 where
+-- vault file is given again, few are given for so many marks, and no file is lost track of.
+pub record KeepsBeside (before after : Cat) (marks : ℕ) : Type 0 where
   pub run : after.numbers.run ≡ before.numbers.run
   pub last : after.numbers.last ≡ before.numbers.last
   pub rules : after.rules ≡ before.rules
   pub stores : after.stores ≡ before.stores
   pub keeps : KeepsNumbers before after
+  pub few : GivesFew before after marks
   pub named : KeepsNamed before after
   pub users : (id : ℕ) → IsTrue (is_user before id) → IsTrue (is_user after id)
   pub names : (id : ℕ) → IsTrue (is_user before id) → user_name after id ≡ user_name before id
 
--- The catalogue notes the command: its grid is that of these rows, and the command waits in the call.
+-- The catalogue notes the command: its grid is that of these rows, the command waits in the call, and numbers are given for one mark.
 pub record IsNoted (rows : Cat) (x : Command) (call : Call) (undo : List Call) (c : Cat) : Type 0 where
   pub grid : grid_of c ≡ grid_of rows
-  pub beside : KeepsBeside rows c
+  pub beside : KeepsBeside rows c 1
   pub pending : c.pending ≡ Some (noted_in x call undo)
 
 -- what a call waits for at a place

@@ -18,10 +18,11 @@ use Rattle.service_run.specs.declared.ending.Ending.TheVariants as ending
 module _ {B : Type 0} (old new : World B) (kept : Cat) (rows : Journal) (x : Command) (call : Call) (undo : List Call) (y : Command) (after : Journal)
     (does : Course → Meaning Did) where
   -- It was noted: nothing is still to be told, and of rows only the pending command, and of the command only what is to be told, are others.
+  -- No number was given.
   pub record IsNotedOnly : Type 0 where
     pub noted : WasNoted old new kept rows x call undo y after does []
     pub command : y ≡ record x { untold = [] }
-    pub beside : KeepsBeside rows.cat after.cat
+    pub beside : KeepsBeside rows.cat after.cat 0
     pub grid : grid_of after.cat ≡ grid_of rows.cat
     -- files are whole by the rows behind it, where they were so by those before it
     pub whole : ((t : ℕ) → old.moments < t → AreWhole old.plugin t kept old.stores) → ((t : ℕ) → old.moments < t → AreWhole old.plugin t rows.cat old.stores)

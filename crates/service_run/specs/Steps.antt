@@ -98,9 +98,9 @@ module _ {B : Type 0} (old new : World B) (kept : Cat) (rows : Journal) (x : Com
   -- It was done, or failed so, with these marks, which have their cause.
   pub record IsStepDone (does : Course → Meaning Did) (ran : Result Unit Failure) : Type 0 where
     pub did : Does does ran (place_by rows.cat x) (place_by after.cat y)
-    pub beside : KeepsBeside rows.cat after.cat
     -- of the command only marks, and what is still to be told, are others
     pub marks : List Mark
+    pub beside : KeepsBeside rows.cat after.cat (length marks)
     pub marks_are : y.marks ≡ x.marks ++ marks
     pub rest : y ≡ record x { marks = y.marks; untold = y.untold }
     -- they may be kept

@@ -9,6 +9,7 @@ ghost use Rattle.grid_model.specs.RowGrids.{grid_of, user_name};
 ghost use Rattle.grid_model.specs.Rows.{Cat};
 ghost use Rattle.grid_journal.specs.Journal.{can_be_kept};
 ghost use Rattle.grid_deed.specs.Held.{IsHeld};
+ghost use Rattle.grid_headline.specs.Numbers.{leaf_count};
 ghost use Rattle.plan_object.specs.CopyPlans.{MayCopy};
 ghost use Rattle.plan_object.specs.ReplPlans.{CopiesFile};
 ghost use Rattle.run_laws.specs.Around.{around};
@@ -98,6 +99,7 @@ fn copy_plan(
     ensures plans { (from : PathOf) → MayCopy store.now.cat (user_name store.now.cat user) from to.now resource.now file.now →
         IfOk result (CopiesFile store.now.cat (copy_row (grid_of store.now.cat) (user_name store.now.cat user) from to.now resource.now) word now file.now) }
     ensures few { IfOk result (λ plan. length plan.files ≤ 2 ^ 16) }
+    ensures leaves { IfOk result (λ plan. length plan.files ≤ leaf_count store.now.cat) }
 {
     let plan = plan_copy(alloc, store.tables(), user, to, resource, file, word, now)?;
     with_few_files(plan)

@@ -10,6 +10,7 @@ ghost use Rattle.grid_model.specs.Rows.{Cat};
 ghost use Rattle.grid_model.specs.declared.plans.OldFile.{OldFile as FileOf};
 ghost use Rattle.grid_journal.specs.Journal.{can_be_kept};
 ghost use Rattle.grid_deed.specs.Held.{IsHeld};
+ghost use Rattle.grid_headline.specs.Numbers.{leaf_count};
 ghost use Rattle.plan_object.specs.ReplPlans.{CopiesFile, MayRepl};
 ghost use Rattle.run_laws.specs.Around.{around};
 ghost use Rattle.run_laws.specs.Passes.{AreReady, CallsPass};
@@ -94,6 +95,7 @@ fn repl_plan(
     ensures plans { (user : TextOf) (from : FileOf) (now : ℕ) → MayRepl store.now.cat user path.now resource.now from →
         IfOk result (CopiesFile store.now.cat (repl_row (grid_of store.now.cat) user path.now resource.now) word now from) }
     ensures few { IfOk result (λ plan. length plan.files ≤ 2 ^ 16) }
+    ensures leaves { IfOk result (λ plan. length plan.files ≤ leaf_count store.now.cat) }
 {
     let plan = plan_repl(alloc, store.tables(), path, resource, word)?;
     with_few_files(plan)

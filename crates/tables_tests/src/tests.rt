@@ -2,6 +2,7 @@ mod changes;
 mod draws;
 mod keys;
 mod lookups;
+mod owning;
 mod plain;
 mod plain_marks;
 mod plain_tree;

@@ -1,5 +1,5 @@
 -- A call of the recoveries that is noted: they go on with all that are left, the running one among them.
-use Rattle.std.proofs.Common.{◌≡◌, ℕ, true, List, [], ◌∷◌, ◌++◌, Option, IsTrue, refl, sym, ap, ◌∙◌, subst, append_assoc}
+use Rattle.std.proofs.Common.{◌≡◌, ℕ, ◌+◌, true, List, [], ◌∷◌, ◌++◌, length, Option, IsTrue, refl, sym, ap, ◌∙◌, subst, append_assoc, length-append, arith}
 use Rattle.grid_model.specs.Applying.{is_user}
 use Rattle.grid_model.specs.Rows.{Cat}
 use Rattle.grid_model.specs.RowGrids.{user_name}
@@ -11,6 +11,7 @@ use Rattle.grid_model.specs.declared.marks.Mark.{Mark}
 use Rattle.grid_model.specs.declared.marks.Mark.TheVariants.{Stop}
 use Rattle.grid_headline.specs.Files.{NamesCall}
 use Rattle.grid_headline.specs.Stops.{AreFirst}
+use Rattle.count_laws.specs.GivenNumbers.{GivesFew}
 use Rattle.run_laws.proofs.Recoveries.{first-behind}
 use Rattle.service_run.specs.Commands.{IsNoted, KeepsBeside, WaitsAt, noted_in, place_by}
 use Rattle.service_run.specs.declared.command.Command.{Command}
@@ -22,7 +23,7 @@ use Rattle.undo_run.proofs.Undoings.{GoesTo, IsOnMain, undoings}
 
 module _ (found : Cat) (p : Pending) (user : IsTrue (is_user found p.user)) (rows : Cat) (y : Command) (taken : List Mark) (cs : List Call) (c : Call)
     (command : y ≡ record (stopped_command p) { marks = (p.marks ++ Stop ∷ []) ++ taken; passed = y.passed; untold = y.untold })
-    (beside : KeepsBeside found rows) (goes : GoesTo found taken (cs ++ c ∷ []) (place_by rows y)) where
+    (beside : KeepsBeside found rows (length taken)) (goes : GoesTo found taken (cs ++ c ∷ []) (place_by rows y)) where
   marks_are : y.marks ≡ p.marks ++ Stop ∷ taken
   marks_are = ap (λ (x : Command). x.marks) command ∙ append_assoc p.marks (Stop ∷ []) taken
 
@@ -40,8 +41,22 @@ module _ (found : Cat) (p : Pending) (user : IsTrue (is_user found p.user)) (row
     name_noted : user_name cat y.user ≡ user_name rows y.user
     name_noted = noted.beside.names y.user its_user
 
-    all_beside : KeepsBeside found cat
-    all_beside = beside_then found rows cat beside noted.beside
+    all_beside : KeepsBeside found cat (length taken + 1)
+    all_beside = beside_then found rows cat (length taken) 1 beside noted.beside
+
+    -- for the kept marks of recoveries and their `Stop`
+    few_noted : (d : List Mark) → p.marks ++ Stop ∷ d ≡ y.marks ++ Stop ∷ [] → GivesFew found cat (length d)
+    few_noted d is =
+        let count : length taken + 1 ≡ length d =
+        omega (
+          arith,
+          ap length is,
+          ap length marks_are,
+          length-append p.marks (Stop ∷ d),
+          length-append y.marks (Stop ∷ []),
+          length-append p.marks (Stop ∷ taken),
+        ) in
+        subst (GivesFew found cat) count all_beside.few
 
     -- opening the catalogue that notes it goes on behind one `Stop` more
     goes_on : WaitsAt (do_call (user_name rows y.user) c) (place_by rows y) c → (w : List Mark) → reopened cat w ≡ reopened found ((taken ++ Stop ∷ []) ++ w)
@@ -77,6 +92,7 @@ module _ (found : Cat) (p : Pending) (user : IsTrue (is_user found p.user)) (row
       rules = all_beside.rules;
       stores = all_beside.stores;
       keeps = all_beside.keeps;
+      few = few_noted;
     }
 
   -- each of them may be noted

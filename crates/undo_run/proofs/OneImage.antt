@@ -10,6 +10,7 @@ use Rattle.grid_model.specs.declared.marks.Mark.{Mark}
 use Rattle.grid_journal.specs.Stands.{StandsFor}
 use Rattle.grid_headline.specs.Served.{joined_texts, report_front, report_told}
 use Rattle.grid_headline.specs.Stops.{AreFirst, IsSame, KeepsReport}
+use Rattle.run_laws.specs.Handled.{GivesBeforeRun}
 use Rattle.run_laws.specs.Undone.{Undone}
 use Rattle.service_run.specs.Steps.{lines_of}
 use Rattle.call_laws.specs.Amid.{IsSetting}
@@ -55,6 +56,8 @@ module _ (found : Cat) (p : Pending) (has : found.pending ≡ Some p) (u : Undon
           (subst (KeepsReport found u.report c (report_told (Some p) u.report (length (told_before p) + part.count))) (sym on.pending)
           (λ same. first_then _ _ _ (told_first p some u.report (length (told_before p) + part.count) first (omega (arith, part.within))) on.told_kept));
       keeps = on.keeps;
+      few = subst (λ (o : Option Pending). GivesBeforeRun found c o c.pending) (sym has)
+          (subst (GivesBeforeRun found c (Some p)) (sym on.pending) on.few);
       stores = on.stores;
     };
   }

@@ -127,6 +127,7 @@ module _ {D A P K : Type 0} (disk : D → DiskState) (ambient : A → AmbientSta
             rules = amid.beside.rules;
             stores = amid.beside.stores;
             keeps = amid.beside.keeps;
+            few = amid.beside.few;
             named = amid.beside.named;
             held = amid.holds.held;
             settled = amid.holds.settled;

@@ -1,5 +1,5 @@
 -- Before any recovery is run.
-use Rattle.std.proofs.Common.{◌≡◌, ℕ, [], ◌∷◌, ◌++◌, Option, Some, refl, ap}
+use Rattle.std.proofs.Common.{◌≡◌, ℕ, [], ◌∷◌, ◌++◌, length, Option, Some, refl, ap, arith}
 use Rattle.grid_outside.specs.Ambient.{AmbientState}
 use Rattle.grid_outside.specs.Disk.{DiskState}
 use Rattle.grid_outside.specs.Files.{StoreState}
@@ -12,6 +12,7 @@ use Rattle.grid_model.specs.declared.marks.Mark.TheVariants.{Stop}
 use Rattle.grid_journal.specs.Journal.{Journal}
 use Rattle.grid_deed.specs.Held.{IsHeld}
 use Rattle.run_laws.specs.Passes.{AreReady, Seen}
+use Rattle.count_laws.proofs.GivenNumbers.{gives_more, gives_none}
 use Rattle.service_run.proofs.StillSteps.{beside_same}
 use Rattle.tables_laws.proofs.Sound.{sound-made}
 use Rattle.call_laws.specs.Amid.{IsSetting}
@@ -42,6 +43,7 @@ found_on_main found p has = record {
   rules = refl;
   stores = refl;
   keeps = (beside_same found).keeps;
+  few = λ d same. gives_more (length d) (omega arith) (gives_none found);
 }
 
 module _ {D A P K : Type 0} (disk : D → DiskState) (ambient : A → AmbientState) (plugin : P → StoreState) (sink : K → SinkState) (source : SourceState)

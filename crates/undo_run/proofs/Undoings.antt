@@ -1,5 +1,5 @@
 -- The recoveries of a stopped command, as calls that are made one after another.
-use Rattle.std.proofs.Common.{◌≡◌, true, List, [], ◌∷◌, ◌++◌, Some}
+use Rattle.std.proofs.Common.{◌≡◌, true, List, [], ◌∷◌, ◌++◌, length, Some}
 use Rattle.grid_outside.specs.Ambient.{AmbientState}
 use Rattle.grid_outside.specs.Disk.{DiskState}
 use Rattle.grid_outside.specs.Files.{StoreState}
@@ -16,6 +16,7 @@ use Rattle.grid_model.specs.declared.marks.Mark.TheVariants.{Stop}
 use Rattle.grid_journal.specs.Journal.{Journal}
 use Rattle.grid_headline.specs.Numbers.{KeepsNumbers}
 use Rattle.grid_headline.specs.Stops.{AreFirst, GoesOnUndoing}
+use Rattle.count_laws.specs.GivenNumbers.{GivesFew}
 use Rattle.chain_run.specs.Places.{Place, course_at}
 use Rattle.run_laws.specs.Passes.{Seen}
 use Rattle.run_laws.specs.Undone.{Undone}
@@ -36,6 +37,7 @@ pub record IsOnMain (found : Cat) (p : Pending) (c : Cat) (told : List Mark) : T
   pub rules : c.rules ≡ found.rules
   pub stores : c.stores ≡ found.stores
   pub keeps : KeepsNumbers found c
+  pub few : (d : List Mark) → p.marks ++ Stop ∷ d ≡ now.marks ++ Stop ∷ [] → GivesFew found c (length d)
 
 -- recoveries end as what opening the catalogue does
 abbrev pub undoings : (found : Cat) → Pending → Setting (Undone found)

@@ -21,6 +21,7 @@ use Rattle.grid_headline.specs.Numbers.{KeepsNumbers, last_vault}
 use Rattle.grid_headline.specs.Served.{joined_texts, report_front}
 use Rattle.grid_headline.specs.Stops.{AreFirst}
 use Rattle.grid_headline.specs.Worlds.{World}
+use Rattle.count_laws.specs.GivenNumbers.{GivesFew}
 use Rattle.run_laws.specs.Handled.{IsUnbegun}
 use Rattle.run_laws.specs.Steps.{Gave, IsToldOf}
 use Rattle.run_laws.specs.Undone.{Undone}
@@ -62,6 +63,7 @@ module _ {B : Type 0} (old new : World B) (found : Cat) (p : Pending) where
     pub rules : after.cat.rules ≡ found.rules
     pub stores : after.cat.stores ≡ found.stores
     pub keeps : KeepsNumbers found after.cat
+    pub few : GivesFew found after.cat (length taken)
     pub named : KeepsNamed found after.cat
     pub held : IsHeld kept new.main after
     pub settled : IsTrue old.main.tells → IsSettled old.main → IsSettled new.main

@@ -1,6 +1,5 @@
 -- A request with its point, from its start.
-use Rattle.std.proofs.Common.{◌≡◌, ℕ, false, List, [], ◌++◌, Option, Some, None, Result, Err, refl, sym, ap, ◌∙◌, subst}
-use Rattle.std.specs.Prelude.{⊤}
+use Rattle.std.proofs.Common.{◌≡◌, ℕ, false, List, [], Option, Some, None, Err, refl, sym, ap, ◌∙◌, subst}
 use Rattle.grid_outside.specs.Ambient.{AmbientState}
 use Rattle.grid_outside.specs.Disk.{DiskState}
 use Rattle.grid_outside.specs.Files.{StoreState}
@@ -14,7 +13,7 @@ use Rattle.grid_model.specs.Doing.{Course}
 use Rattle.grid_model.specs.Points.{Point, post_name, pre_name}
 use Rattle.grid_model.specs.Sessions.{State}
 use Rattle.grid_model.specs.Working.{begun}
-use Rattle.grid_model.specs.Runs.{Request, does}
+use Rattle.grid_model.specs.Runs.{Request}
 use Rattle.grid_model.specs.declared.marks.Mark.{Mark}
 use Rattle.grid_journal.specs.Journal.{Journal}
 use Rattle.chain_core.specs.Moves.{next_named}

@@ -1,8 +1,8 @@
 -- An operation of a request that was called: how far the request has come behind it, and what it leaves where it was cut short.
-use Rattle.std.proofs.Common.{◌≡◌, inl, inr, ℕ, ◌<◌, ◌≤◌, false, List, [], ◌++◌, Option, Some, None, Result, Ok, Err, IsTrue, length, refl, sym, ap, ◌∙◌}
+use Rattle.std.proofs.Common.{◌≡◌, ℕ, ◌≤◌, List, [], ◌++◌, Option, None, Result, Ok, Err, sym, ◌∙◌}
 use Rattle.std.proofs.Common.{subst}
-use Rattle.std.specs.Prelude.{⊤, ◌⊎◌}
-use Rattle.std.proofs.lemmas.List.{append-nil, append_cancel_left}
+use Rattle.std.specs.Prelude.{⊤}
+use Rattle.std.proofs.lemmas.List.{append_cancel_left}
 use Rattle.grid_outside.specs.Ambient.{AmbientState}
 use Rattle.grid_outside.specs.Disk.{DiskState}
 use Rattle.grid_outside.specs.Files.{StoreState}
@@ -11,21 +11,19 @@ use Rattle.grid_outside.specs.Source.{SourceState}
 use Rattle.grid_model.specs.Names.{Text}
 use Rattle.grid_model.specs.Operations.Table.{Operation}
 use Rattle.grid_model.specs.Rows.{Cat}
-use Rattle.grid_model.specs.RowGrids.{grid_of, user_name}
+use Rattle.grid_model.specs.RowGrids.{user_name}
 use Rattle.grid_model.specs.Doing.{Course}
-use Rattle.grid_model.specs.Meanings.{waits}
 use Rattle.grid_model.specs.Points.{Point}
 use Rattle.grid_model.specs.Sessions.{State}
 use Rattle.grid_model.specs.Working.{end_of, running, sent_by}
-use Rattle.grid_model.specs.Runs.{Request, does}
+use Rattle.grid_model.specs.Runs.{Request}
 use Rattle.grid_model.specs.declared.marks.Mark.{Mark}
 use Rattle.grid_model.specs.declared.refusal.Failure.{Failure}
 use Rattle.grid_journal.specs.Journal.{Journal}
-use Rattle.chain_run.specs.Places.{Place, course_at}
 use Rattle.deed_run.specs.Puts.{does_op}
 use Rattle.point_laws.specs.Works.{WorkEnds, WorksEndByRows, WorksSendBehind, WorksTakeInOrder, operation}
 use Rattle.run_laws.specs.Passes.{CallsPass, Seen}
-use Rattle.service_run.specs.Commands.{WaitsAt, place_by}
+use Rattle.service_run.specs.Commands.{place_by}
 use Rattle.service_run.specs.Steps.{IsStep, IsStepDone, lines_of}
 use Rattle.service_run.specs.declared.command.Command.{Command}
 use Rattle.service_run.specs.declared.ending.Ending.{Ending}

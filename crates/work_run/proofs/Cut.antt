@@ -10,7 +10,7 @@ use Rattle.grid_model.specs.Names.{Text}
 use Rattle.grid_model.specs.Rows.{Cat}
 use Rattle.grid_model.specs.Points.{Point}
 use Rattle.grid_model.specs.Sessions.{State}
-use Rattle.grid_model.specs.Runs.{Request, does}
+use Rattle.grid_model.specs.Runs.{Request}
 use Rattle.grid_model.specs.declared.calls.Call.{Call}
 use Rattle.grid_model.specs.declared.deltas.Numbers.{Numbers}
 use Rattle.grid_model.specs.declared.marks.Mark.{Mark}

@@ -1,5 +1,5 @@
 -- A deed that took no mark was refused.
-use Rattle.std.proofs.Common.{◌≡◌, ℕ, Bool, false, List, [], ◌++◌, Option, None, Result, Ok, Err, true, map, refl, sym, ap, ◌∙◌, subst}
+use Rattle.std.proofs.Common.{◌≡◌, ℕ, false, List, [], ◌++◌, Option, None, Some, Result, Ok, Err, true, map, refl, sym, ap, ◌∙◌, subst}
 use Rattle.std.specs.Prelude.{⊤, IfOk, length}
 use Rattle.grid_model.specs.Names.{Text, Path}
 use Rattle.grid_model.specs.Grid.{Grid, Object}
@@ -9,24 +9,27 @@ use Rattle.grid_model.specs.Trees.{candidates, is_any, possible, readable, slots
 use Rattle.grid_model.specs.Refusing.{Or, ◌>>=◌, unless}
 use Rattle.grid_model.specs.Deeds.{Act, changes, copying, deed, reading}
 use Rattle.grid_model.specs.Doing.{Course, Did, do_act}
-use Rattle.grid_model.specs.Meanings.{Meaning, gives, waits}
+use Rattle.grid_model.specs.Meanings.{gives}
 use Rattle.grid_model.specs.Operations.Common.{collection_above, needs, object_there, resource_there}
 use Rattle.grid_model.specs.Operations.Objects.{good_on_all, may_put, may_stand, put_row, room_for, writes}
 use Rattle.grid_model.specs.Operations.Replicas.{Source, chksum_row, first_of, lacking, marked_bad, repl_row, with_replicas}
-use Rattle.grid_model.specs.Operations.Table.{Operation, get as fetch, row}
+use Rattle.grid_model.specs.Operations.Table.{Operation, chksum, get as fetch, row}
 use Rattle.grid_model.specs.Orders as orders
 use Rattle.grid_model.specs.QueryOrders.{ReadsQuery}
-use Rattle.grid_model.specs.Working.{running, sent_by}
+use Rattle.grid_model.specs.Working.{end_of, running, sent_by}
 use Rattle.grid_model.specs.declared.queries.Query.{Query}
 use Rattle.grid_model.specs.declared.calls.Call.{Call}
 use Rattle.grid_model.specs.declared.grid.Level.TheVariants.{Write}
 use Rattle.grid_model.specs.declared.grid.Mode.{Mode}
 use Rattle.grid_model.specs.declared.marks.Mark.{Mark}
 use Rattle.grid_model.specs.declared.refusal.Failure.{Failure}
+use Rattle.grid_model.specs.declared.refusal.Failure.TheVariants as failure
 use Rattle.grid_model.specs.declared.refusal.Refusal.{Refusal}
 use Rattle.grid_model.specs.declared.refusal.Refusal.TheVariants as refusal
+use Rattle.grid_model.specs.declared.replies.End.TheVariants as end
 use Rattle.grid_model.proofs.MeaningLemmas.{gives_not_waits}
 use Rattle.grid_journal.specs.Journal.{Journal}
+use Rattle.grid_headline.specs.Ends.{WasDone}
 use Rattle.grid_headline.specs.Worlds.{World}
 use Rattle.chain_core.specs.Answers.{failure_in}
 use Rattle.chain_run.specs.Places.{course_at}
@@ -36,12 +39,13 @@ use Rattle.service_run.specs.Steps.{IsStep, IsStepDone}
 use Rattle.service_run.specs.declared.command.Command.{Command}
 use Rattle.service_run.specs.declared.ending.Ending.{Ending}
 use Rattle.point_laws.specs.Works.{IsAskedSo, Work, operation, query}
-use Rattle.row_run.specs.Verbs.{IsRowsVerb, WorksBy}
+use Rattle.row_run.specs.Verbs.{IsRowsVerb, WorksBy, operation_by}
 use Rattle.row_run.proofs.Rows.{rows_silent}
 use Rattle.grid_model.specs.declared.requests.Verb.{Verb}
 use Rattle.grid_model.specs.declared.requests.Verb.TheVariants as verb
 use Rattle.work_run.specs.Names.{changes_rows}
 use Rattle.run_laws.specs.Ends.{MakesFile}
+use Rattle.work_run.specs.Pointed.{point_end}
 use Rattle.work_run.specs.Verbs.{AsksBy, HasWork, IsIdle, MayMakeFile, WorksAs, is_call}
 use Rattle.work_run.proofs.Quiet.{no_marks}
 
@@ -226,6 +230,63 @@ makes_call count other body call makes = makes
 pub makes_of : (count : ℕ) (v : Verb) (body : Text) (op : Operation) → WorksBy v body op → MayMakeFile count v body → MakesFile (orders.works op count)
 makes_of count (verb.Query text) body op works makes = absurd makes
 makes_of count other body op works makes = makes op works
+
+-- an operation that changes rows alone makes none
+abbrev FileLess : Operation → Type 0
+FileLess op = MakesFile (orders.works op 0) → ⊥
+
+abbrev FileLessBy : Option Operation → Type 0
+FileLessBy None = Unit {0}
+FileLessBy (Some op) = FileLess op
+
+file_less_by : (v : Verb) → FileLessBy (operation_by v)
+file_less_by (verb.MkUser name kind) = λ makes. makes
+file_less_by (verb.MkGroup name) = λ makes. makes
+file_less_by (verb.MkDir path) = λ makes. makes
+file_less_by (verb.RmDir path) = λ makes. makes
+file_less_by (verb.Mv from to) = λ makes. makes
+file_less_by (verb.ChMod level name path) = λ makes. makes
+file_less_by (verb.Inherit path) = λ makes. makes
+file_less_by (verb.NoInherit path) = λ makes. makes
+file_less_by (verb.AddMember group user) = λ makes. makes
+file_less_by (verb.RmMember group user) = λ makes. makes
+file_less_by (verb.MkStorage name slot) = λ makes. makes
+file_less_by (verb.MkCoordinating name kind) = λ makes. makes
+file_less_by (verb.AddChild parent child) = λ makes. makes
+file_less_by (verb.ModResc name up) = λ makes. makes
+file_less_by (verb.Trim path resource) = λ makes. makes
+file_less_by (verb.Rm path) = λ makes. makes
+file_less_by other = tt
+
+pub rows_file_less : (v : Verb) (op : Operation) → IsRowsVerb v op → MakesFile (orders.works op 0) → ⊥
+rows_file_less (verb.AddMeta kind name attribute value unit) op its = subst FileLess (sym its.2) (λ makes. makes)
+rows_file_less (verb.RmMeta kind name attribute value unit) op its = subst FileLess (sym its.2) (λ makes. makes)
+rows_file_less other op is = subst FileLessBy is (file_less_by other)
+
+pub sum_file_less : (path : Path) (op : Operation) → op ≡ chksum path → MakesFile (orders.works op 0) → ⊥
+sum_file_less path op is = subst FileLess (sym is) (λ makes. makes)
+
+-- ---- what was not done
+
+-- an operation that failed
+pub not_done : (f : Failure) → WasDone (end_of f) → ⊥
+not_done (failure.Refused r) was = was
+not_done (failure.Code z) was = was
+not_done failure.NoRule was = was
+not_done failure.Depth was = was
+not_done failure.Spent was = was
+not_done failure.LongText was = was
+not_done failure.Stopped was = was
+
+-- one of which the rules before it failed
+pub not_done_before : (f : Failure) → WasDone (point_end end.PreFailed f) → ⊥
+not_done_before (failure.Refused r) was = was
+not_done_before (failure.Code z) was = was
+not_done_before failure.NoRule was = was
+not_done_before failure.Depth was = was
+not_done_before failure.Spent was = was
+not_done_before failure.LongText was = was
+not_done_before failure.Stopped was = was
 
 -- a query that is none is refused by its text alone
 pub query_so : (text : Text) (q : Or Query) → ReadsQuery text q → IsAskedSo (query q)

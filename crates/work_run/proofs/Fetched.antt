@@ -1,5 +1,5 @@
 -- A request whose file was sent, or that was cut short in the sending.
-use Rattle.std.proofs.Common.{◌≡◌, ℕ, ◌≤◌, Bool, List, [], ◌∷◌, ◌++◌, Option, Some, None, length, Result, Ok, Err, IsTrue, refl, sym, ap, ◌∙◌, subst}
+use Rattle.std.proofs.Common.{◌≡◌, ℕ, ◌≤◌, Bool, List, [], ◌∷◌, ◌++◌, Option, Some, length, Result, Ok, Err, refl, sym, ap, ◌∙◌}
 use Rattle.std.specs.Prelude.{⊤}
 use Rattle.grid_outside.specs.Ambient.{AmbientState}
 use Rattle.grid_outside.specs.Disk.{DiskState}
@@ -17,7 +17,7 @@ use Rattle.grid_model.specs.ReplyTexts.{SendsBytes}
 use Rattle.grid_model.specs.Rows.{Cat}
 use Rattle.grid_model.specs.RowGrids.{grid_of}
 use Rattle.grid_model.specs.Sessions.{State}
-use Rattle.grid_model.specs.Working.{Done, Sent, after_work}
+use Rattle.grid_model.specs.Working.{Sent, after_work}
 use Rattle.grid_model.specs.Runs.{Request, does}
 use Rattle.grid_model.specs.declared.marks.Mark.{Mark}
 use Rattle.grid_model.specs.declared.plans.OldFile.{OldFile}
@@ -46,7 +46,7 @@ use Rattle.work_run.specs.Telling.{tells_data}
 use Rattle.work_run.specs.Works.{DoesSo}
 use Rattle.work_run.proofs.Cut.{marks_are}
 use Rattle.work_run.proofs.Ends.{does_marks}
-use Rattle.work_run.proofs.Fetching.{came_next, course_behind, its_said, its_sent, sent_failed, sent_well, worked_with}
+use Rattle.work_run.proofs.Fetching.{came_next, course_behind, its_sent, sent_failed, sent_well, worked_with}
 
 module _ {D A P K : Type 0} (disk : D → DiskState) (ambient : A → AmbientState) (plugin : P → StoreState) (sink : K → SinkState) (source : SourceState)
     (at : State) (request : Request) (before : Cat) (x : Command) (asked : IsAsked at request before x) (from : Seen D A P K)

@@ -1,14 +1,12 @@
 -- A request can be brought to an end from its start.
-use Rattle.std.proofs.Common.{◌≡◌, ℕ, Bool, false, List, [], ◌++◌, Option, Some, None, length, sym, ap, ◌∙◌, arith}
-use Rattle.std.specs.List.{AllByRecursion}
-use Rattle.std.proofs.lemmas.List.{append-nil}
+use Rattle.std.proofs.Common.{◌≡◌, false, List, [], ◌++◌, Option, Some, None, sym, ap, ◌∙◌, arith}
 use Rattle.grid_model.specs.Names.{Text}
 use Rattle.grid_model.specs.Meanings.{Meaning, mapped, ◌>>=◌}
 use Rattle.grid_model.specs.Chains.{Named, call_rule}
 use Rattle.grid_model.specs.Doing.{did_well}
 use Rattle.grid_model.specs.Points.{Point, pre_name}
 use Rattle.grid_model.specs.Sessions.{State}
-use Rattle.grid_model.specs.Working.{Done, Sent, after_pre, failure_of}
+use Rattle.grid_model.specs.Working.{Done, after_pre, failure_of}
 use Rattle.grid_model.specs.declared.marks.Mark.{Mark}
 use Rattle.grid_model.specs.declared.marks.Mark.TheVariants.{Ran}
 use Rattle.chain_core.specs.declared.frames.Frames.{Frames}

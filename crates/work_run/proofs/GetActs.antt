@@ -1,5 +1,4 @@
 -- A get as a deed, by the replica that was found for it.
-use Rattle.std.proofs.Common.{ℕ}
 use Rattle.std.specs.Prelude.{Ok}
 use Rattle.grid_model.specs.Grid.{Grid}
 use Rattle.grid_model.specs.Refusing.{Or, ◌>>=◌}

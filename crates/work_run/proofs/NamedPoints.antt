@@ -4,7 +4,7 @@ use Rattle.std.specs.Prelude.{option_map}
 use Rattle.grid_model.specs.Maps.{has}
 use Rattle.grid_model.specs.Names.{Text, Path}
 use Rattle.grid_model.specs.Grid.{Grid, Thing, object_at, collection_at, resource_named, user_named}
-use Rattle.grid_model.specs.Operations.Table.{Operation, addmeta, rmmeta}
+use Rattle.grid_model.specs.Operations.Table.{Operation}
 use Rattle.grid_model.specs.Points.{Point, at_access, at_collection, at_object, at_thing, point_of, post_name, pre_name}
 use Rattle.grid_model.specs.declared.requests.Verb.{Verb}
 use Rattle.grid_model.specs.declared.requests.Verb.TheVariants as verb

@@ -1,18 +1,16 @@
 -- What an operation leaves for the calls behind it.
-use Rattle.std.proofs.Common.{◌≡◌, inl, inr, ℕ, Bool, false, List, [], ◌++◌, Result, Ok, Err, IsTrue, refl, sym, ap, ◌∙◌, subst}
+use Rattle.std.proofs.Common.{◌≡◌, inl, inr, ℕ, false, List, [], Result, Ok, Err, IsTrue, refl, sym, ap, ◌∙◌, subst}
 use Rattle.std.specs.Prelude.{⊤, ◌⊎◌, IfOk}
 use Rattle.std.specs.List.{list_all}
 use Rattle.grid_outside.specs.Source.{SourceState}
 use Rattle.grid_model.specs.Applying.{is_user}
-use Rattle.grid_model.specs.Deltas.{all_fit, call as call_parts, mark as mark_parts, passed as passed_parts, text as text_part, u32, u64}
+use Rattle.grid_model.specs.Deltas.{all_fit, mark as mark_parts, passed as passed_parts, text as text_part, u32, u64}
 use Rattle.grid_model.specs.Rows.{Cat}
 use Rattle.grid_model.specs.RowGrids.{user_name}
 use Rattle.grid_model.specs.Doing.{Course, Did}
 use Rattle.grid_model.specs.Meanings.{Meaning}
 use Rattle.grid_model.specs.declared.calls.Call.{Call}
-use Rattle.grid_model.specs.declared.marks.Mark.{Mark}
 use Rattle.grid_model.specs.declared.refusal.Failure.{Failure}
-use Rattle.grid_model.specs.declared.replies.Passed.{Passed}
 use Rattle.grid_journal.specs.Journal.{Journal}
 use Rattle.grid_deed.specs.Held.{IsHeld}
 use Rattle.grid_headline.specs.Worlds.{World}

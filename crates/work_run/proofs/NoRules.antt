@@ -1,9 +1,8 @@
 -- Where none of the names of a point has a rule, the point has none.
-use Rattle.std.proofs.Common.{◌≡◌, List, Option, Some, None, refl, sym, ap, ◌∙◌}
+use Rattle.std.proofs.Common.{◌≡◌, List, Option, Some, None, refl, ◌∙◌}
 use Rattle.std.specs.Prelude.{codes}
 use Rattle.grid_model.specs.Names.{Text}
 use Rattle.grid_model.specs.RuleText.{Rule}
-use Rattle.grid_model.specs.Points.{Point}
 use Rattle.grid_model.specs.Sessions.{State}
 use Rattle.grid_model.specs.declared.requests.Verb.{Verb}
 use Rattle.chain_core.specs.Moves.{next_named}

@@ -1,5 +1,5 @@
 -- A get of a request that was noted before its file is sent, or that was cut short there.
-use Rattle.std.proofs.Common.{◌≡◌, ◌≤◌, List, [], Result, Ok, Err, refl, ap, ◌∙◌, sym}
+use Rattle.std.proofs.Common.{◌≡◌, ◌≤◌, List, [], Result, Ok, Err, ap, ◌∙◌, sym}
 use Rattle.std.specs.Prelude.{⊤, IfOk, IsErrOf, OnOk}
 use Rattle.grid_outside.specs.Ambient.{AmbientState}
 use Rattle.grid_outside.specs.Disk.{DiskState}
@@ -18,7 +18,7 @@ use Rattle.grid_deed.specs.Held.{IsHeld}
 use Rattle.deed_run.specs.Notes.{IsNextNoted}
 use Rattle.run_laws.specs.Passes.{CallsPass, Seen}
 use Rattle.service_run.specs.Commands.{place_by, waiting_at}
-use Rattle.service_run.specs.NotedCalls.{NoteCallEnds, NotesCall}
+use Rattle.service_run.specs.NotedCalls.{NotesCall}
 use Rattle.service_run.specs.Steps.{lines_of}
 use Rattle.service_run.specs.declared.command.Command.{Command}
 use Rattle.service_run.specs.declared.ending.Ending.{Ending}
@@ -28,7 +28,6 @@ use Rattle.call_laws.proofs.Joined.{passes_well}
 use Rattle.call_laws.proofs.NotedAmid.{noted_amid}
 use Rattle.call_laws.proofs.Rounds.{cut_next}
 use Rattle.rule_run.specs.Asked.{IsAsked, asked_setting}
-use Rattle.rule_run.specs.Executing.{HasRunOut}
 use Rattle.rule_run.proofs.Noting.{may_call}
 use Rattle.rule_run.proofs.Settings.{is_setting}
 use Rattle.work_run.specs.Fetched.{NoteEnds}

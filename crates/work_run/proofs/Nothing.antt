@@ -9,7 +9,6 @@ use Rattle.grid_model.specs.Meanings.{Meaning}
 use Rattle.grid_model.specs.Runs.{Request}
 use Rattle.grid_model.specs.Sessions.{State}
 use Rattle.grid_model.specs.declared.calls.Call.{Call}
-use Rattle.grid_model.specs.declared.marks.Mark.{Mark}
 use Rattle.grid_model.specs.declared.refusal.Failure.{Failure}
 use Rattle.grid_journal.specs.Journal.{Journal}
 use Rattle.grid_headline.specs.Worlds.{World}

@@ -1,5 +1,5 @@
 -- The rules of a point of a request: what there is to do behind them, and what they leave where they were cut short.
-use Rattle.std.proofs.Common.{◌≡◌, ◌⊎◌, inl, inr, ℕ, Bool, true, false, List, [], ◌++◌, Option, Some, None, Result, Ok, Err, length, refl, sym, ap, ◌∙◌}
+use Rattle.std.proofs.Common.{◌≡◌, ◌⊎◌, inl, inr, Bool, true, false, List, [], ◌++◌, Option, Some, None, Err, length, refl, sym, ap, ◌∙◌}
 use Rattle.std.proofs.Common.{append_assoc}
 use Rattle.std.proofs.lemmas.List.{append-nil}
 use Rattle.std.specs.Option.{option_map_or}
@@ -37,17 +37,15 @@ use Rattle.point_laws.specs.Names.{NamesAreStopped, NamesHalt}
 use Rattle.point_laws.specs.Works.{DoneEnds, PreEnds, Work, work_of}
 use Rattle.run_laws.specs.Passes.{Seen}
 use Rattle.run_laws.proofs.Lists.{all-append}
-use Rattle.service_run.specs.Commands.{place_by}
 use Rattle.service_run.specs.declared.command.Command.{Command}
 use Rattle.service_run.specs.declared.ending.Ending.{Ending}
 use Rattle.service_run.specs.declared.ending.Ending.TheVariants as ending
-use Rattle.rule_run.specs.Asked.{IsAsked, asked_setting}
+use Rattle.rule_run.specs.Asked.{IsAsked}
 use Rattle.rule_run.specs.Executing.{Executes, HasRunOut}
-use Rattle.rule_run.specs.Running.{HasRunDry, IsRunShort, RunsOn, WaitsWith, point_from}
+use Rattle.rule_run.specs.Running.{HasRunDry, IsRunShort, WaitsWith, point_from}
 use Rattle.grid_headline.specs.Files.{IsKnown}
 use Rattle.call_laws.specs.Amid.{world}
 use Rattle.rule_run.proofs.Handling.{IsCutEnd, cut_executes}
-use Rattle.rule_run.proofs.Outcomes.{rows_none}
 use Rattle.work_run.specs.Behind.{IsBehind, IsEnded, Said, from_start, from_work, from_worked}
 use Rattle.work_run.specs.Pointed.{point_end, rows_told}
 use Rattle.work_run.proofs.Worked.{down}

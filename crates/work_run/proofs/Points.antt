@@ -1,5 +1,5 @@
 -- The rules before an operation of a request, and those behind it.
-use Rattle.std.proofs.Common.{◌≡◌, Bool, true, false, List, [], ◌++◌, Option, Some, None, Err, length, refl, sym, ap, ◌∙◌, append_assoc, length-append, arith}
+use Rattle.std.proofs.Common.{◌≡◌, Bool, true, false, List, [], ◌++◌, Some, None, Err, length, refl, sym, ap, ◌∙◌, length-append, arith}
 use Rattle.std.proofs.lemmas.List.{append-nil}
 use Rattle.grid_outside.specs.Ambient.{AmbientState}
 use Rattle.grid_outside.specs.Disk.{DiskState}
@@ -12,14 +12,12 @@ use Rattle.grid_model.specs.RuleText.{Rule}
 use Rattle.grid_model.specs.Values.{Env}
 use Rattle.grid_model.specs.Meanings.{Meaning, gives}
 use Rattle.grid_model.specs.Chains.{Named}
-use Rattle.grid_model.specs.Doing.{Course}
 use Rattle.grid_model.specs.Points.{Point, post_name, pre_name}
 use Rattle.grid_model.specs.Sessions.{State}
 use Rattle.grid_model.specs.Working.{failure_of}
 use Rattle.grid_model.specs.Runs.{Request, does}
 use Rattle.grid_model.specs.declared.marks.Mark.{Mark}
 use Rattle.grid_model.specs.declared.refusal.Failure.{Failure}
-use Rattle.grid_model.specs.declared.replies.End.{End}
 use Rattle.grid_model.specs.declared.replies.End.TheVariants as end
 use Rattle.grid_journal.specs.Journal.{Journal}
 use Rattle.chain_core.specs.Rest.{course, outcome_of}

@@ -1,10 +1,10 @@
 -- Where an operation took no mark and left the grid as it was, nothing is to be kept of it.
-use Rattle.std.proofs.Common.{◌≡◌, inl, inr, ℕ, false, List, [], ◌++◌, None, Result, Ok, Err, IsTrue, refl, sym, ap, ◌∙◌, subst}
+use Rattle.std.proofs.Common.{◌≡◌, inl, inr, false, List, [], ◌++◌, Result, sym, ap, ◌∙◌}
 use Rattle.std.specs.Prelude.{⊤, ◌⊎◌}
 use Rattle.std.proofs.lemmas.List.{append_cancel_left, append-nil}
 use Rattle.grid_model.specs.Rows.{Cat}
 use Rattle.grid_model.specs.Doing.{Course, Did}
-use Rattle.grid_model.specs.Meanings.{Meaning, gives, waits}
+use Rattle.grid_model.specs.Meanings.{Meaning, gives}
 use Rattle.grid_model.specs.declared.calls.Call.{Call}
 use Rattle.grid_model.specs.declared.marks.Mark.{Mark}
 use Rattle.grid_model.specs.declared.refusal.Failure.{Failure}
@@ -13,7 +13,7 @@ use Rattle.grid_journal.specs.Journal.{Journal}
 use Rattle.grid_headline.specs.Worlds.{World}
 use Rattle.chain_core.specs.Answers.{failure_in}
 use Rattle.chain_run.specs.Places.{course_at}
-use Rattle.service_run.specs.Commands.{place_by, waiting_at}
+use Rattle.service_run.specs.Commands.{place_by}
 use Rattle.service_run.specs.Steps.{IsStepDone, IsStill, StaysAway, WasNoted}
 use Rattle.service_run.specs.declared.command.Command.{Command}
 

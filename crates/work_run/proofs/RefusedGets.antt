@@ -1,12 +1,11 @@
 -- A get that is refused by its row.
-use Rattle.std.proofs.Common.{◌≡◌, ℕ, false, List, [], ◌++◌, ◌∷◌, Option, Some, None, Ok, Err, length, refl, sym, ap, ◌∙◌}
+use Rattle.std.proofs.Common.{◌≡◌, ℕ, false, List, [], ◌∷◌, Option, Some, None, Ok, Err, length, refl, sym, ap, ◌∙◌}
 use Rattle.std.specs.Prelude.{decimal}
 use Rattle.std.proofs.lemmas.List.{append-nil}
 use Rattle.grid_model.specs.Grid.{Grid}
 use Rattle.grid_model.specs.Names.{Path, Text}
 use Rattle.grid_model.specs.Meanings.{Meaning, mapped, ◌>>=◌}
 use Rattle.grid_model.specs.Refusing.{Or}
-use Rattle.grid_model.specs.Deeds.{Act}
 use Rattle.grid_model.specs.Doing.{Course, Did, do_act}
 use Rattle.grid_model.specs.Operations.Replicas.{Source, got}
 use Rattle.grid_model.specs.Operations.Table.{get as fetch, row}

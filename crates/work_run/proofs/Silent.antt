@@ -1,11 +1,11 @@
 -- A point without a rule of its names does nothing.
-use Rattle.std.proofs.Common.{◌≡◌, ℕ, suc, Bool, cond, true, false, List, [], ◌∷◌, Option, Some, None, refl, sym, ap, ◌∙◌}
+use Rattle.std.proofs.Common.{◌≡◌, ℕ, suc, Bool, cond, true, false, List, [], ◌∷◌, Option, Some, None, refl, ap, ◌∙◌}
 use Rattle.grid_model.specs.Names.{Text, same_text}
 use Rattle.grid_model.specs.RuleText.{Rule}
 use Rattle.grid_model.specs.Meanings.{Meaning, gives, waits, unfit, mapped, ◌>>=◌}
 use Rattle.grid_model.specs.Values.{Env}
 use Rattle.grid_model.specs.Doing.{Course, Did, did_well}
-use Rattle.grid_model.specs.Chains.{Named, call_rule, call_within, none_applied, rules_named, try_rules}
+use Rattle.grid_model.specs.Chains.{Named, call_within, none_applied, rules_named, try_rules}
 use Rattle.grid_model.specs.Points.{Point, post_name, pre_name}
 use Rattle.grid_model.specs.Sessions.{State}
 use Rattle.grid_model.specs.Working.{Done, Worked, after_post, after_pre, after_work, done, end_of, failure_of, run_point}

@@ -1,5 +1,5 @@
 -- An operation in which a stop was taken fails so.
-use Rattle.std.proofs.Common.{◌≡◌, Bool, true, false, List, [], ◌∷◌, Option, Some, refl, sym, ◌∙◌}
+use Rattle.std.proofs.Common.{◌≡◌, Bool, true, false, List, [], ◌∷◌, Some, refl, sym, ◌∙◌}
 use Rattle.std.specs.Prelude.{Ok, Err}
 use Rattle.grid_model.specs.Names.{Text}
 use Rattle.grid_model.specs.Refusing.{Or}

@@ -1,11 +1,12 @@
 -- How far a request has come that does an operation or shows rows with its points.
-use Rattle.std.specs.Prelude.{◌≡◌, ℕ, Bool, false, List, [], ◌++◌, Option, None, IsTrue}
+use Rattle.std.specs.Prelude.{◌≡◌, ℕ, ◌≤◌, Bool, false, List, [], ◌++◌, Option, None, Ok, IsTrue}
 use Rattle.grid_outside.specs.Disk.{DiskState}
 use Rattle.grid_model.specs.Names.{Text}
 use Rattle.grid_model.specs.RowGrids.{grid_of}
 use Rattle.grid_model.specs.Rows.{Cat}
 use Rattle.grid_model.specs.Doing.{Course}
 use Rattle.grid_model.specs.Meanings.{Meaning, gives, ◌>>=◌}
+use Rattle.grid_model.specs.Orders.{Order}
 use Rattle.grid_model.specs.Points.{Point}
 use Rattle.grid_model.specs.Sessions.{State}
 use Rattle.grid_model.specs.Working.{Done, Sent, Worked, after_work, done, ending, rows_shown, with_points}
@@ -13,6 +14,8 @@ use Rattle.grid_model.specs.Runs.{Request, does}
 use Rattle.grid_model.specs.declared.marks.Mark.{Mark}
 use Rattle.grid_model.specs.declared.replies.End.{End}
 use Rattle.grid_journal.specs.Journal.{Journal}
+use Rattle.grid_headline.specs.Ends.{MakesFiles, WasDone}
+use Rattle.grid_headline.specs.Numbers.{last_vault}
 use Rattle.chain_run.specs.Places.{Place, course_at}
 use Rattle.point_laws.specs.Works.{Work, work_of}
 use Rattle.run_laws.specs.Steps.{CallsNoRules}
@@ -65,3 +68,11 @@ LeavesNothing at request before rows y old new = CallsNoRules at request → y.m
 abbrev pub BeginsWithNothing : State → Request → Cat → Journal → Command → DiskState → DiskState → Type 0
 BeginsWithNothing at request before rows y old new = CallsNoRules at request
     → HasNothing rows y × (rows.cat ≡ before) × (IsTrue old.tells → new.holds ≡ old.holds)
+
+-- there was a number for a file before it, where the request makes files
+abbrev pub HasNumber : Request → Cat → Type 0
+HasNumber request before = (session : ℕ) (order : Order) → request ≡ Ok (session, order) → MakesFiles order → before.numbers.next_vault ≤ last_vault
+
+-- and where it ends in this as one that was done
+abbrev pub HasNumberIfDone : Request → Cat → End → Type 0
+HasNumberIfDone request before e = WasDone e → HasNumber request before

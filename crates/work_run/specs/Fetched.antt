@@ -1,5 +1,5 @@
 -- A request whose file was sent as the deed of its get, or that was cut short there.
-use Rattle.std.specs.Prelude.{◌≡◌, ℕ, List, [], ◌∷◌, ◌++◌, Option, Some, Result, Ok, Err, decimal, ⊤}
+use Rattle.std.specs.Prelude.{ℕ, List, [], ◌∷◌, ◌++◌, Option, Some, Result, Ok, Err, decimal, ⊤}
 use Rattle.grid_outside.specs.Ambient.{AmbientState}
 use Rattle.grid_outside.specs.Disk.{DiskState}
 use Rattle.grid_outside.specs.Files.{StoreState}

@@ -29,7 +29,7 @@ ghost use Rattle.call_laws.specs.OneCall.{AreKeepable, IsKeepable};
 ghost use Rattle.rule_run.specs.Asked.{IsAsked, asked_setting};
 ghost use Rattle.rule_run.specs.Executing.{Executes};
 ghost use Rattle.rule_run.specs.Finishing.{HasNothing};
-ghost use Rattle.work_run.specs.Behind.{IsBehind, LeavesNothing, from_worked};
+ghost use Rattle.work_run.specs.Behind.{HasNumber, IsBehind, LeavesNothing, from_worked};
 ghost use Rattle.work_run.specs.Pointed.{AreFor, IsAfter, RunsAfter, begun_by, draws_by};
 ghost use Rattle.work_run.specs.Telling.{TellsSo};
 ghost use Rattle.work_run.specs.Works.{DoesSo};
@@ -85,7 +85,7 @@ pub(crate) fn finish_work<D: Disk, K: Sink, A: Ambient, P: Plugin>(
         (record { outside = outside.old; sink = sink.old }) command store.old taken →
         TellsSo (IsKnown (around D.disk A.ambient P.plugin from.outside (K.sink from.sink) source) before) x.number text_of sent taken →
         IsBehind at request taken (place_by store.old.cat command) (begun_by after) (from_worked at p (record { words = words; rows = rows; sent = sent })) →
-        LeavesNothing at request before store.old command (D.disk from.outside.main) (D.disk outside.old.main) →
+        LeavesNothing at request before store.old command (D.disk from.outside.main) (D.disk outside.old.main) → HasNumber request before →
         Executes D.disk A.ambient P.plugin K.sink source at request before x from (record { outside = outside.new; sink = sink.new }) result store.new }
     ensures vaults { (place : ℕ) → after ≡ None → IsErrOf result (Ending.Worn Wear.Vaults place) → ⊥ }
     ensures passes { CallsPass D.disk P.plugin K.sink (IsErrOf result Ending.Disk) (IsErrOf result Ending.Sink)
@@ -130,7 +130,7 @@ fn end_work<D: Disk, K: Sink, A: Ambient, P: Plugin>(
         (record { outside = outside.old; sink = sink.old }) command store.old taken →
         TellsSo (IsKnown (around D.disk A.ambient P.plugin from.outside (K.sink from.sink) source) before) x.number text_of sent taken →
         IsBehind at request taken (place_by store.old.cat command) (steps_begun after.frames)
-        (from_worked at (Some p) (record { words = words; rows = rows; sent = sent })) →
+        (from_worked at (Some p) (record { words = words; rows = rows; sent = sent })) → HasNumber request before →
         Executes D.disk A.ambient P.plugin K.sink source at request before x from (record { outside = outside.new; sink = sink.new }) result store.new }
     ensures passes { CallsPass D.disk P.plugin K.sink (IsErrOf result Ending.Disk) (IsErrOf result Ending.Sink)
         (record { outside = outside.old; sink = sink.old }) (record { outside = outside.new; sink = sink.new }) }

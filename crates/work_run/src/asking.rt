@@ -15,7 +15,7 @@ ghost use Rattle.chain_core.specs.Seen.{rules_of};
 ghost use Rattle.run_laws.specs.Passes.{AreReady, CallsPass};
 ghost use Rattle.service_run.specs.declared.ending.Ending.{Ending};
 ghost use Rattle.rule_run.specs.Asked.{IsAsked};
-ghost use Rattle.rule_run.specs.Executing.{Executes};
+ghost use Rattle.rule_run.specs.Executing.{Executes, MakesNoFiles};
 ghost use Rattle.work_run.specs.Works.{DoesQuery};
 
 use crate::starting::begin;
@@ -54,6 +54,7 @@ pub fn ask<D: Disk, K: Sink, A: Ambient, P: Plugin>(
     requires ready { AreReady D.disk P.plugin K.sink (2 ^ 79) (record { outside = outside.old; sink = sink.old }) }
     ensures executes { (source : SourceState) (at : State) (request : Request) (query : Or Query) → IsAsked at request store.old.cat command →
         ReadsQuery text.now query → DoesQuery at request (user_name store.old.cat command.user) query → at.rules ≡ rules_of rules.now →
+        MakesNoFiles request →
         Executes D.disk A.ambient P.plugin K.sink source at request store.old.cat command
         (record { outside = outside.old; sink = sink.old }) (record { outside = outside.new; sink = sink.new }) result store.new }
     ensures passes { CallsPass D.disk P.plugin K.sink (IsErrOf result Ending.Disk) (IsErrOf result Ending.Sink)

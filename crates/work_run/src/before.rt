@@ -24,7 +24,7 @@ ghost use Rattle.rule_run.specs.Executing.{Executes};
 ghost use Rattle.work_run.specs.Behind.{IsBehind, from_start};
 ghost use Rattle.work_run.specs.Pointed.{IsPoint};
 ghost use Rattle.work_run.specs.Verbs.{HasWork, WorksAs};
-ghost use Rattle.work_run.specs.Works.{DoesSo};
+ghost use Rattle.work_run.specs.Works.{DoesSo, MakesFilesBy};
 
 use crate::after::After;
 use crate::between::do_work;
@@ -71,7 +71,7 @@ pub(crate) fn run_before<D: Disk, K: Sink, A: Ambient, P: Plugin>(
     ensures executes { (source : SourceState) (at : State) (request : Request) (w : Work) (p : Point) → IsAsked at request store.old.cat command →
         WorksAs verb.now body.now w → DoesSo at request env.user w → at.rules ≡ rules_of rules.now → (CallsNoRules at request → ⊥) →
         IsPoint p env pre post →
-        IsBehind at request [] (place_by store.old.cat command) (steps_begun frames) (from_start at (Some p) env.user w) →
+        IsBehind at request [] (place_by store.old.cat command) (steps_begun frames) (from_start at (Some p) env.user w) → MakesFilesBy request w →
         Executes D.disk A.ambient P.plugin K.sink source at request store.old.cat command
         (record { outside = outside.old; sink = sink.old }) (record { outside = outside.new; sink = sink.new }) result store.new }
     ensures passes { CallsPass D.disk P.plugin K.sink (IsErrOf result Ending.Disk) (IsErrOf result Ending.Sink)

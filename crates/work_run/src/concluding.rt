@@ -21,7 +21,7 @@ ghost use Rattle.call_laws.specs.Amid.{IsAmid};
 ghost use Rattle.rule_run.specs.Asked.{IsAsked, asked_setting};
 ghost use Rattle.rule_run.specs.Executing.{Executes};
 ghost use Rattle.rule_run.specs.Finishing.{HasNothing};
-ghost use Rattle.work_run.specs.Behind.{IsEnded, LeavesNothing};
+ghost use Rattle.work_run.specs.Behind.{HasNumberIfDone, IsEnded, LeavesNothing};
 ghost use Rattle.work_run.specs.Telling.{TellsSo};
 ghost use Rattle.work_run.specs.Works.{DoesSo};
 
@@ -53,7 +53,7 @@ pub(crate) fn conclude<D: Disk, K: Sink, A: Ambient, P: Plugin>(
         (record { outside = outside.old; sink = sink.old }) command store.old taken →
         TellsSo (IsKnown (around D.disk A.ambient P.plugin from.outside (K.sink from.sink) source) before) x.number text_of sent taken →
         IsEnded at request taken (place_by store.old.cat command) rows sent end →
-        LeavesNothing at request before store.old command (D.disk from.outside.main) (D.disk outside.old.main) →
+        LeavesNothing at request before store.old command (D.disk from.outside.main) (D.disk outside.old.main) → HasNumberIfDone request before end →
         Executes D.disk A.ambient P.plugin K.sink source at request before x from (record { outside = outside.new; sink = sink.new }) result store.new }
     ensures vaults { (place : ℕ) → IsErrOf result (Ending.Worn Wear.Vaults place) → ⊥ }
     ensures passes { CallsPass D.disk P.plugin K.sink (IsErrOf result Ending.Disk) (IsErrOf result Ending.Sink)

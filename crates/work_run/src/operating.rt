@@ -12,13 +12,14 @@ ghost use Rattle.grid_model.specs.Sessions.{State};
 ghost use Rattle.grid_model.specs.declared.refusal.Refusal.{Refusal as RefusalOf};
 ghost use Rattle.grid_deed.specs.Held.{IsHeld};
 ghost use Rattle.chain_core.specs.Seen.{rules_of};
+ghost use Rattle.point_laws.specs.Works.{operation};
 ghost use Rattle.row_run.specs.Verbs.{HasGoodWords, WorksBy};
 ghost use Rattle.run_laws.specs.Ends.{MakesFile};
 ghost use Rattle.run_laws.specs.Passes.{AreReady, CallsPass};
 ghost use Rattle.service_run.specs.declared.ending.Ending.{Ending};
 ghost use Rattle.rule_run.specs.Asked.{IsAsked};
 ghost use Rattle.rule_run.specs.Executing.{Executes};
-ghost use Rattle.work_run.specs.Works.{DoesWork};
+ghost use Rattle.work_run.specs.Works.{DoesWork, MakesFilesBy};
 
 use crate::starting::begin;
 use chain_core::{Frames, RuleBase};
@@ -57,6 +58,7 @@ pub fn operate<D: Disk, K: Sink, A: Ambient, P: Plugin>(
     requires ready { AreReady D.disk P.plugin K.sink (2 ^ 79) (record { outside = outside.old; sink = sink.old }) }
     ensures executes { (source : SourceState) (at : State) (request : Request) (op : Operation) → IsAsked at request store.old.cat command →
         WorksBy verb.now body.now op → DoesWork at request (user_name store.old.cat command.user) op → at.rules ≡ rules_of rules.now →
+        MakesFilesBy request (operation op) →
         Executes D.disk A.ambient P.plugin K.sink source at request store.old.cat command
         (record { outside = outside.old; sink = sink.old }) (record { outside = outside.new; sink = sink.new }) result store.new }
     ensures passes { CallsPass D.disk P.plugin K.sink (IsErrOf result Ending.Disk) (IsErrOf result Ending.Sink)

@@ -20,7 +20,7 @@ ghost use Rattle.rule_run.specs.Asked.{IsAsked};
 ghost use Rattle.rule_run.specs.Executing.{Executes};
 ghost use Rattle.work_run.specs.Names.{point_name, rules_name};
 ghost use Rattle.work_run.specs.Verbs.{HasWork, WorksAs};
-ghost use Rattle.work_run.specs.Works.{DoesSo};
+ghost use Rattle.work_run.specs.Works.{DoesSo, MakesFilesBy};
 
 use crate::before::run_before;
 use crate::naming::PointNames;
@@ -61,7 +61,7 @@ pub(crate) fn do_ruled<D: Disk, K: Sink, A: Ambient, P: Plugin>(
     requires ready { AreReady D.disk P.plugin K.sink (2 ^ 79) (record { outside = outside.old; sink = sink.old }) }
     ensures executes { (source : SourceState) (at : State) (request : Request) (w : Work) → IsAsked at request store.old.cat command →
         WorksAs verb.now body.now w → DoesSo at request (user_name store.old.cat command.user) w → at.rules ≡ rules_of rules.now →
-        (CallsNoRules at request → ⊥) →
+        (CallsNoRules at request → ⊥) → MakesFilesBy request w →
         Executes D.disk A.ambient P.plugin K.sink source at request store.old.cat command
         (record { outside = outside.old; sink = sink.old }) (record { outside = outside.new; sink = sink.new }) result store.new }
     ensures passes { CallsPass D.disk P.plugin K.sink (IsErrOf result Ending.Disk) (IsErrOf result Ending.Sink)

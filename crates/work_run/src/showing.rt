@@ -32,7 +32,7 @@ ghost use Rattle.rule_run.specs.Finishing.{HasNothing};
 ghost use Rattle.work_run.specs.Behind.{BeginsWithNothing, IsBehind, from_work};
 ghost use Rattle.work_run.specs.Answers.{AreWords, IsAnswer};
 ghost use Rattle.work_run.specs.Pointed.{AreFor, RunsAfter, begun_by, draws_by};
-ghost use Rattle.work_run.specs.Works.{DoesSo};
+ghost use Rattle.work_run.specs.Works.{DoesSo, MakesFilesBy};
 
 use crate::after::{After, finish_work};
 use crate::concluding::conclude;
@@ -73,6 +73,7 @@ pub(crate) fn show_for<D: Disk, K: Sink, A: Ambient, P: Plugin>(
         (record { outside = outside.old; sink = sink.old }) command store.old taken →
         IsBehind at request taken (place_by store.old.cat command) (begun_by after) (from_work at p (user_name store.old.cat command.user) (query q)) →
         BeginsWithNothing at request before store.old command (D.disk from.outside.main) (D.disk outside.old.main) →
+        MakesFilesBy request (query q) →
         Executes D.disk A.ambient P.plugin K.sink source at request before x from (record { outside = outside.new; sink = sink.new }) result store.new }
     ensures passes { CallsPass D.disk P.plugin K.sink (IsErrOf result Ending.Disk) (IsErrOf result Ending.Sink)
         (record { outside = outside.old; sink = sink.old }) (record { outside = outside.new; sink = sink.new }) }

@@ -13,6 +13,7 @@ ghost use Rattle.grid_model.specs.Writable.{is_word};
 ghost use Rattle.grid_model.specs.declared.refusal.Refusal.{Refusal as RefusalOf};
 ghost use Rattle.grid_deed.specs.Held.{IsHeld};
 ghost use Rattle.row_run.specs.Verbs.{HasGoodWords, WorksBy};
+ghost use Rattle.grid_headline.specs.Numbers.{last_vault};
 ghost use Rattle.run_laws.specs.Around.{around};
 ghost use Rattle.run_laws.specs.Ends.{MakesFile};
 ghost use Rattle.run_laws.specs.Passes.{AreReady, CallsPass};
@@ -82,6 +83,9 @@ pub(crate) fn work<D: Disk, K: Sink, A: Ambient, P: Plugin>(
     // The numbers of vault files run out only in an operation that makes files.
     ensures files { (op : Operation) (count place : ℕ) → WorksBy verb.now body.now op → IsErrOf result (Ending.Worn Wear.Vaults place) →
         MakesFile (works op count) }
+    // One that makes files comes to an answer only where there is a number left for a file.
+    ensures number { (op : Operation) → WorksBy verb.now body.now op → MakesFile (works op 0) →
+        IfOk result (λ ran. store.old.cat.numbers.next_vault ≤ last_vault) }
     ensures passes { CallsPass D.disk P.plugin K.sink (IsErrOf result Ending.Disk) (IsErrOf result Ending.Sink)
         (record { outside = outside.old; sink = sink.old }) (record { outside = outside.new; sink = sink.new }) }
     ensures drawn { outside.new.moments ≤ outside.old.moments + 2 ^ 65 }
@@ -121,6 +125,9 @@ fn dispatch<D: Disk, K: Sink, A: Ambient, P: Plugin>(
     // The numbers of vault files run out only in an operation that makes files.
     ensures files { (op : Operation) (count place : ℕ) → WorksBy verb.now body.now op → IsErrOf result (Ending.Worn Wear.Vaults place) →
         MakesFile (works op count) }
+    // One that makes files comes to an answer only where there is a number left for a file.
+    ensures number { (op : Operation) → WorksBy verb.now body.now op → MakesFile (works op 0) →
+        IfOk result (λ ran. store.old.cat.numbers.next_vault ≤ last_vault) }
     ensures passes { CallsPass D.disk P.plugin K.sink (IsErrOf result Ending.Disk) (IsErrOf result Ending.Sink)
         (record { outside = outside.old; sink = sink.old }) (record { outside = outside.new; sink = sink.new }) }
     ensures drawn { outside.new.moments ≤ outside.old.moments + 2 ^ 65 }

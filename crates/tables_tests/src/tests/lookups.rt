@@ -1,5 +1,6 @@
 //! Look-ups at the small grid, and rows that take the place of others.
 
+use super::owning::{Part, try_part};
 use super::rows::{collection, entry, fill, object};
 use grid_model::{Item, ItemKind, Level, Path, Text};
 use grid_tables::{Kind, Tables};
@@ -80,7 +81,12 @@ fn access_that_is_given_anew(rt: &impl Abort, tables: &mut Tables) -> Result<(),
     Ok(())
 }
 
-fn all_look_ups(rt: &impl Abort, alloc: Global, tables: &mut Tables) -> Result<(), Fail> {
+/// Tries all of these, over tables without rows.
+pub(crate) fn all_look_ups(
+    rt: &impl Abort,
+    alloc: Global,
+    tables: &mut Tables,
+) -> Result<(), Fail> {
     fill(alloc, tables)?;
     paths_of_items(rt, alloc, tables)?;
     items_at_paths(rt, alloc, tables)?;
@@ -90,6 +96,5 @@ fn all_look_ups(rt: &impl Abort, alloc: Global, tables: &mut Tables) -> Result<(
 
 #[test]
 fn look_ups_of_a_small_grid(rt: HostRuntime) -> Result<(), Fail> {
-    let mut tables = Tables::empty(rt.alloc());
-    all_look_ups(&rt, rt.alloc(), &mut tables)
+    try_part(&rt, rt.alloc(), Part::LookUps)
 }

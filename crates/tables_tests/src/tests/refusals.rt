@@ -1,5 +1,6 @@
 //! One change for each cause of a refusal, each at the small grid.
 
+use super::owning::{Part, try_part};
 use super::rows::{
     collection, entry, fill, member, numbers, object, orphan, pending, replica, resource, triple,
     user, zone,
@@ -30,7 +31,12 @@ fn refuses(
     Ok(())
 }
 
-fn zones_that_do_not_fit(rt: &impl Abort, alloc: Global, tables: &mut Tables) -> Result<(), Fail> {
+/// Tries zones over tables without rows.
+pub(crate) fn zones_that_do_not_fit(
+    rt: &impl Abort,
+    alloc: Global,
+    tables: &mut Tables,
+) -> Result<(), Fail> {
     for (name, stores) in [
         (b"".as_slice(), 2),
         (b"a/b", 2),
@@ -257,8 +263,8 @@ fn numbers_and_commands_that_do_not_fit(
     Ok(())
 }
 
-// a small grid, and all that it refuses
-fn changes_that_do_not_fit(
+/// Tries a small grid, and all that it refuses, over tables without rows.
+pub(crate) fn changes_that_do_not_fit(
     rt: &impl Abort,
     alloc: Global,
     tables: &mut Tables,
@@ -278,15 +284,12 @@ fn changes_that_do_not_fit(
     Ok(())
 }
 
-// an owner of tables has one way out, which keeps its proof short
 #[test]
 fn refusals_of_empty_tables(rt: HostRuntime) -> Result<(), Fail> {
-    let mut tables = Tables::empty(rt.alloc());
-    zones_that_do_not_fit(&rt, rt.alloc(), &mut tables)
+    try_part(&rt, rt.alloc(), Part::ZonesThatDoNotFit)
 }
 
 #[test]
 fn refusals_of_a_small_grid(rt: HostRuntime) -> Result<(), Fail> {
-    let mut tables = Tables::empty(rt.alloc());
-    changes_that_do_not_fit(&rt, rt.alloc(), &mut tables)
+    try_part(&rt, rt.alloc(), Part::ChangesThatDoNotFit)
 }

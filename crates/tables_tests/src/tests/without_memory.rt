@@ -4,6 +4,7 @@
 ghost use Rattle.std.specs.Prelude.{◌<◌};
 
 use super::changes::{Change, Collection};
+use super::owning::{KINDS, Part, count, see_new_after, try_counted};
 use super::seen::Seen;
 use super::steps::{ROUNDS, TURNS, new_row, no_row, other_row};
 use grid_tables::{TableError, Tables};
@@ -40,16 +41,20 @@ fn change(step: u32) -> Change {
     }
 }
 
-// Tables that the first changes lead to.
-fn replayed(alloc: Global, steps: u32) -> Result<Tables, AllocError> {
-    let mut tables = Tables::empty(alloc);
+/// Makes the first changes of tables without rows, and adds what they show then.
+pub(crate) fn see_after(
+    alloc: Global,
+    tables: &mut Tables,
+    steps: u32,
+    seen: &mut Seen,
+) -> Result<(), AllocError> {
     for step in 0..steps {
         let delta = change(step).delta(alloc)?;
         if tables.apply(delta) == Err(TableError::Memory) {
             return Err(AllocError);
         }
     }
-    Ok(tables)
+    seen.see_tables(tables)
 }
 
 // They show what the first changes lead to.
@@ -61,9 +66,8 @@ fn are_as_after(
 ) -> Result<(), AllocError> {
     let mut shown = Seen::new(alloc, ROUNDS + 2);
     shown.see_tables(tables)?;
-    let before = replayed(alloc, steps)?;
     let mut wanted = Seen::new(alloc, ROUNDS + 2);
-    wanted.see_tables(&before)?;
+    see_new_after(alloc, steps, &mut wanted)?;
     assert_eq!(rt;
         shown.numbers.as_slice(),
         wanted.numbers.as_slice(),
@@ -95,13 +99,16 @@ fn step_on(
     }
 }
 
-fn walk(rt: &impl Abort, alloc: Global, done: &mut [u32; 22]) -> Result<(), AllocError> {
-    let mut tables = Tables::empty(alloc);
+/// Makes all changes of tables without rows, and counts those that are done by their kinds.
+pub(crate) fn walk(
+    rt: &impl Abort,
+    alloc: Global,
+    tables: &mut Tables,
+    done: &mut [u32; KINDS],
+) -> Result<(), AllocError> {
     for step in 0..STEPS {
-        if step_on(rt, alloc, &mut tables, step)? {
-            if let Some(count) = done.get_mut(usize::from(change(step).number())) {
-                *count = count.saturating_add(1);
-            }
+        if step_on(rt, alloc, tables, step)? {
+            count(done, change(step));
         }
     }
     Ok(())
@@ -110,8 +117,8 @@ fn walk(rt: &impl Abort, alloc: Global, done: &mut [u32; 22]) -> Result<(), Allo
 // changes of each kind but the first, of which there is one, are done more than once
 #[test]
 fn changes_without_memory(rt: HostRuntime) -> Result<(), Fail> {
-    let mut done = [0; 22];
-    walk(&rt, rt.alloc(), &mut done)?;
+    let mut done = [0; KINDS];
+    try_counted(&rt, rt.alloc(), Part::ChangesWithoutMemory, &mut done)?;
     for (kind, count) in done.iter().enumerate().skip(2) {
         assert!(rt; 2 <= *count, "{kind}");
     }

@@ -1,7 +1,8 @@
-use Rattle.std.proofs.Common.{Err, length, refl, sym, ap, ◌∙◌, subst}
+use Rattle.std.proofs.Common.{◌≤◌, Err, length, refl, sym, ap, ◌∙◌, subst}
 use Rattle.grid_model.specs.Digests.{HasDigest}
 use Rattle.grid_model.specs.Rows.{Cat}
 use Rattle.grid_model.specs.RowGrids.{user_name}
+use Rattle.grid_headline.specs.Numbers.{leaf_count}
 use Rattle.plan_object.specs.Writing.{FindsTargets, GoesOnlyTo, PlansWriting, Wanted}
 use Rattle.plan_object.proofs.PutDeeds.{writes_put}
 use Rattle.deed_run.proofs.planning.put_plan.Goals as goal
@@ -30,3 +31,6 @@ returns-clause-plans c =
     let O : Cat → Type 0 = λ x. GoesOnlyTo x leaves plan in
     let has : HasDigest (length body) digest body = record { size = refl; digest = sym c.of-digest.ensures } in
     writes_put cat c.requires.made (user_name cat user) w c.args.word leaves goes digest c.args.now plan body has (subst P c.tables.ensures c.in_ok-plan.ensures.plan) (subst O c.tables.ensures c.in_ok-plan.ensures.slots)
+
+pub returns-clause-leaves : goal.returns-clause-leaves
+returns-clause-leaves c = let F : Cat → Type 0 = λ e. length c.in_ok-plan.plan.files ≤ leaf_count e in subst F c.tables.ensures c.in_ok-plan.ensures.few

@@ -17,7 +17,7 @@ use Rattle.service_run.proofs.CallSteps.{step_doing}
 use Rattle.service_run.proofs.ChangeSteps.{changes_cut, fails_as}
 use Rattle.service_run.proofs.Passing.{passes_none}
 use Rattle.deed_run.specs.Puts.{does_op}
-use Rattle.deed_run.proofs.PutSteps.{does_deed, does_refused, goes_deed}
+use Rattle.deed_run.proofs.PutSteps.{does_deed, does_refused, goes_deed, where_ok}
 use Rattle.deed_run.proofs.putting.put.Goals as goal
 
 pub find_targets-requires-clause-made : goal.find_targets-requires-clause-made
@@ -108,3 +108,11 @@ returns-in-Err-Memory-clause-step g c source kept held =
 
 pub returns-in-Err-Memory-clause-passes : goal.returns-in-Err-Memory-clause-passes
 returns-in-Err-Memory-clause-passes g c = passes_none g.D.Disk.disk g.P.Plugin.plugin g.K.Sink.sink _ _ c.args.outside.now c.args.outside.now.ambient c.args.sink.now (λ e. cc) (λ e. cc)
+
+-- ---- there is a number left
+
+pub returns-clause-number : goal.returns-clause-number
+returns-clause-number g c = where_ok c.put_found.result (c.spent_vaults.ensures.left c.in-None.is)
+
+pub returns-in-Err-Refused-clause-number : goal.returns-in-Err-Refused-clause-number
+returns-in-Err-Refused-clause-number g c = c.spent_vaults.ensures.left c.in-None.is

@@ -1,9 +1,9 @@
-use Rattle.std.proofs.Common.{◌≡◌, IsTrue, inl, inr, Err, refl, sym, ap, ◌∙◌, subst, arith}
+use Rattle.std.proofs.Common.{◌≡◌, IsTrue, inl, inr, Err, refl, sym, ap, ◌∙◌, subst}
 use Rattle.std.specs.Prelude.{vec_len}
 use Rattle.grid_model.specs.Applying.{apply_all}
 use Rattle.grid_model.specs.Rows.{Cat}
 use Rattle.chain_core.specs.Seen.{rules_of}
-use Rattle.grid_server.specs.RunEnds.{run_end_of, unopened}
+use Rattle.grid_server.specs.RunEnds.{run_end_of}
 use Rattle.grid_server.specs.Running.{EndsServing, IsNotBegun}
 use Rattle.run_open.specs.declared.error.OpenError.TheVariants as error
 use Rattle.grid_server.specs.declared.status.Status.TheVariants as status

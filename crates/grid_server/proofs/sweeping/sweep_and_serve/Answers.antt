@@ -7,7 +7,7 @@ use Rattle.grid_server.specs.Turning.{status_of}
 use Rattle.grid_server.specs.declared.status.Status.TheVariants as status
 use Rattle.grid_server.proofs.RunLemmas.{took_none}
 use Rattle.grid_server.proofs.StatusLemmas.{no_long}
-use Rattle.grid_server.proofs.SweepingLemmas.{begun_by, disk_of, ends_begun, not_source, passes_swept, serves_swept, sink_of, worn_of, worn_swept}
+use Rattle.grid_server.proofs.SweepingLemmas.{begun_by, disk_of, ended_as, ends_begun, not_source, not_vaults, passes_swept, serves_swept, sink_of, worn_of, worn_swept}
 use Rattle.grid_server.proofs.ViewLemmas.{passes_as, passes_then, read_same}
 use Rattle.grid_server.proofs.sweeping.sweep_and_serve.Goals as goal
 
@@ -35,8 +35,19 @@ serve_all-requires-clause-ready g c = record {
 pub returns-in-Ok-clause-serves : goal.returns-in-Ok-clause-serves
 returns-in-Ok-clause-serves g c = λ e found end opened its.
     c.serve_all.ensures.serves e found end
-    (begun_by (record { disk = g.D.Disk.disk; source = g.S.Source.source; sink = g.K.Sink.sink; ambient = g.A.Ambient.ambient; plugin = g.P.Plugin.plugin }) (record { outside = c.args.outside.now; source = c.args.source.now; sink = c.args.sink.now }) c.sweep_orphans.new.outside c.args.server (record { main_last = c.requires.ready.outside.main_last; spare_last = c.requires.spare_last; sink_last = c.requires.ready.sink_last; stores_last = c.requires.ready.outside.stores_last }) _ c.in-Ok.ensures.frame c.in-Ok.ensures.whole c.in-Ok.ensures.leaves c.requires.fits.pending e found opened
-    c.sweep_orphans.new.self c.in-Ok.ensures.stands c.requires.nobody c.requires.slots c.in-Ok.ensures.few (λ none. c.in-Ok.ensures.still none)) its
+    (begun_by
+    (record { disk = g.D.Disk.disk; source = g.S.Source.source; sink = g.K.Sink.sink; ambient = g.A.Ambient.ambient; plugin = g.P.Plugin.plugin })
+    (record { outside = c.args.outside.now; source = c.args.source.now; sink = c.args.sink.now })
+    c.sweep_orphans.new.outside c.args.server
+    (record {
+      main_last = c.requires.ready.outside.main_last;
+      spare_last = c.requires.spare_last;
+      sink_last = c.requires.ready.sink_last;
+      stores_last = c.requires.ready.outside.stores_last;
+    })
+    _ c.in-Ok.ensures.frame c.in-Ok.ensures.whole _ c.sweep_orphans.new.self.store.cat c.in-Ok.ensures.leaves c.requires.fits.pending e found opened
+    c.sweep_orphans.new.self c.in-Ok.ensures.leaves.is_now c.in-Ok.ensures.stands c.requires.nobody c.requires.slots c.in-Ok.ensures.few
+    (λ none. c.in-Ok.ensures.still none)) its
 
 pub returns-in-Ok-clause-worn_only : goal.returns-in-Ok-clause-worn_only
 returns-in-Ok-clause-worn_only g c = λ what place is told. c.serve_all.ensures.worn_only what place is (subst IsTrue (sym c.in-Ok.ensures.frame.main.tells) told)
@@ -48,10 +59,20 @@ returns-in-Ok-clause-passes g c =
 
 pub returns-in-Err-clause-serves : goal.returns-in-Err-clause-serves
 returns-in-Err-clause-serves g c = λ e found end opened its.
-    serves_swept (record { disk = g.D.Disk.disk; source = g.S.Source.source; sink = g.K.Sink.sink; ambient = g.A.Ambient.ambient; plugin = g.P.Plugin.plugin }) (record { outside = c.args.outside.now; source = c.args.source.now; sink = c.args.sink.now }) c.sweep_orphans.new.outside c.args.server (record { main_last = c.requires.ready.outside.main_last; spare_last = c.requires.spare_last; sink_last = c.requires.ready.sink_last; stores_last = c.requires.ready.outside.stores_last }) _ c.in-Err.ensures.frame c.in-Err.ensures.whole c.in-Err.ensures.leaves c.requires.fits.pending e found opened
+    serves_swept
+    (record { disk = g.D.Disk.disk; source = g.S.Source.source; sink = g.K.Sink.sink; ambient = g.A.Ambient.ambient; plugin = g.P.Plugin.plugin })
+    (record { outside = c.args.outside.now; source = c.args.source.now; sink = c.args.sink.now })
+    c.sweep_orphans.new.outside c.args.server
+    (record {
+      main_last = c.requires.ready.outside.main_last;
+      spare_last = c.requires.spare_last;
+      sink_last = c.requires.ready.sink_last;
+      stores_last = c.requires.ready.outside.stores_last;
+    })
+    _ c.in-Err.ensures.frame c.in-Err.ensures.whole _ c.sweep_orphans.new.self.store.cat c.in-Err.ensures.leaves c.requires.fits.pending e found opened
     c.in-Err.ending end (ap run_end_of (sym c.status_of.ensures) ∙ its) (λ d. c.in-Err.ensures.frame.cause (ap Err d)) (λ d. c.in-Err.ensures.not_sink (ap Err d))
     (λ what place is told. worn_swept (g.D.Disk.disk c.args.outside.now.main) (g.D.Disk.disk c.sweep_orphans.new.outside.main) what place (c.in-Err.ensures.worn what place (ap Err is)) told)
-    (λ place is. let not : wear.Vaults ≡ wear.Log = (c.in-Err.ensures.worn wear.Vaults place (ap Err is)).0 in cc)
+    (λ place is. not_vaults (c.in-Err.ensures.worn wear.Vaults place (ap Err is)).0)
 
 pub returns-in-Err-clause-ends : goal.returns-in-Err-clause-ends
 returns-in-Err-clause-ends g c = subst EndsBegun (sym c.status_of.ensures) (ends_begun c.in-Err.ending)
@@ -70,7 +91,7 @@ returns-in-Err-clause-worn_only g c = λ what place is told.
 pub returns-in-Err-clause-passes : goal.returns-in-Err-clause-passes
 returns-in-Err-clause-passes g c =
     passes_as (record { disk = g.D.Disk.disk; source = g.S.Source.source; sink = g.K.Sink.sink; ambient = g.A.Ambient.ambient; plugin = g.P.Plugin.plugin }) _ ⊥ (c.status_of.result ≡ status.DiskFault) (c.status_of.result ≡ status.SinkFault) (record { outside = c.args.outside.now; source = c.args.source.now; sink = c.args.sink.now }) (record { outside = c.sweep_orphans.new.outside; source = c.args.source.now; sink = c.args.sink.now })
-    (λ d. let is : c.in-Err.ending ≡ ending.Disk = cc in c.status_of.ensures ∙ ap status_of is)
+    (λ d. c.status_of.ensures ∙ ap status_of (ended_as c.in-Err.ending ending.Disk d))
     (λ d. ap Err (disk_of c.in-Err.ending (sym c.status_of.ensures ∙ d))) (λ d. c.in-Err.ensures.not_sink (ap Err (sink_of c.in-Err.ending (sym c.status_of.ensures ∙ d))))
     (passes_swept (record { disk = g.D.Disk.disk; source = g.S.Source.source; sink = g.K.Sink.sink; ambient = g.A.Ambient.ambient; plugin = g.P.Plugin.plugin }) (record { outside = c.args.outside.now; source = c.args.source.now; sink = c.args.sink.now }) c.sweep_orphans.new.outside c.args.server (record { main_last = c.requires.ready.outside.main_last; spare_last = c.requires.spare_last; sink_last = c.requires.ready.sink_last; stores_last = c.requires.ready.outside.stores_last }) _ c.in-Err.ensures.frame)
 

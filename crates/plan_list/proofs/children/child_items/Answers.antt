@@ -14,10 +14,10 @@ use Rattle.plan_list.proofs.children.child_items.Goals as goal
 pub returns : goal.returns
 returns c =
     let t = c.args.tables.now in
-    let items : c.push_objects.new.items.items ≡ map item.Collection (filter (λ id. not (id == 0)) c.collections_in.result.now) ++ map item.Object c.objects_in.result.now =
+    let items : c.push_objects.new.items.items ≡ map item.Collection (filter (λ id. not (id == 0)) c.collections_in.result) ++ map item.Object c.objects_in.result =
     c.in_ok-push_objects.ensures
-    ∙ ap (λ (xs : List Item). xs ++ map item.Object c.objects_in.result.now) (c.in_ok-push_collections.ensures ∙ ap (λ (xs : List Item). xs ++ map item.Collection (filter (λ id. not (id == 0)) c.collections_in.result.now)) c.new-items.ensures.items) in
+    ∙ ap (λ (xs : List Item). xs ++ map item.Object c.objects_in.result) (c.in_ok-push_collections.ensures ∙ ap (λ (xs : List Item). xs ++ map item.Collection (filter (λ id. not (id == 0)) c.collections_in.result)) c.new-items.ensures.items) in
     let rises = c.in_ok-sort_by.ensures.sorted (λ x y. is_lt (text_cmp (item_name t x) (item_name t y))) (ranks_by text_cmp_total (item_name t))
     (always_returns_same _ (λ a r. is_lt r ≡ is_lt (text_cmp (item_name t a.0.now) (item_name t a.1.0.now))) _ (λ a r f k. search rules)) in
-    are_children t (sound_of t c.requires) c.args.id c.collections_in.result.now c.objects_in.result.now c.collections_in.ensures c.objects_in.ensures
+    are_children t (sound_of t c.requires) c.args.id c.collections_in.result c.objects_in.result c.collections_in.ensures c.objects_in.ensures
     c.push_objects.new.items.items c.sort_by.new.self.items items c.in_ok-sort_by.ensures.permutation rises

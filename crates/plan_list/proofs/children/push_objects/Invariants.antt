@@ -1,7 +1,7 @@
-use Rattle.std.proofs.Common.{◌≡◌, ◌++◌, map, drop}
+use Rattle.std.proofs.Common.{◌≡◌, ◌++◌, map}
 use Rattle.grid_model.specs.declared.deltas.Item.TheVariants as item
 use Rattle.plan_list.proofs.children.push_objects.Given as goal
 
--- what was added so far and what the other ids give come to what all give
+-- what was added so far and what the ids that are left give come to what all give
 abbrev pub invariant-loop-id : goal.invariant-loop-id
-invariant-loop-id l = l.items.items ++ map item.Object (drop l.id-index l.ids) ≡ l.initial.items.items ++ map item.Object l.ids
+invariant-loop-id l = l.items.items ++ map item.Object l.id-iterator ≡ l.initial.items.items ++ map item.Object l.fn.ids

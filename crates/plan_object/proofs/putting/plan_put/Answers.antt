@@ -1,6 +1,7 @@
 use Rattle.std.proofs.Common.{arith, sym}
 use Rattle.grid_model.specs.RowGrids.{grid_of}
 use Rattle.plan_object.specs.Writing.{Recorded}
+use Rattle.plan_object.proofs.FewFiles.{few_new, few_over}
 use Rattle.plan_object.proofs.PutLemmas.{above_is, few_targets, id_there, only_over, only_to, planned, planned_over, targets_as}
 use Rattle.plan_object.proofs.putting.plan_put.Goals as goal
 
@@ -23,6 +24,13 @@ returns-in-Some-clause-slots c =
     only_over c.args.tables.now c.in-Some.id r c.args.leaves.now c.as_slice-in-Some.result.now
     (targets_as c.args.tables.now c.args.leaves.now _ _ _ c.in_ok-targets.ensures c.as_slice.ensures c.as_slice-in-Some.ensures.value) c.plan_over.result c.plan_over.ensures
 
+pub returns-in-Some-clause-few : goal.returns-in-Some-clause-few
+returns-in-Some-clause-few c =
+    let r : Recorded = record { size = c.args.size; digest = c.args.digest; now = c.args.now } in
+    few_over c.args.tables.now c.args.leaves.now c.requires.may.all c.as_slice-in-Some.result.now
+    (targets_as c.args.tables.now c.args.leaves.now _ _ _ c.in_ok-targets.ensures c.as_slice.ensures c.as_slice-in-Some.ensures.value)
+    c.in-Some.id r c.plan_over.result c.plan_over.ensures
+
 pub new_object-requires-clause-inside : goal.new_object-requires-clause-inside
 new_object-requires-clause-inside c =
     let may = c.requires.may in
@@ -43,3 +51,10 @@ returns-clause-slots c =
     let r : Recorded = record { size = c.args.size; digest = c.args.digest; now = c.args.now } in
     only_to c.args.tables.now c.args.user c.args.path.now r c.args.leaves.now c.as_slice-in-None.result.now
     (targets_as c.args.tables.now c.args.leaves.now _ _ _ c.in_ok-targets.ensures c.as_slice.ensures c.as_slice-in-None.ensures.value) c.new_object.result c.new_object.ensures
+
+pub returns-clause-few : goal.returns-clause-few
+returns-clause-few c =
+    let r : Recorded = record { size = c.args.size; digest = c.args.digest; now = c.args.now } in
+    few_new c.args.tables.now c.args.leaves.now c.requires.may.all c.as_slice-in-None.result.now
+    (targets_as c.args.tables.now c.args.leaves.now _ _ _ c.in_ok-targets.ensures c.as_slice.ensures c.as_slice-in-None.ensures.value)
+    c.args.user c.args.path.now r c.new_object.result c.new_object.ensures

@@ -1,10 +1,11 @@
-use Rattle.std.proofs.Common.{IsTrue, ap, ◌∙◌}
+use Rattle.std.proofs.Common.{IsTrue, refl, ap, ◌∙◌}
 use Rattle.grid_model.specs.Applying.{is_leaf}
 use Rattle.grid_tree.proofs.Named.{named-as}
 use Rattle.grid_model.specs.RowGrids.{grid_of}
 use Rattle.grid_model.specs.Trees.{targets}
 use Rattle.plan_base.proofs.AtPaths.{sound_of}
 use Rattle.plan_object.specs.ReplPlans.{lacking_leaves}
+use Rattle.plan_object.proofs.FewFiles.{few_repl}
 use Rattle.plan_object.proofs.GotFiles.{known_named}
 use Rattle.plan_object.proofs.LackingLeaves.{left_all}
 use Rattle.plan_object.proofs.PutLemmas.{targets_as}
@@ -37,3 +38,13 @@ returns-clause-copies c = λ user from now may.
 
 pub returns-clause-idle : goal.returns-clause-idle
 returns-clause-idle c = planned_idle c.args.tables.now c.in-Some-object.row.now c.as_slice-in-Some-object.result.now c.replicas_plan.result c.replicas_plan.ensures
+
+pub returns-clause-few : goal.returns-clause-few
+returns-clause-few c =
+    let cat = c.args.tables.now in
+    let all = left_all (λ id. IsTrue (is_leaf cat id)) c.replicas_of.result.now c.in_ok-leaves.leaves c.as_slice.result.now
+    c.in_ok-lacking.lacking.items c.as_slice-2.result.now
+    c.in_ok-leaves.ensures.leaves c.as_slice.ensures c.in_ok-lacking.ensures c.as_slice-2.ensures.value in
+    few_repl cat c.as_slice-2.result.now all c.as_slice-in-Some-object.result.now
+    (targets_as cat c.as_slice-2.result.now c.as_slice-2.result.now _ _ c.in_ok-targets.ensures refl c.as_slice-in-Some-object.ensures.value)
+    c.in-Some-object.row.now c.replicas_plan.result c.replicas_plan.ensures

@@ -13,5 +13,5 @@ returns-in_ok-ids-in-None c = λ user.
 pub returns-in-Some : goal.returns-in-Some
 returns-in-Some c =
     IfOk-weaker c.objects_once.result _ _ (λ ids has user.
-    shown_among c.args.tables.now user c.args.query.now (object_ids c.in-Some.items.now) ids.items has.from (c.in-Some.ensures user))
+    shown_among c.args.tables.now user c.args.query.now (object_ids c.in-Some.items) ids.items has.from (c.in-Some.ensures user))
     c.objects_once.ensures.members

@@ -50,7 +50,7 @@ run_alone-requires-clause-ready g c =
 -- ---- it was cut short
 
 pub returns-in-Err-clause-executes : goal.returns-in-Err-clause-executes
-returns-in-Err-clause-executes g c source at request vs asked values calls does =
+returns-in-Err-clause-executes g c source at request vs asked values calls makes does =
     let disk = g.D.Disk.disk in
     let ambient = g.A.Ambient.ambient in
     let plugin = g.P.Plugin.plugin in
@@ -95,7 +95,7 @@ finish-requires-clause-ready g c =
     (omega (arith, c.run_alone.ensures.drawn))
 
 pub returns-clause-executes : goal.returns-clause-executes
-returns-clause-executes g c source at request vs asked values calls does =
+returns-clause-executes g c source at request vs asked values calls makes does =
     let disk = g.D.Disk.disk in
     let ambient = g.A.Ambient.ambient in
     let plugin = g.P.Plugin.plugin in
@@ -125,7 +125,7 @@ returns-clause-executes g c source at request vs asked values calls does =
     (its_reply disk ambient plugin sink source at request rows.cat x asked (record { outside = c.args.outside.now; sink = c.args.sink.now }) rules env
     c.args.call vs does c.stops_halt.ensures c.takes_in_order.ensures c.calls_end_by_rows.ensures
     (record { outside = c.run_alone.new.outside; sink = c.run_alone.new.sink }) ran.0 c.in-Ok.outcome y left ran.1 c.end_of.result c.end_of.ensures.is)
-    refl (λ none. absurd (calls none))
+    refl (λ session order is files some was. absurd (makes session order is files)) (λ none. absurd (calls none))
 
 pub returns-clause-passes : goal.returns-clause-passes
 returns-clause-passes g c =

@@ -1,4 +1,4 @@
-use Rattle.std.proofs.Common.{ap, ◌∙◌, arith}
+use Rattle.std.proofs.Common.{ap, ◌∙◌}
 use Rattle.std.specs.Prelude.{is_ok, is_some}
 use Rattle.grid_model.specs.Rows.{Cat}
 use Rattle.grid_outside.proofs.Spans.{leaves_start}

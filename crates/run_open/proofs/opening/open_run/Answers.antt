@@ -1,4 +1,4 @@
-use Rattle.std.proofs.Common.{◌≡◌, ℕ, ◌+◌, inl, inr, [], ◌++◌, Err, IsTrue, refl, sym, ap, ◌∙◌, subst, arith}
+use Rattle.std.proofs.Common.{◌≡◌, ℕ, inl, inr, ◌++◌, Err, IsTrue, refl, sym, ap, ◌∙◌, subst, arith}
 use Rattle.grid_outside.specs.Device.{Between}
 use Rattle.grid_outside.specs.Sink.{AddsPart, SinkState}
 use Rattle.grid_model.specs.Names.{Text}

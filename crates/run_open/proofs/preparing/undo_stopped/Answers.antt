@@ -1,4 +1,4 @@
-use Rattle.std.proofs.Common.{◌≡◌, ◌≤◌, ℕ, ◌+◌, ◌^◌, [], ◌++◌, Option, Some, Ok, Err, IsTrue, refl, sym, ap, ◌∙◌, subst, arith}
+use Rattle.std.proofs.Common.{◌≡◌, ◌≤◌, ℕ, ◌+◌, ◌^◌, [], ◌++◌, length, Option, Some, Ok, Err, IsTrue, refl, sym, ap, ◌∙◌, subst, arith}
 use Rattle.grid_outside.specs.Device.{Between}
 use Rattle.grid_outside.specs.Sink.{AddsPart, SinkState}
 use Rattle.grid_model.specs.Names.{Text}
@@ -13,7 +13,7 @@ use Rattle.grid_journal.specs.Journal.{Journal}
 use Rattle.run_open.specs.Errors.{error_by}
 use Rattle.run_open.specs.Preparing.{OpenStops}
 use Rattle.run_open.specs.declared.error.OpenError.TheVariants as error
-use Rattle.run_open.proofs.Fronts.{front_of, opens-front, some-undone}
+use Rattle.run_open.proofs.Fronts.{front_of, gives_same, keeps_same, opens-front, some-undone}
 use Rattle.run_open.proofs.Passing.{passes-as, passes-told, ready-after}
 use Rattle.run_open.proofs.Undones.{opens-at, prepared-at, stops_so}
 use Rattle.run_open.proofs.Ways.{disk_by, no_source, sink_by, stops_as}
@@ -39,7 +39,9 @@ returns-in-Err-clause-prepares g c = λ source rules order begin rules_are.
     let u = some-undone cat rules rules_are in
     let is = c.as_slice.ensures ∙ c.requires.stopped.4 ∙ front_is cat c.requires.stopped.0 c.requires.stopped.1 in (
       opens-front (around g.D.Disk.disk g.A.Ambient.ambient g.P.Plugin.plugin c.args.outside.now (g.K.Sink.sink c.args.sink.now) source) cat begin order (g.K.Sink.sink c.tell.new.sink) c.tell.new.moments c.tell.ensures.drawn_from
-          (told_as c.args.outside.now.moments c.tell.new.moments c.as_slice.result.now (front_of cat) (g.K.Sink.sink c.args.sink.now) (g.K.Sink.sink c.tell.new.sink) is c.tell.ensures.told) u.0 u.1,
+          (told_as c.args.outside.now.moments c.tell.new.moments c.as_slice.result.now (front_of cat) (g.K.Sink.sink c.args.sink.now)
+          (g.K.Sink.sink c.tell.new.sink) is c.tell.ensures.told) u.0 cat (keeps_same cat)
+          (gives_same cat (length u.0.report)) u.1,
       u.2,
     )
 

@@ -163,7 +163,7 @@ returns-clause-step g c source kept from d held finds row_is =
     let T : _ → Type 0 = λ a. IsTrue (ambient a).tells → GivesTime (ambient c.word-word.new.self) c.now-now.result (ambient a) in
     marked_step g.D.Disk.disk ambient g.P.Plugin.plugin g.K.Sink.sink source o n c.now-now.new.self c.args.sink.now c.copy_marked.new.sink kept rows x call undo
     c.requires.user s1 s.cat (copy_row (grid_of s1.cat) name from to resource) file (copy_named cat name from to resource file finds) finds.within _ count_is (omega (arith, c.requires.slots, o.stores.ok.0))
-    c.word-word.result c.now-now.result c.in-Ok-copy_plan.plan w
+    c.word-word.result c.now-now.result c.in-Ok-copy_plan.plan w c.in-Ok-copy_plan.ensures.leaves
     (ambient c.word-word.new.self) c.word-word.ensures (subst T (sym copy.ambient) c.now-now.ensures) c.requires.ready.outside.stores_last copy.passes.frame.stores
     d (ap (λ (grid : Grid). copy_row grid name from to resource) (grid_before cat x call undo s1.cat s.cat) ∙ row_is) c.copy_marked.result c.copy_marked.new.command c.copy_marked.new.store (copy.marked kept s.held p) (copy.whole kept s.held)
 

@@ -153,7 +153,7 @@ returns-clause-step g c source kept d held row_is =
     let T : _ → Type 0 = λ a. IsTrue (ambient a).tells → GivesTime (ambient c.word-word.new.self) c.now-now.result (ambient a) in
     marked_step g.D.Disk.disk ambient g.P.Plugin.plugin g.K.Sink.sink source o n c.now-now.new.self c.args.sink.now c.copy_marked.new.sink kept rows x call undo
     c.requires.user s1 s.cat (repl_row (grid_of s1.cat) name path resource) from (repl_named cat name path resource from c.requires.may) c.requires.may.within _ count_is (omega (arith, c.requires.slots, o.stores.ok.0))
-    c.word-word.result c.now-now.result c.in-Ok-repl_plan.plan w
+    c.word-word.result c.now-now.result c.in-Ok-repl_plan.plan w c.in-Ok-repl_plan.ensures.leaves
     (ambient c.word-word.new.self) c.word-word.ensures (subst T (sym copy.ambient) c.now-now.ensures) c.requires.ready.outside.stores_last copy.passes.frame.stores
     d (ap (λ (grid : Grid). repl_row grid name path resource) (grid_before cat x call undo s1.cat s.cat) ∙ row_is) c.copy_marked.result c.copy_marked.new.command c.copy_marked.new.store (copy.marked kept s.held p) (copy.whole kept s.held)
 

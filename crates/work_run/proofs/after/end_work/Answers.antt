@@ -1,6 +1,5 @@
 use Rattle.std.proofs.Common.{◌≡◌, ◌+◌, ◌*◌, ◌^◌, List, ◌++◌, sym, ap, ◌∙◌, subst, arith}
 use Rattle.grid_model.specs.Names.{Text}
-use Rattle.grid_model.specs.declared.marks.Mark.{Mark}
 use Rattle.grid_model.specs.declared.replies.End.{End}
 use Rattle.grid_model.specs.declared.replies.End.TheVariants as end
 use Rattle.grid_headline.specs.Files.{IsKnown}
@@ -48,7 +47,7 @@ run_point-requires-clause-ready g c =
 -- ---- they were cut short
 
 pub returns-in-Err-clause-executes : goal.returns-in-Err-clause-executes
-returns-in-Err-clause-executes g c source at request before x from taken user w p text_of sent asked does_so asked_so its amid tells behind =
+returns-in-Err-clause-executes g c source at request before x from taken user w p text_of sent asked does_so asked_so its amid tells behind number =
     let rules = rules_of c.args.rules.now in
     let env = env_of c.args.after.env in
     let place = place_by c.args.store.now.cat c.args.command in
@@ -88,7 +87,7 @@ conclude-requires-clause-ready g c =
     (omega (arith, c.run_point.ensures.drawn))
 
 pub returns-in-Some-clause-executes : goal.returns-in-Some-clause-executes
-returns-in-Some-clause-executes g c source at request before x from taken user w p text_of sent asked does_so asked_so its amid tells behind =
+returns-in-Some-clause-executes g c source at request before x from taken user w p text_of sent asked does_so asked_so its amid tells behind number =
     let rules = rules_of c.args.rules.now in
     let env = env_of c.args.after.env in
     let place = place_by c.args.store.now.cat c.args.command in
@@ -108,7 +107,7 @@ returns-in-Some-clause-executes g c source at request before x from taken user w
     (post_ended at request rules env p its.rules_are its.env_is c.args.after.frames place taken its.unstopped c.args.after.post its.name_is said behind
     c.names_halt.ensures c.names_are_stopped.ensures runs.more c.in-Ok.outcome c.run_point.new.frames
     (place_by c.run_point.new.store.cat c.run_point.new.command) runs.gives_so c.in-Some.failure (sym c.failure_of.ensures ∙ c.in-Some.is))))
-    (λ calls. absurd (its.calls calls))
+    (λ calls. absurd (its.calls calls)) (λ was. number)
 
 pub returns-in-Some-clause-passes : goal.returns-in-Some-clause-passes
 returns-in-Some-clause-passes g c =
@@ -140,7 +139,7 @@ conclude-requires-in-None-clause-ready g c =
     (omega (arith, c.run_point.ensures.drawn))
 
 pub returns-in-None-clause-executes : goal.returns-in-None-clause-executes
-returns-in-None-clause-executes g c source at request before x from taken user w p text_of sent asked does_so asked_so its amid tells behind =
+returns-in-None-clause-executes g c source at request before x from taken user w p text_of sent asked does_so asked_so its amid tells behind number =
     let rules = rules_of c.args.rules.now in
     let env = env_of c.args.after.env in
     let place = place_by c.args.store.now.cat c.args.command in
@@ -154,7 +153,7 @@ returns-in-None-clause-executes g c source at request before x from taken user w
     (post_ended_well at request rules env p its.rules_are its.env_is c.args.after.frames place taken its.unstopped c.args.after.post its.name_is said behind
     c.names_halt.ensures c.names_are_stopped.ensures runs.more c.in-Ok.outcome c.run_point.new.frames
     (place_by c.run_point.new.store.cat c.run_point.new.command) runs.gives_so (sym c.failure_of.ensures ∙ c.in-None.is))
-    (λ calls. absurd (its.calls calls))
+    (λ calls. absurd (its.calls calls)) (λ was. number)
 
 pub returns-in-None-clause-passes : goal.returns-in-None-clause-passes
 returns-in-None-clause-passes g c =

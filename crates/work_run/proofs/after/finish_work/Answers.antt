@@ -1,4 +1,4 @@
-use Rattle.std.proofs.Common.{◌≡◌, ◌+◌, ◌*◌, ◌^◌, None, Some, refl, sym, ap, ◌∙◌, subst, arith}
+use Rattle.std.proofs.Common.{sym, ap, ◌∙◌, subst, arith}
 use Rattle.grid_model.specs.RowGrids.{user_name}
 use Rattle.chain_core.specs.Seen.{rules_of}
 use Rattle.run_laws.specs.Passes.{AreReady}
@@ -39,13 +39,13 @@ end_work-requires-clause-ready g c =
     subst (λ a. AreReady g.D.Disk.disk g.P.Plugin.plugin g.K.Sink.sink (draws_by a) (record { outside = c.args.outside.now; sink = c.args.sink.now })) c.in-Some.is c.requires.ready
 
 pub returns-in-Some-clause-executes : goal.returns-in-Some-clause-executes
-returns-in-Some-clause-executes g c source at request before x from taken user w p text_of sent asked does_so asked_so runs amid tells behind nothing =
+returns-in-Some-clause-executes g c source at request before x from taken user w p text_of sent asked does_so asked_so runs amid tells behind nothing number =
     let its = subst (λ a. RunsAfter at request (rules_of c.args.rules.now) a p) c.in-Some.is runs in
     c.end_work.ensures.executes source at request before x from taken user w its.0 text_of sent asked does_so asked_so its.2 amid tells
     (subst (λ o. IsBehind at request taken (place_by c.args.store.now.cat c.args.command) c.in-Some.after.frames.begun
     (from_worked at o (record { words = c.args.words; rows = c.args.rows; sent = sent }))) its.1
     (subst (λ a. IsBehind at request taken (place_by c.args.store.now.cat c.args.command) (begun_by a)
-    (from_worked at p (record { words = c.args.words; rows = c.args.rows; sent = sent }))) c.in-Some.is behind))
+    (from_worked at p (record { words = c.args.words; rows = c.args.rows; sent = sent }))) c.in-Some.is behind)) number
 
 pub returns-in-Some-clause-vaults : goal.returns-in-Some-clause-vaults
 returns-in-Some-clause-vaults g c place none is = absurd (let both = sym c.in-Some.is ∙ none in cc both)
@@ -75,7 +75,7 @@ conclude-requires-clause-ready g c =
     subst (λ a. AreReady g.D.Disk.disk g.P.Plugin.plugin g.K.Sink.sink (draws_by a) (record { outside = c.args.outside.now; sink = c.args.sink.now })) c.in-None.is c.requires.ready
 
 pub returns-in-None-clause-executes : goal.returns-in-None-clause-executes
-returns-in-None-clause-executes g c source at request before x from taken user w p text_of sent asked does_so asked_so runs amid tells behind nothing =
+returns-in-None-clause-executes g c source at request before x from taken user w p text_of sent asked does_so asked_so runs amid tells behind nothing number =
     let said : Said = record { words = c.args.words; rows = c.args.rows; sent = sent } in
     let place = place_by c.args.store.now.cat c.args.command in
     let none = subst (λ a. RunsAfter at request (rules_of c.args.rules.now) a p) c.in-None.is runs in
@@ -83,7 +83,7 @@ returns-in-None-clause-executes g c source at request before x from taken user w
     (ended_alone at request taken place 0 said
     (subst (λ o. IsBehind at request taken place 0 (from_worked at o said)) none
     (subst (λ a. IsBehind at request taken place (begun_by a) (from_worked at p said)) c.in-None.is behind)))
-    nothing
+    nothing (λ was. number)
 
 pub returns-in-None-clause-vaults : goal.returns-in-None-clause-vaults
 returns-in-None-clause-vaults g c place none is = c.conclude.ensures.vaults place is

@@ -1,4 +1,4 @@
-use Rattle.std.proofs.Common.{◌≡◌, ◌^◌, [], refl, sym, ap, ◌∙◌, subst}
+use Rattle.std.proofs.Common.{◌^◌, refl, sym, ◌∙◌, subst}
 use Rattle.grid_model.specs.Names.{Text}
 use Rattle.grid_model.specs.QueryOrders.{ReadsQuery}
 use Rattle.grid_model.specs.RowGrids.{user_name}
@@ -12,7 +12,7 @@ use Rattle.work_run.proofs.asking.ask.Goals as goal
 -- ---- there was no memory for its text
 
 pub returns-in-Err-clause-executes : goal.returns-in-Err-clause-executes
-returns-in-Err-clause-executes g c source at request q asked reads does_so rules_is =
+returns-in-Err-clause-executes g c source at request q asked reads does_so rules_is makes =
     let rows = c.args.store.now in
     let x = c.args.command in
     cut_first at request rows.cat x asked (user_name rows.cat x.user) (query q) does_so g.D.Disk.disk g.A.Ambient.ambient g.P.Plugin.plugin g.K.Sink.sink source (record { outside = c.args.outside.now; sink = c.args.sink.now }) rows
@@ -63,8 +63,9 @@ pub begin-requires-clause-frames : goal.begin-requires-clause-frames
 begin-requires-clause-frames g c = (c.new-frames.ensures.begun, c.new-frames.ensures.stopped)
 
 pub returns-clause-executes : goal.returns-clause-executes
-returns-clause-executes g c source at request q asked reads does_so rules_is =
+returns-clause-executes g c source at request q asked reads does_so rules_is makes =
     c.begin.ensures.executes source at request (query q) asked (subst (λ (t : Text). ReadsQuery t q) (sym (c.in-Ok.ensures ∙ c.as_slice.ensures)) reads) does_so rules_is
+    makes
 
 pub returns-clause-passes : goal.returns-clause-passes
 returns-clause-passes g c = c.begin.ensures.passes

@@ -1,7 +1,7 @@
 use Rattle.std.proofs.Common.{◌+◌, ◌*◌, ◌^◌, List, [], ◌++◌, None, Some, refl, sym, ◌∙◌, subst, arith}
 use Rattle.grid_model.specs.Names.{Text}
-use Rattle.grid_model.specs.declared.marks.Mark.{Mark}
 use Rattle.grid_model.specs.declared.replies.End.{End}
+use Rattle.grid_headline.specs.Ends.{WasDone}
 use Rattle.chain_core.specs.Seen.{rules_of}
 use Rattle.rule_cond.specs.Scopes.{env_of}
 use Rattle.service_run.specs.Commands.{place_by}
@@ -13,7 +13,7 @@ use Rattle.work_run.specs.Behind.{IsBehind, IsEnded, from_work}
 use Rattle.work_run.specs.Telling.{tells_lines}
 use Rattle.work_run.specs.Works.{DoesSo}
 use Rattle.work_run.proofs.Cut.{marks_are}
-use Rattle.work_run.proofs.Deeds.{asked_so}
+use Rattle.work_run.proofs.Deeds.{asked_so, not_done_before}
 use Rattle.work_run.proofs.Points.{pre_cut, pre_ended, pre_goes, pre_off, pre_waits_with}
 use Rattle.work_run.proofs.before.run_before.Goals as goal
 
@@ -48,7 +48,7 @@ run_point-requires-clause-ready g c =
 -- ---- they were cut short
 
 pub returns-in-Err-clause-executes : goal.returns-in-Err-clause-executes
-returns-in-Err-clause-executes g c source at request w p asked works does_so rules_is rules_called has behind =
+returns-in-Err-clause-executes g c source at request w p asked works does_so rules_is rules_called has behind makes =
     let rules = rules_of c.args.rules.now in
     let env = env_of c.args.env in
     let before = c.args.store.now.cat in
@@ -96,7 +96,7 @@ conclude-requires-clause-ready g c =
     (omega (arith, c.run_point.ensures.drawn))
 
 pub returns-in-Some-clause-executes : goal.returns-in-Some-clause-executes
-returns-in-Some-clause-executes g c source at request w p asked works does_so rules_is rules_called has behind =
+returns-in-Some-clause-executes g c source at request w p asked works does_so rules_is rules_called has behind makes =
     let rules = rules_of c.args.rules.now in
     let env = env_of c.args.env in
     let before = c.args.store.now.cat in
@@ -116,7 +116,7 @@ returns-in-Some-clause-executes g c source at request w p asked works does_so ru
     (pre_ended at request rules env p rules_is has.env_is c.args.frames place [] c.requires.frames c.args.pre has.pre_is c.args.env.user w behind
     c.names_halt.ensures c.names_are_stopped.ensures runs.more c.in-Ok.outcome c.run_point.new.frames
     (place_by c.run_point.new.store.cat c.run_point.new.command) runs.gives_so c.in-Some.failure (sym c.failure_of.ensures ∙ c.in-Some.is))))
-    (λ calls. absurd (rules_called calls))
+    (λ calls. absurd (rules_called calls)) (λ was. absurd (not_done_before c.in-Some.failure (subst WasDone c.failed_before-end.ensures.is was)))
 
 pub returns-in-Some-clause-passes : goal.returns-in-Some-clause-passes
 returns-in-Some-clause-passes g c =
@@ -171,7 +171,7 @@ do_work-requires-clause-ready g c =
     c.run_point.ensures.passes c.requires.ready (omega (arith, c.run_point.ensures.drawn))
 
 pub returns-in-None-clause-executes : goal.returns-in-None-clause-executes
-returns-in-None-clause-executes g c source at request w p asked works does_so rules_is rules_called has behind =
+returns-in-None-clause-executes g c source at request w p asked works does_so rules_is rules_called has behind makes =
     let rules = rules_of c.args.rules.now in
     let env = env_of c.args.env in
     let before = c.args.store.now.cat in
@@ -202,7 +202,7 @@ returns-in-None-clause-executes g c source at request w p asked works does_so ru
     (pre_goes at request rules env p rules_is has.env_is c.args.frames place [] c.requires.frames c.args.pre has.pre_is c.args.env.user w behind
     c.names_halt.ensures c.names_are_stopped.ensures runs.more c.in-Ok.outcome c.run_point.new.frames
     (place_by c.run_point.new.store.cat c.run_point.new.command) runs.gives_so (sym c.failure_of.ensures ∙ c.in-None.is)))
-    (λ calls. absurd (rules_called calls))
+    (λ calls. absurd (rules_called calls)) makes
 
 pub returns-in-None-clause-passes : goal.returns-in-None-clause-passes
 returns-in-None-clause-passes g c =

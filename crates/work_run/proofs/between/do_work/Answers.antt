@@ -1,4 +1,4 @@
-use Rattle.std.proofs.Common.{◌≡◌, ◌+◌, ◌^◌, true, Err, refl, sym, ap, ◌∙◌, subst, arith}
+use Rattle.std.proofs.Common.{sym, ap, ◌∙◌, subst}
 use Rattle.grid_model.specs.RowGrids.{grid_of, user_name}
 use Rattle.grid_model.specs.declared.requests.Verb.{Verb}
 use Rattle.point_laws.specs.Works.{Work, operation}
@@ -7,7 +7,7 @@ use Rattle.service_run.specs.Commands.{place_by}
 use Rattle.work_run.specs.Behind.{IsBehind, from_work}
 use Rattle.work_run.specs.Pointed.{begun_by}
 use Rattle.work_run.specs.Verbs.{IsIdle, MayMakeFile, WorksAs}
-use Rattle.work_run.specs.Works.{DoesSo}
+use Rattle.work_run.specs.Works.{DoesSo, MakesFilesBy}
 use Rattle.grid_model.specs.Operations.Table.{get as get_of, row}
 use Rattle.work_run.proofs.Deeds.{call_as, get_as, has_op, idle_call, makes_call, query_as}
 use Rattle.work_run.proofs.between.do_work.Goals as goal
@@ -45,13 +45,13 @@ pub call_for-requires-clause-call : goal.call_for-requires-clause-call
 call_for-requires-clause-call g c = sym c.is_call.ensures ∙ c.if-is_call.true
 
 pub returns-then-is_call-clause-executes : goal.returns-then-is_call-clause-executes
-returns-then-is_call-clause-executes g c source at request before x from taken w p asked works does_so after amid behind begins =
+returns-then-is_call-clause-executes g c source at request before x from taken w p asked works does_so after amid behind begins makes =
     let its = call_as c.args.verb.now c.args.body.now w (sym c.is_call.ensures ∙ c.if-is_call.true) works in
     let user = user_name c.args.store.now.cat c.args.command.user in
     c.call_for.ensures.executes source at request before x from taken its.0 p asked its.2
     (subst (λ (v : Work). DoesSo at request user v) its.1 does_so) after amid
     (subst (λ (v : Work). IsBehind at request taken (place_by c.args.store.now.cat c.args.command) (begun_by c.args.after) (from_work at p user v)) its.1 behind)
-    begins
+    begins (subst (MakesFilesBy request) its.1 makes)
 
 pub returns-then-is_call-clause-passes : goal.returns-then-is_call-clause-passes
 returns-then-is_call-clause-passes g c = c.call_for.ensures.passes
@@ -96,13 +96,13 @@ pub get_for-requires-clause-asked : goal.get_for-requires-clause-asked
 get_for-requires-clause-asked g c = subst IsWordIfAny (sym c.as_ref.ensures.value) (subst HasGoodWords c.in-Get.is c.requires.words)
 
 pub returns-in-Get-clause-executes : goal.returns-in-Get-clause-executes
-returns-in-Get-clause-executes g c source at request before x from taken w p asked works does_so after amid behind begins =
+returns-in-Get-clause-executes g c source at request before x from taken w p asked works does_so after amid behind begins makes =
     let its = get_as c.in-Get.path c.in-Get.resource c.args.body.now w (subst (λ (v : Verb). WorksAs v c.args.body.now w) c.in-Get.is works)
     ∙ ap (λ r. operation (get_of c.in-Get.path r)) (sym c.as_ref.ensures.value) in
     let user = user_name c.args.store.now.cat c.args.command.user in
     c.get_for.ensures.executes source at request before x from taken p asked (subst (λ (v : Work). DoesSo at request user v) its does_so) after amid
     (subst (λ (v : Work). IsBehind at request taken (place_by c.args.store.now.cat c.args.command) (begun_by c.args.after) (from_work at p user v)) its behind)
-    begins
+    begins (subst (MakesFilesBy request) its makes)
 
 pub returns-in-Get-clause-passes : goal.returns-in-Get-clause-passes
 returns-in-Get-clause-passes g c = c.get_for.ensures.passes
@@ -145,13 +145,13 @@ pub show_for-requires-clause-ready : goal.show_for-requires-clause-ready
 show_for-requires-clause-ready g c = c.requires.ready
 
 pub returns-in-Query-clause-executes : goal.returns-in-Query-clause-executes
-returns-in-Query-clause-executes g c source at request before x from taken w p asked works does_so after amid behind begins =
+returns-in-Query-clause-executes g c source at request before x from taken w p asked works does_so after amid behind begins makes =
     let its = query_as c.in-Query.text c.args.body.now w (subst (λ (v : Verb). WorksAs v c.args.body.now w) c.in-Query.is works) in
     let user = user_name c.args.store.now.cat c.args.command.user in
     c.show_for.ensures.executes source at request before x from taken its.0 p asked its.2 (subst (λ (v : Work). DoesSo at request user v) its.1 does_so) after
     amid
     (subst (λ (v : Work). IsBehind at request taken (place_by c.args.store.now.cat c.args.command) (begun_by c.args.after) (from_work at p user v)) its.1 behind)
-    begins
+    begins (subst (MakesFilesBy request) its.1 makes)
 
 pub returns-in-Query-clause-passes : goal.returns-in-Query-clause-passes
 returns-in-Query-clause-passes g c = c.show_for.ensures.passes

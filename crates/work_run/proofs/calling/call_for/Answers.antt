@@ -1,4 +1,4 @@
-use Rattle.std.proofs.Common.{◌≡◌, ◌+◌, ◌*◌, ◌^◌, List, [], ◌++◌, None, Ok, Err, IsTrue, refl, sym, ap, ◌∙◌, subst, arith}
+use Rattle.std.proofs.Common.{◌≡◌, ◌+◌, ◌≤◌, ◌^◌, List, [], ◌++◌, None, Ok, Err, IsTrue, refl, sym, ap, ◌∙◌, subst, arith}
 use Rattle.grid_outside.specs.declared.outside.Outside.{Outside}
 use Rattle.grid_model.specs.Applying.{IsMade}
 use Rattle.grid_model.specs.Names.{Text}
@@ -7,9 +7,10 @@ use Rattle.grid_model.specs.Rows.{Cat}
 use Rattle.grid_model.specs.Working.{running, words_of}
 use Rattle.deed_run.specs.Puts.{does_op}
 use Rattle.run_laws.specs.Around.{around}
-use Rattle.grid_model.specs.declared.marks.Mark.{Mark}
 use Rattle.grid_model.specs.declared.replies.End.{End}
 use Rattle.grid_deed.proofs.Keeping.{made_more}
+use Rattle.grid_headline.specs.Ends.{WasDone}
+use Rattle.grid_headline.specs.Numbers.{last_vault}
 use Rattle.service_run.specs.Commands.{place_by}
 use Rattle.service_run.specs.Steps.{lines_of}
 use Rattle.service_run.specs.declared.ending.Ending.TheVariants as ending
@@ -23,7 +24,7 @@ use Rattle.work_run.specs.Pointed.{AreFor, begun_by, draws_by}
 use Rattle.work_run.specs.Telling.{tells_lines}
 use Rattle.work_run.proofs.Called.{cut_there, is_on}
 use Rattle.work_run.proofs.Cut.{cut_here}
-use Rattle.work_run.proofs.Deeds.{works_silent}
+use Rattle.work_run.proofs.Deeds.{not_done, works_silent}
 use Rattle.work_run.proofs.Nothing.{leaves_call, same_nothing}
 use Rattle.work_run.proofs.VaultNeeds.{draws_five, error_as}
 use Rattle.work_run.proofs.Answered.{step_as}
@@ -40,7 +41,7 @@ op_words-requires-clause-call g c = c.requires.call
 -- ---- there was no memory for its words
 
 pub returns-in-Err-clause-executes : goal.returns-in-Err-clause-executes
-returns-in-Err-clause-executes g c source at request before x from taken op p asked works does_so after amid behind begins =
+returns-in-Err-clause-executes g c source at request before x from taken op p asked works does_so after amid behind begins makes =
     cut_here g.D.Disk.disk g.A.Ambient.ambient g.P.Plugin.plugin g.K.Sink.sink source at request before x asked from
     (user_name c.args.store.now.cat c.args.command.user) (operation op) p (begun_by c.args.after)
     (record { outside = c.args.outside.now; sink = c.args.sink.now }) c.args.command c.args.store.now taken amid behind does_so tt
@@ -119,7 +120,7 @@ finish_work-requires-clause-ready g c =
     c.work.ensures.passes c.requires.ready (omega (arith, c.work.ensures.drawn))
 
 pub returns-in-Ok-Ok-clause-executes : goal.returns-in-Ok-Ok-clause-executes
-returns-in-Ok-Ok-clause-executes g c source at request before x from taken op p asked works does_so after amid behind begins =
+returns-in-Ok-Ok-clause-executes g c source at request before x from taken op p asked works does_so after amid behind begins makes =
     let on = is_on g.D.Disk.disk g.A.Ambient.ambient g.P.Plugin.plugin g.K.Sink.sink source at request before x asked from (user_name c.args.store.now.cat c.args.command.user) op
     (works_silent (user_name c.args.store.now.cat c.args.command.user) c.args.verb.now c.args.body.now op c.requires.call works) p (begun_by c.args.after)
     (record { outside = c.args.outside.now; sink = c.args.sink.now }) c.args.command c.args.store.now taken amid behind
@@ -142,6 +143,9 @@ returns-in-Ok-Ok-clause-executes g c source at request before x from taken op p 
     c.work.new.command c.work.new.store (does_op user op) (Ok tt)
     (step_as c.in-Ok-Ok.field-0 (Ok tt) c.in-Ok-Ok.field-0-is (c.in-Ok-Ok.ensures.step source amid.holds.cat op amid.holds.held works)).ends
     c.in-Ok-Ok.ensures.quiet begins (λ told. subst IsTrue (sym amid.passes.frame.main.tells) told))
+    (λ session order is files.
+    (let left : c.args.store.now.cat.numbers.next_vault ≤ last_vault = c.in-Ok-Ok.ensures.number op works (makes session order is files) in
+    omega (arith, left, amid.beside.keeps.rises)))
 
 pub returns-in-Ok-Ok-clause-idle : goal.returns-in-Ok-Ok-clause-idle
 returns-in-Ok-Ok-clause-idle g c op r works none nothing refused =
@@ -183,7 +187,7 @@ conclude-requires-clause-ready g c =
     (omega (arith, c.work.ensures.drawn, draws_five c.args.after))
 
 pub returns-in-Ok-Err-clause-executes : goal.returns-in-Ok-Err-clause-executes
-returns-in-Ok-Err-clause-executes g c source at request before x from taken op p asked works does_so after amid behind begins =
+returns-in-Ok-Err-clause-executes g c source at request before x from taken op p asked works does_so after amid behind begins makes =
     let on = is_on g.D.Disk.disk g.A.Ambient.ambient g.P.Plugin.plugin g.K.Sink.sink source at request before x asked from (user_name c.args.store.now.cat c.args.command.user) op
     (works_silent (user_name c.args.store.now.cat c.args.command.user) c.args.verb.now c.args.body.now op c.requires.call works) p (begun_by c.args.after)
     (record { outside = c.args.outside.now; sink = c.args.sink.now }) c.args.command c.args.store.now taken amid behind
@@ -205,6 +209,7 @@ returns-in-Ok-Err-clause-executes g c source at request before x from taken op p
     (step_as c.in-Ok-Err.field-0 (Err c.in-Ok-Err.failure) c.in-Ok-Err.field-0-is
     (c.in-Ok-Err.ensures.step source amid.holds.cat op amid.holds.held works)).ends
     c.in-Ok-Err.ensures.quiet begins (λ told. subst IsTrue (sym amid.passes.frame.main.tells) told))
+    (λ was. absurd (not_done c.in-Ok-Err.failure (subst WasDone c.failed.ensures.is was)))
 
 pub returns-in-Ok-Err-clause-idle : goal.returns-in-Ok-Err-clause-idle
 returns-in-Ok-Err-clause-idle g c op r works none nothing refused =
@@ -230,7 +235,7 @@ returns-in-Ok-Err-clause-drawn g c = omega (arith, c.work.ensures.drawn, c.concl
 -- ---- it was cut short
 
 pub returns-in-Err-work-clause-executes : goal.returns-in-Err-work-clause-executes
-returns-in-Err-work-clause-executes g c source at request before x from taken op p asked works does_so after amid behind begins =
+returns-in-Err-work-clause-executes g c source at request before x from taken op p asked works does_so after amid behind begins makes =
     cut_there g.D.Disk.disk g.A.Ambient.ambient g.P.Plugin.plugin g.K.Sink.sink source at request before x asked from (user_name c.args.store.now.cat c.args.command.user) op
     (works_silent (user_name c.args.store.now.cat c.args.command.user) c.args.verb.now c.args.body.now op c.requires.call works) p (begun_by c.args.after)
     (record { outside = c.args.outside.now; sink = c.args.sink.now }) c.args.command c.args.store.now taken amid behind

@@ -15,11 +15,12 @@ pub finish-requires-clause-ready : goal.finish-requires-clause-ready
 finish-requires-clause-ready g c = c.requires.ready
 
 pub returns-clause-executes : goal.returns-clause-executes
-returns-clause-executes g c source at request before x from taken user w text_of sent asked does_so asked_so amid tells its nothing =
+returns-clause-executes g c source at request before x from taken user w text_of sent asked does_so asked_so amid tells its nothing number =
     concluded g.D.Disk.disk g.A.Ambient.ambient g.P.Plugin.plugin g.K.Sink.sink source at request before x asked from user w does_so asked_so
     c.works_end_by_rows.ensures text_of sent (record { outside = c.args.outside.now; sink = c.args.sink.now }) c.args.command c.args.store.now taken amid tells
     c.requires.ready.outside.main_last (record { outside = c.finish.new.outside; sink = c.finish.new.sink }) c.finish.result c.finish.new.store _ _
     c.finish.ensures.passes c.finish.ensures.ambient c.args.rows c.args.end c.finish.ensures.finishes c.finish.ensures.whole c.finish.ensures.idle its nothing
+    number
 
 pub returns-clause-vaults : goal.returns-clause-vaults
 returns-clause-vaults g c place is =

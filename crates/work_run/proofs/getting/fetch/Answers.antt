@@ -1,9 +1,6 @@
-use Rattle.std.proofs.Common.{◌≡◌, ◌+◌, ◌^◌, ◌<◌, ◌≤◌, List, [], ◌∷◌, ◌++◌, Ok, Err, refl, sym, ap, ◌∙◌, length, subst, arith}
+use Rattle.std.proofs.Common.{◌^◌, refl, sym, ap, ◌∙◌, length, subst, arith}
 use Rattle.std.specs.Option.{option_copied}
-use Rattle.grid_model.specs.Names.{Text}
-use Rattle.grid_model.specs.Rows.{Cat}
 use Rattle.grid_model.specs.RowGrids.{user_name}
-use Rattle.plan_object.specs.Sending.{Sends}
 use Rattle.point_laws.specs.Works.{operation}
 use Rattle.service_run.specs.Commands.{place_by}
 use Rattle.service_run.specs.declared.command.Command.{Command}

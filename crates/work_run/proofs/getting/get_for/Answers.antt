@@ -1,4 +1,4 @@
-use Rattle.std.proofs.Common.{◌≡◌, ◌+◌, ◌^◌, List, [], ◌∷◌, ◌++◌, Option, None, Some, Ok, Err, IsTrue, length, refl, sym, ap, ◌∙◌, subst, arith}
+use Rattle.std.proofs.Common.{◌≡◌, ◌+◌, ◌^◌, List, [], ◌∷◌, ◌++◌, None, Some, Ok, Err, IsTrue, refl, sym, subst, arith}
 use Rattle.std.specs.Prelude.{decimal}
 use Rattle.std.specs.Option.{option_copied}
 use Rattle.grid_outside.specs.declared.outside.Wear.TheVariants as wear
@@ -54,7 +54,7 @@ conclude-requires-clause-ready g c =
     ready_less g.D.Disk.disk g.P.Plugin.plugin g.K.Sink.sink (record { outside = c.args.outside.now; sink = c.args.sink.now }) (2 ^ 65 + draws_by c.args.after) 5 (omega arith) c.requires.ready
 
 pub returns-in-Err-clause-executes : goal.returns-in-Err-clause-executes
-returns-in-Err-clause-executes g c source at request before x from taken p asked does_so after amid behind begins =
+returns-in-Err-clause-executes g c source at request before x from taken p asked does_so after amid behind begins makes =
     let rows = c.args.store.now in
     let x_user = user_name rows.cat c.args.command.user in
     let none : got (grid_of rows.cat) x_user c.args.path.now (option_copied c.args.asked) ≡ Err c.in-Err.refusal
@@ -66,6 +66,7 @@ returns-in-Err-clause-executes g c source at request before x from taken p asked
     (subst (λ (rs : List (List Text)). IsEnded at request taken place rs None (end.Refused c.in-Err.refusal)) (sym c.no_rows-rows.ensures.is)
     (refused_end at request x_user c.args.path.now (option_copied c.args.asked) p taken place (begun_by c.args.after) behind c.in-Err.refusal none))
     (leaves_still at request before rows c.args.command (g.D.Disk.disk from.outside.main) (g.D.Disk.disk c.args.outside.now.main) begins)
+    (λ was session order is files. absurd (makes session order is files))
 
 pub returns-in-Err-clause-passes : goal.returns-in-Err-clause-passes
 returns-in-Err-clause-passes g c = c.conclude.ensures.passes
@@ -82,7 +83,7 @@ returns-in-Err-clause-drawn g c = omega (arith, c.conclude.ensures.drawn)
 -- ---- there was no memory for its words
 
 pub returns-in-Err-one_number-clause-executes : goal.returns-in-Err-one_number-clause-executes
-returns-in-Err-one_number-clause-executes g c source at request before x from taken p asked does_so after amid behind begins =
+returns-in-Err-one_number-clause-executes g c source at request before x from taken p asked does_so after amid behind begins makes =
     cut_here g.D.Disk.disk g.A.Ambient.ambient g.P.Plugin.plugin g.K.Sink.sink source at request before x asked from (user_name c.args.store.now.cat c.args.command.user)
     (operation (get_of c.args.path.now (option_copied c.args.asked))) p (begun_by c.args.after) (record { outside = c.args.outside.now; sink = c.args.sink.now }) c.args.command c.args.store.now taken amid behind
     does_so tt c.works_end_by_rows.ensures c.works_take_in_order.ensures c.works_send_behind.ensures c.work_ends.ensures c.args.store.now
@@ -165,7 +166,7 @@ finish_work-requires-clause-ready g c =
     c.requires.ready (omega (arith, c.fetch.ensures.drawn))
 
 pub returns-in-Ok-Ok-clause-executes : goal.returns-in-Ok-Ok-clause-executes
-returns-in-Ok-Ok-clause-executes g c source at request before x from taken p asked does_so after amid behind begins =
+returns-in-Ok-Ok-clause-executes g c source at request before x from taken p asked does_so after amid behind begins makes =
     let user = user_name c.args.store.now.cat c.args.command.user in
     let op = operation (get_of c.args.path.now (option_copied c.args.asked)) in
     let on = sent_as g.D.Disk.disk g.A.Ambient.ambient g.P.Plugin.plugin g.K.Sink.sink source at request before x from (record { outside = c.fetch.new.outside; sink = c.fetch.new.sink }) taken p (begun_by c.args.after)
@@ -179,6 +180,7 @@ returns-in-Ok-Ok-clause-executes g c source at request before x from taken p ask
     (λ i. record { words = words i; rows = rows i; sent = Some on.sent }) on.so)
     (leaves_marked at request before c.args.store.now c.args.command (g.D.Disk.disk from.outside.main) c.fetch.new.store c.fetch.new.command
     (g.D.Disk.disk c.fetch.new.outside.main) c.in-Ok-Ok.ensures.marks)
+    (λ session order is files. absurd (makes session order is files))
 
 pub returns-in-Ok-Ok-clause-passes : goal.returns-in-Ok-Ok-clause-passes
 returns-in-Ok-Ok-clause-passes g c =
@@ -216,7 +218,7 @@ conclude-requires-in-Ok-Err-clause-ready g c =
     (omega (arith, c.fetch.ensures.drawn, draws_five c.args.after))
 
 pub returns-in-Ok-Err-clause-executes : goal.returns-in-Ok-Err-clause-executes
-returns-in-Ok-Err-clause-executes g c source at request before x from taken p asked does_so after amid behind begins =
+returns-in-Ok-Err-clause-executes g c source at request before x from taken p asked does_so after amid behind begins makes =
     let user = user_name c.args.store.now.cat c.args.command.user in
     let op = operation (get_of c.args.path.now (option_copied c.args.asked)) in
     let on = sent_as g.D.Disk.disk g.A.Ambient.ambient g.P.Plugin.plugin g.K.Sink.sink source at request before x from (record { outside = c.fetch.new.outside; sink = c.fetch.new.sink }) taken p (begun_by c.args.after)
@@ -228,6 +230,7 @@ returns-in-Ok-Err-clause-executes g c source at request before x from taken p as
     (subst (λ (rs : List (List Text)). E rs c.failed.result) (sym c.no_rows-rows-in-Ok-Err.ensures.is) (subst (E []) (sym c.failed.ensures.is) on.so))
     (leaves_marked at request before c.args.store.now c.args.command (g.D.Disk.disk from.outside.main) c.fetch.new.store c.fetch.new.command
     (g.D.Disk.disk c.fetch.new.outside.main) c.in-Ok-Err.ensures.marks)
+    (λ was session order is files. absurd (makes session order is files))
 
 pub returns-in-Ok-Err-clause-passes : goal.returns-in-Ok-Err-clause-passes
 returns-in-Ok-Err-clause-passes g c =
@@ -251,7 +254,7 @@ returns-in-Ok-Err-clause-drawn g c = omega (arith, c.fetch.ensures.drawn, c.conc
 -- ---- it was cut short
 
 pub returns-in-Err-fetch-clause-executes : goal.returns-in-Err-fetch-clause-executes
-returns-in-Err-fetch-clause-executes g c source at request before x from taken p asked does_so after amid behind begins =
+returns-in-Err-fetch-clause-executes g c source at request before x from taken p asked does_so after amid behind begins makes =
     c.in-Err-fetch.ensures.fetches source at request before x from taken p (begun_by c.args.after) asked does_so amid behind
 
 pub returns-in-Err-fetch-clause-passes : goal.returns-in-Err-fetch-clause-passes

@@ -40,7 +40,8 @@ pub begin-requires-clause-verb : goal.begin-requires-clause-verb
 begin-requires-clause-verb g c = has_work c.args.verb.now c.args.body.now c.requires.verb.0 c.requires.verb.1
 
 pub returns-clause-executes : goal.returns-clause-executes
-returns-clause-executes g c source at request op asked works does_work rules_is = c.begin.ensures.executes source at request (operation op) asked works does_work rules_is
+returns-clause-executes g c source at request op asked works does_work rules_is makes =
+    c.begin.ensures.executes source at request (operation op) asked works does_work rules_is makes
 
 pub returns-clause-passes : goal.returns-clause-passes
 returns-clause-passes g c = c.begin.ensures.passes

@@ -1,4 +1,4 @@
-use Rattle.std.proofs.Common.{◌≡◌, ◌+◌, ◌^◌, [], Some, refl, sym, ap, ◌∙◌, subst, arith}
+use Rattle.std.proofs.Common.{◌≡◌, ◌^◌, [], Some, refl, sym, ap, ◌∙◌, subst}
 use Rattle.grid_model.specs.Applying.{IsMade}
 use Rattle.grid_model.specs.Points.{Point}
 use Rattle.grid_model.specs.RowGrids.{grid_of, user_name}
@@ -23,7 +23,7 @@ pub variables_of-requires-clause-words : goal.variables_of-requires-clause-words
 variables_of-requires-clause-words g c = c.requires.words
 
 pub returns-in-Err-clause-executes : goal.returns-in-Err-clause-executes
-returns-in-Err-clause-executes g c source at request w asked works does_so rules_is rules_called =
+returns-in-Err-clause-executes g c source at request w asked works does_so rules_is rules_called makes =
     let rows = c.args.store.now in
     let x = c.args.command in
     let user = user_name rows.cat x.user in
@@ -70,7 +70,7 @@ pub run_before-requires-clause-ready : goal.run_before-requires-clause-ready
 run_before-requires-clause-ready g c = c.requires.ready
 
 pub returns-clause-executes : goal.returns-clause-executes
-returns-clause-executes g c source at request w asked works does_so rules_is rules_called =
+returns-clause-executes g c source at request w asked works does_so rules_is rules_called makes =
     let rows = c.args.store.now in
     let x = c.args.command in
     let user = user_name rows.cat x.user in
@@ -83,7 +83,7 @@ returns-clause-executes g c source at request w asked works does_so rules_is rul
     let B : Text → Type 0 = λ u. IsBehind at request [] (place_by rows.cat x) (steps_begun c.args.frames) (from_start at (Some p) u w) in
     c.run_before.ensures.executes source at request w p asked works (subst W (sym name) does_so) rules_is rules_called
     (record { env_is = refl; pre_is = sym c.requires.pre; post_is = sym c.requires.post })
-    (subst B (sym name) (begins_at at request rows.cat x asked user w does_so p is (steps_begun c.args.frames) c.requires.frames.0))
+    (subst B (sym name) (begins_at at request rows.cat x asked user w does_so p is (steps_begun c.args.frames) c.requires.frames.0)) makes
 
 pub returns-clause-passes : goal.returns-clause-passes
 returns-clause-passes g c = c.run_before.ensures.passes

@@ -1,4 +1,4 @@
-use Rattle.std.proofs.Common.{◌≡◌, ◌+◌, ◌^◌, List, [], ◌++◌, None, Ok, Err, refl, sym, subst, arith}
+use Rattle.std.proofs.Common.{◌+◌, ◌^◌, List, None, refl, sym, subst, arith}
 use Rattle.grid_model.specs.Names.{Text}
 use Rattle.grid_model.specs.RowGrids.{grid_of, user_name}
 use Rattle.grid_model.specs.declared.refusal.Refusal.TheVariants.{BadQuery}
@@ -32,7 +32,7 @@ asked_rows-requires-clause-user g c = c.requires.user
 -- ---- there was no memory
 
 pub returns-in-Err-clause-executes : goal.returns-in-Err-clause-executes
-returns-in-Err-clause-executes g c source at request before x from taken q p asked reads does_so after amid behind begins =
+returns-in-Err-clause-executes g c source at request before x from taken q p asked reads does_so after amid behind begins makes =
     cut_here g.D.Disk.disk g.A.Ambient.ambient g.P.Plugin.plugin g.K.Sink.sink source at request before x asked from (user_name c.args.store.now.cat c.args.command.user) (query q) p (begun_by c.args.after) (record { outside = c.args.outside.now; sink = c.args.sink.now })
     c.args.command c.args.store.now taken amid behind does_so (query_so c.args.text.now q reads) c.works_end_by_rows.ensures
     c.works_take_in_order.ensures c.works_send_behind.ensures c.work_ends.ensures c.args.store.now
@@ -81,7 +81,7 @@ finish_work-requires-clause-ready g c =
     ready_less g.D.Disk.disk g.P.Plugin.plugin g.K.Sink.sink (record { outside = c.args.outside.now; sink = c.args.sink.now }) (2 ^ 65 + draws_by c.args.after) (draws_by c.args.after) (omega arith) c.requires.ready
 
 pub returns-in-Rows-clause-executes : goal.returns-in-Rows-clause-executes
-returns-in-Rows-clause-executes g c source at request before x from taken q p asked reads does_so after amid behind begins =
+returns-in-Rows-clause-executes g c source at request before x from taken q p asked reads does_so after amid behind begins makes =
     let rows = c.args.store.now in
     let user = user_name rows.cat c.args.command.user in
     let its = subst (IsAnswer (grid_of rows.cat) user q) c.in-Rows.is (c.in-Ok.ensures.is q reads) in
@@ -90,6 +90,7 @@ returns-in-Rows-clause-executes g c source at request before x from taken q p as
     (shown_rows at request user q p taken (place_by rows.cat c.args.command) (begun_by c.args.after) behind its.0 its.1 c.no_words-words.result
     c.no_words-words.ensures.is c.in-Rows.rows its.2)
     (leaves_still at request before rows c.args.command (g.D.Disk.disk from.outside.main) (g.D.Disk.disk c.args.outside.now.main) begins)
+    (λ session order is files. absurd (makes session order is files))
 
 pub returns-in-Rows-clause-passes : goal.returns-in-Rows-clause-passes
 returns-in-Rows-clause-passes g c = c.finish_work.ensures.passes
@@ -119,7 +120,7 @@ conclude-requires-clause-ready g c =
     ready_less g.D.Disk.disk g.P.Plugin.plugin g.K.Sink.sink (record { outside = c.args.outside.now; sink = c.args.sink.now }) (2 ^ 65 + draws_by c.args.after) 5 (omega arith) c.requires.ready
 
 pub returns-in-Refused-clause-executes : goal.returns-in-Refused-clause-executes
-returns-in-Refused-clause-executes g c source at request before x from taken q p asked reads does_so after amid behind begins =
+returns-in-Refused-clause-executes g c source at request before x from taken q p asked reads does_so after amid behind begins makes =
     let rows = c.args.store.now in
     let user = user_name rows.cat c.args.command.user in
     let place = place_by rows.cat c.args.command in
@@ -129,6 +130,7 @@ returns-in-Refused-clause-executes g c source at request before x from taken q p
     (subst (λ (rs : List (List Text)). IsEnded at request taken place rs None (end.Refused (BadQuery c.in-Refused.at))) (sym c.no_rows-rows.ensures.is)
     (shown_refused at request user q p taken place (begun_by c.args.after) behind (BadQuery c.in-Refused.at) its))
     (leaves_still at request before rows c.args.command (g.D.Disk.disk from.outside.main) (g.D.Disk.disk c.args.outside.now.main) begins)
+    (λ was session order is files. absurd (makes session order is files))
 
 pub returns-in-Refused-clause-passes : goal.returns-in-Refused-clause-passes
 returns-in-Refused-clause-passes g c = c.conclude.ensures.passes

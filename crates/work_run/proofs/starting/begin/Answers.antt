@@ -1,14 +1,9 @@
-use Rattle.std.proofs.Common.{◌≡◌, ◌+◌, ◌^◌, [], Option, Some, None, refl, sym, ap, ◌∙◌, subst, arith}
-use Rattle.std.specs.Prelude.{codes}
-use Rattle.grid_model.specs.Names.{Text}
-use Rattle.grid_model.specs.Points.{Point, point_of}
-use Rattle.grid_model.specs.RowGrids.{grid_of, user_name}
-use Rattle.chain_core.specs.Moves.{next_named}
+use Rattle.std.proofs.Common.{◌+◌, ◌^◌, [], None, refl, sym, ◌∙◌, arith}
+use Rattle.grid_model.specs.RowGrids.{user_name}
 use Rattle.chain_core.specs.Seen.{rules_of}
 use Rattle.rule_run.proofs.Ended.{amid_first, keepable_first, ready_less}
 use Rattle.rule_run.proofs.Passing.{passes_none}
-use Rattle.work_run.specs.Names.{rules_name}
-use Rattle.work_run.proofs.Begun.{HasNone, begins_alone, cut_first}
+use Rattle.work_run.proofs.Begun.{begins_alone, cut_first}
 use Rattle.work_run.proofs.Deeds.{asked_so}
 use Rattle.work_run.proofs.NoRules.{has_none}
 use Rattle.work_run.proofs.starting.begin.Goals as goal
@@ -16,7 +11,7 @@ use Rattle.work_run.proofs.starting.begin.Goals as goal
 -- ---- there was no memory for the names
 
 pub returns-in-Err-clause-executes : goal.returns-in-Err-clause-executes
-returns-in-Err-clause-executes g c source at request w asked works does_so rules_is =
+returns-in-Err-clause-executes g c source at request w asked works does_so rules_is makes =
     let rows = c.args.store.now in
     let x = c.args.command in
     let user = user_name rows.cat x.user in
@@ -73,9 +68,9 @@ pub do_ruled-requires-clause-ready : goal.do_ruled-requires-clause-ready
 do_ruled-requires-clause-ready g c = c.requires.ready
 
 pub returns-in-Some-clause-executes : goal.returns-in-Some-clause-executes
-returns-in-Some-clause-executes g c source at request w asked works does_so rules_is =
+returns-in-Some-clause-executes g c source at request w asked works does_so rules_is makes =
     c.do_ruled.ensures.executes source at request w asked works does_so rules_is
-    (λ calls. let off = sym c.in-Some.is ∙ c.in-Ok.ensures.some (sym rules_is ∙ calls.1) in cc off)
+    (λ calls. let off = sym c.in-Some.is ∙ c.in-Ok.ensures.some (sym rules_is ∙ calls.1) in cc off) makes
 
 pub returns-in-Some-clause-passes : goal.returns-in-Some-clause-passes
 returns-in-Some-clause-passes g c = c.do_ruled.ensures.passes
@@ -124,7 +119,7 @@ do_work-requires-clause-ready g c =
     (omega arith) c.requires.ready
 
 pub returns-in-None-clause-executes : goal.returns-in-None-clause-executes
-returns-in-None-clause-executes g c source at request w asked works does_so rules_is =
+returns-in-None-clause-executes g c source at request w asked works does_so rules_is makes =
     let rows = c.args.store.now in
     let x = c.args.command in
     let user = user_name rows.cat x.user in
@@ -133,7 +128,7 @@ returns-in-None-clause-executes g c source at request w asked works does_so rule
     (record { outside = c.args.outside.now; sink = c.args.sink.now }) rows c.requires.held refl (2 ^ 79) c.requires.ready)
     (begins_alone at request rows.cat x asked user w does_so
     (has_none at (rules_of c.args.rules.now) rules_is user c.args.verb.now c.args.body.now w works (λ operation is. c.in-Ok.ensures.none operation c.in-None.is is)))
-    (λ calls. (record { staged = c.requires.staged; pending = c.requires.pending; marks = c.requires.begun.0 }, refl, λ told. refl))
+    (λ calls. (record { staged = c.requires.staged; pending = c.requires.pending; marks = c.requires.begun.0 }, refl, λ told. refl)) makes
 
 pub returns-in-None-clause-passes : goal.returns-in-None-clause-passes
 returns-in-None-clause-passes g c = c.do_work.ensures.passes

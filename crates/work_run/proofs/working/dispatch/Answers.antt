@@ -1,7 +1,5 @@
-use Rattle.std.proofs.Common.{◌≡◌, ◌+◌, ◌^◌, List, [], Ok, Err, IsTrue, true, false, refl, sym, ap, ◌∙◌, subst, arith}
-use Rattle.std.specs.Prelude.{IfOk}
+use Rattle.std.proofs.Common.{◌^◌, List, [], refl, sym, ap, ◌∙◌, subst, arith}
 use Rattle.grid_outside.specs.declared.outside.Wear.TheVariants as wear
-use Rattle.grid_model.specs.Names.{Text}
 use Rattle.grid_model.specs.Operations.Table.{Operation, put, repl, chksum, row}
 use Rattle.grid_model.specs.RowGrids.{grid_of, user_name}
 use Rattle.grid_model.specs.Working.{running}
@@ -13,8 +11,7 @@ use Rattle.run_laws.specs.Around.{around}
 use Rattle.service_run.specs.Steps.{IsStep}
 use Rattle.service_run.specs.declared.ending.Ending.TheVariants as ending
 use Rattle.rule_run.proofs.Ended.{ready_less}
-use Rattle.rule_run.proofs.Passing.{passes_as, passes_none}
-use Rattle.work_run.proofs.Deeds.{chksum_deed, put_deed, quiet_by, repl_deed, rows_of}
+use Rattle.work_run.proofs.Deeds.{chksum_deed, put_deed, quiet_by, repl_deed, rows_file_less, rows_of, sum_file_less}
 use Rattle.work_run.proofs.Next.{no_source}
 use Rattle.work_run.proofs.VaultNeeds.{makes_as, never_worn}
 use Rattle.work_run.proofs.working.dispatch.Goals as goal
@@ -232,3 +229,20 @@ returns-in-ChkSum-clause-passes g c = c.chksum.ensures.passes
 
 pub returns-in-ChkSum-clause-drawn : goal.returns-in-ChkSum-clause-drawn
 returns-in-ChkSum-clause-drawn g c = c.chksum.ensures.drawn
+
+-- ---- there is a number left
+
+pub returns-then-changes_rows-clause-number : goal.returns-then-changes_rows-clause-number
+returns-then-changes_rows-clause-number g c op works makes =
+    absurd (rows_file_less c.args.verb.now op
+    (rows_of c.args.verb.now c.args.body.now op c.requires.call (sym c.changes_rows.ensures ∙ c.if-changes_rows.true) works) makes)
+
+pub returns-in-Put-clause-number : goal.returns-in-Put-clause-number
+returns-in-Put-clause-number g c op works makes = c.put.ensures.number
+
+pub returns-in-Repl-clause-number : goal.returns-in-Repl-clause-number
+returns-in-Repl-clause-number g c op works makes = c.repl.ensures.number
+
+pub returns-in-ChkSum-clause-number : goal.returns-in-ChkSum-clause-number
+returns-in-ChkSum-clause-number g c op works makes =
+    absurd (sum_file_less c.in-ChkSum.path op (subst (λ (v : Verb). WorksBy v c.args.body.now op) c.in-ChkSum.is works) makes)

@@ -39,6 +39,9 @@ returns-clause-quiet g c = c.dispatch.ensures.quiet
 pub returns-clause-files : goal.returns-clause-files
 returns-clause-files g c = c.dispatch.ensures.files
 
+pub returns-clause-number : goal.returns-clause-number
+returns-clause-number g c = c.dispatch.ensures.number
+
 pub returns-clause-passes : goal.returns-clause-passes
 returns-clause-passes g c = c.dispatch.ensures.passes
 

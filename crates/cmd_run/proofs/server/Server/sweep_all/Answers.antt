@@ -5,7 +5,7 @@ use Rattle.cmd_run.proofs.KeepLemmas.{keep_still}
 use Rattle.cmd_run.proofs.LeftOrphans.{few_orphans}
 use Rattle.cmd_run.proofs.Remembering.{still_remembers}
 use Rattle.cmd_run.proofs.SayLemmas.{unsaid}
-use Rattle.cmd_run.proofs.SweepEnds.{cut_sweep, none_waits_like, swept_then}
+use Rattle.cmd_run.proofs.SweepEnds.{cut_sweep, none_waits_swept, swept_then}
 use Rattle.cmd_run.proofs.SweptFew.{on_ok}
 use Rattle.cmd_run.proofs.server.Server.sweep_all.Goals as goal
 
@@ -32,9 +32,9 @@ returns-in-Ok-sweep_orphans-clause-obeys g c = λ source request says sweep.
     swept_then g.D.Disk.disk g.A.Ambient.ambient g.P.Plugin.plugin source c.args.outside.now
     (record c.sweep_orphans.new.outside { moments = c.put_text.new.moments }) (g.K.Sink.sink c.args.sink.now) c.args.self.now c.sweep_orphans.new.self
     c.args.number request
-    s.frame.ambient s.frame.stores c.requires.ready.sink_last s.leaves says c.requires.fits.rules
+    s.frame.ambient s.frame.stores c.requires.ready.sink_last _ s.leaves sweep says c.requires.fits.rules
     c.sweep_orphans.new.outside.moments (g.K.Sink.sink c.put_text.new.sink) (rw (sym line) c.put_text.ensures.put) s.frame.drawn s.stands s.frame.main.tells
-    sweep
+    (s.frame.main_last c.requires.ready.outside.main_last) s.leaves.is_now
     c.put_text.result (rw (sym line) c.put_text.ensures.ends)
 
 pub returns-in-Ok-sweep_orphans-clause-few : goal.returns-in-Ok-sweep_orphans-clause-few
@@ -47,20 +47,20 @@ returns-in-Ok-sweep_orphans-clause-few g c = λ source.
 
 pub returns-in-Ok-sweep_orphans-clause-none_waits : goal.returns-in-Ok-sweep_orphans-clause-none_waits
 returns-in-Ok-sweep_orphans-clause-none_waits g c =
-    none_waits_like c.args.self.now.store.cat c.args.outside.now.moments (g.D.Disk.disk c.args.outside.now.main)
-    (g.D.Disk.disk c.sweep_orphans.new.outside.main) c.requires.fits.pending c.in-Ok-sweep_orphans.ensures.leaves
+    none_waits_swept c.args.self.now.store.cat c.sweep_orphans.new.self.store.cat c.args.outside.now.moments (g.D.Disk.disk c.args.outside.now.main)
+    (g.D.Disk.disk c.sweep_orphans.new.outside.main) _ c.requires.fits.pending c.in-Ok-sweep_orphans.ensures.leaves
 
 pub returns-clause-obeys : goal.returns-clause-obeys
 returns-clause-obeys g c = λ source request says sweep.
     let s = c.in-Err.ensures in
     cut_sweep g.D.Disk.disk g.A.Ambient.ambient g.P.Plugin.plugin source c.args.outside.now c.sweep_orphans.new.outside (g.K.Sink.sink c.args.sink.now)
     c.args.self.now c.sweep_orphans.new.self c.args.number request
-    s.frame.ambient s.frame.stores c.requires.ready.sink_last s.leaves says c.requires.fits.rules c.in-Err.ending
+    s.frame.ambient s.frame.stores c.requires.ready.sink_last _ s.leaves sweep says c.requires.fits.rules c.in-Err.ending
 
 pub returns-clause-none_waits : goal.returns-clause-none_waits
 returns-clause-none_waits g c =
-    none_waits_like c.args.self.now.store.cat c.args.outside.now.moments (g.D.Disk.disk c.args.outside.now.main)
-    (g.D.Disk.disk c.sweep_orphans.new.outside.main) c.requires.fits.pending c.in-Err.ensures.leaves
+    none_waits_swept c.args.self.now.store.cat c.sweep_orphans.new.self.store.cat c.args.outside.now.moments (g.D.Disk.disk c.args.outside.now.main)
+    (g.D.Disk.disk c.sweep_orphans.new.outside.main) _ c.requires.fits.pending c.in-Err.ensures.leaves
 
 pub returns-clause-worn : goal.returns-clause-worn
 returns-clause-worn g c = c.in-Err.ensures.worn

@@ -2,12 +2,12 @@ use Rattle.std.proofs.Common.{ap, ◌∙◌}
 use Rattle.cmd_run.specs.Sweeping.{orphan_files}
 use Rattle.cmd_run.proofs.KeepLemmas.{keep_still}
 use Rattle.cmd_run.proofs.SweepEnds.{not_sink_forgot, stands_on, worn_forgot}
-use Rattle.cmd_run.proofs.SweepLemmas.{forgets_like, still_like}
+use Rattle.cmd_run.proofs.SweepLemmas.{forgets_main, still_main}
 use Rattle.cmd_run.proofs.server.Server.sweep_orphans.Goals as goal
 
 pub returns-in_default-clause-leaves : goal.returns-in_default-clause-leaves
 returns-in_default-clause-leaves g c =
-    still_like c.args.self.now.store.cat c.args.outside.now.moments (g.D.Disk.disk c.args.outside.now.main) c.args.self.now.store c.requires.fits.held
+    still_main c.args.self.now.store.cat _ c.args.outside.now.moments (g.D.Disk.disk c.args.outside.now.main) c.args.self.now.store _ c.requires.fits.held
     c.requires.ready.main_last
 
 pub returns-in_default-clause-whole : goal.returns-in_default-clause-whole
@@ -17,7 +17,7 @@ returns-in_default-clause-whole g c =
 
 pub returns-then-as_slice-gt-MANY-clause-leaves : goal.returns-then-as_slice-gt-MANY-clause-leaves
 returns-then-as_slice-gt-MANY-clause-leaves g c =
-    still_like c.args.self.now.store.cat c.args.outside.now.moments (g.D.Disk.disk c.args.outside.now.main) c.args.self.now.store c.requires.fits.held
+    still_main c.args.self.now.store.cat _ c.args.outside.now.moments (g.D.Disk.disk c.args.outside.now.main) c.args.self.now.store _ c.requires.fits.held
     c.requires.ready.main_last
 
 pub returns-then-as_slice-gt-MANY-clause-whole : goal.returns-then-as_slice-gt-MANY-clause-whole
@@ -36,7 +36,7 @@ returns-clause-stands g c =
 
 pub returns-clause-leaves : goal.returns-clause-leaves
 returns-clause-leaves g c =
-    forgets_like c.args.self.now.store.cat c.args.outside.now.moments (g.D.Disk.disk c.args.outside.now.main) (g.D.Disk.disk c.forget.new.outside.main)
+    forgets_main c.args.self.now.store.cat c.args.outside.now.moments (g.D.Disk.disk c.args.outside.now.main) (g.D.Disk.disk c.forget.new.outside.main)
     c.forget.result c.forget.new.self c.forget.ensures.forgets
 
 pub returns-clause-worn : goal.returns-clause-worn

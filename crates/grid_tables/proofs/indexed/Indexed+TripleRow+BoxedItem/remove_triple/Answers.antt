@@ -1,5 +1,6 @@
 use Rattle.std.proofs.Common.{List, sym, ap, ◌∙◌, subst}
-use Rattle.std.specs.Prelude.{◌&&◌}
+use Rattle.std.specs.Prelude.{filter, not, ◌&&◌}
+use Rattle.std.specs.Ordering.{is_eq}
 use Rattle.std.specs.List.{list_any}
 use Rattle.grid_model.specs.Names.{same_text}
 use Rattle.grid_model.specs.Rows.{triple_cmp}
@@ -18,11 +19,11 @@ invariant_of-self c =
     sym (c.has_value-shared.ensures
     ∙ ap (λ (l : List TripleRow). list_any (λ t. same_text t.attribute row.attribute && same_text t.value row.value) l) c.of_item-beside.ensures)
     ∙ c.if-not-shared.true in
-    let more = c.drop_key.ensures c.self.invariant.ordered in
-    subst (λ (l : List TripleRow). AreKeysOf valued_of valued_cmp l c.drop_key.new.keys.items) (sym c.remove.ensures)
-    (key-alone triple_cmp valued_of valued_cmp valued_total valued_whole valued_steady c.self.inside.rows row c.self.inside.keys.items c.self.invariant
-    c.drop_key.new.keys.items more
-    (λ y here. alone_row c.remove.new.self row told y (subst (λ (l : List TripleRow). IsIn l y) (sym c.remove.ensures) here)))
+    let more = c.remove-then-not-shared.ensures ∙ ap (λ x. filter (λ k. not (is_eq (valued_cmp (valued_of x) k))) c.self.inside.keys) c.new.ensures in
+    subst (λ (l : List TripleRow). AreKeysOf valued_of valued_cmp l c.remove-then-not-shared.new.self) (sym c.remove.ensures.left)
+    (key-alone triple_cmp valued_of valued_cmp valued_total valued_whole valued_steady c.self.inside.rows row c.self.inside.keys c.self.invariant
+    c.remove-then-not-shared.new.self more
+    (λ y here. alone_row c.remove.new.self row told y (subst (λ (l : List TripleRow). IsIn l y) (sym c.remove.ensures.left) here)))
 
 pub invariant_of-self-else-not-shared : goal.invariant_of-self-else-not-shared
 invariant_of-self-else-not-shared c =
@@ -32,6 +33,6 @@ invariant_of-self-else-not-shared c =
     ∙ ap (λ (l : List TripleRow). list_any (λ t. same_text t.attribute row.attribute && same_text t.value row.value) l) c.of_item-beside.ensures)
     ∙ c.if-not-shared.false in
     let other = shared_row c.remove.new.self row told in
-    subst (λ (l : List TripleRow). AreKeysOf valued_of valued_cmp l c.self.inside.keys.items) (sym c.remove.ensures)
-    (key-shared triple_cmp valued_of valued_cmp valued_total valued_whole valued_steady c.self.inside.rows row c.self.inside.keys.items c.self.invariant
-    other.0 (subst (λ (l : List TripleRow). IsIn l other.0) c.remove.ensures other.1) other.2)
+    subst (λ (l : List TripleRow). AreKeysOf valued_of valued_cmp l c.self.inside.keys) (sym c.remove.ensures.left)
+    (key-shared triple_cmp valued_of valued_cmp valued_total valued_whole valued_steady c.self.inside.rows row c.self.inside.keys c.self.invariant
+    other.0 (subst (λ (l : List TripleRow). IsIn l other.0) c.remove.ensures.left other.1) other.2)

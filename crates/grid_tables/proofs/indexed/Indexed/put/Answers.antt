@@ -1,32 +1,21 @@
-use Rattle.std.proofs.Common.{◌≡◌, ◌<◌, List, Result, Ok, Err, ap, ◌∙◌, sym, subst, arith}
-use Rattle.std.specs.Prelude.{insert, is_ok, IsOk, if◌then◌else◌, vec_len, vec_capacity}
-use Rattle.std.specs.List.Sorted.{IsStrictlySortedBy}
+use Rattle.std.proofs.Common.{List, sym, ap, ◌∙◌, subst}
+use Rattle.std.specs.Prelude.{filter, not}
+use Rattle.std.specs.Ordering.{is_eq}
 use Rattle.grid_tables.specs.IndexKeys.{AreKeysOf}
-use Rattle.grid_tables.specs.Places.{IsPlace}
-use Rattle.grid_tables.proofs.IndexKeys.{key-put, key-known}
+use Rattle.grid_tables.proofs.IndexKeys.{key-moved, key-put}
 use Rattle.grid_tables.proofs.indexed.Indexed.put.Goals as goal
 
-written : {E K : Type 0} (r : Result (Unit {0}) E) (a b : List K) → IsOk r → (if is_ok r then a else b) ≡ a
-written r a b ok = ap (λ t. if t then a else b) ok
+pub invariant_of-self-in-Some : goal.invariant_of-self-in-Some
+invariant_of-self-in-Some g c =
+    let left = c.remove.ensures ∙ ap (λ x. filter (λ k. not (is_eq (g.K.Key.order (g.K.IndexKey.of x) k))) c.put_both.new.keys) c.new.ensures in
+    subst (λ (l : List g.row.T.Denot). AreKeysOf g.K.IndexKey.of g.K.Key.order l c.remove.new.self) (sym c.in_ok-old.ensures.put)
+    (key-moved g.T.Row.row_cmp g.met.T.Row.total g.K.IndexKey.of g.K.Key.order g.met.K.Key.total g.met.K.IndexKey.whole c.self.inside.rows c.in_order.ensures.ordered
+    c.args.row c.in_ok-key.key c.in_ok-key.ensures c.self.inside.keys c.self.invariant c.put_both.new.keys c.in_ok-old.ensures.keys g.met.K.OwnKey.own
+    c.in-Some.old (sym c.in-Some.is ∙ c.in_ok-old.ensures.replaced) c.remove.new.self left)
 
-pub invariant_of-self-in-Err-2 : goal.invariant_of-self-in-Err-2
-invariant_of-self-in-Err-2 g c =
-    let before = subst (λ (l : List g.row.K.Denot). AreKeysOf g.K.IndexKey.of g.K.Row.row_cmp c.self.inside.rows l) (sym c.reserve.ensures.items) c.self.invariant in
-    let without = c.forget_key.ensures.index before in
-    let key = g.K.IndexKey.of c.args.row in
-    let place = subst (λ (l : List g.row.K.Denot). IsStrictlySortedBy g.K.Row.row_cmp l → IsPlace (g.K.Row.row_cmp key) l (Err c.in-Err.at)) c.as_slice.ensures.value c.in-Err.ensures.place without.ordered in
-    let room : vec_len c.forget_key.new.keys < vec_capacity c.forget_key.new.keys = c.forget_key.ensures.room (omega (arith, c.in_ok-reserve.ensures.ok)) in
-    let items : c.insert.new.self.items ≡ insert c.forget_key.new.keys.items c.in-Err.at c.in_ok-key.key = c.insert.ensures.items ∙ written c.insert.result _ _ (c.insert.ensures.succeeds room) in
-    subst (λ (l : List g.row.T.Denot). AreKeysOf g.K.IndexKey.of g.K.Row.row_cmp l c.insert.new.self.items) (sym c.in_ok-put.ensures.put)
-    (key-put g.T.Row.row_cmp g.met.T.Row.total g.K.IndexKey.of g.K.Row.row_cmp g.met.K.Row.total g.met.K.IndexKey.whole c.self.inside.rows c.in_order.ensures.ordered c.args.row
-    c.forget_key.new.keys.items c.insert.new.self.items c.in-Err.at c.in_ok-key.key c.in_ok-key.ensures items without place)
-
-pub invariant_of-self-in-Ok-place : goal.invariant_of-self-in-Ok-place
-invariant_of-self-in-Ok-place g c =
-    let before = subst (λ (l : List g.row.K.Denot). AreKeysOf g.K.IndexKey.of g.K.Row.row_cmp c.self.inside.rows l) (sym c.reserve.ensures.items) c.self.invariant in
-    let without = c.forget_key.ensures.index before in
-    let key = g.K.IndexKey.of c.args.row in
-    let place = subst (λ (l : List g.row.K.Denot). IsStrictlySortedBy g.K.Row.row_cmp l → IsPlace (g.K.Row.row_cmp key) l (Ok c.in-Ok.field-0)) c.as_slice.ensures.value c.in-Ok.ensures.place without.ordered in
-    subst (λ (l : List g.row.T.Denot). AreKeysOf g.K.IndexKey.of g.K.Row.row_cmp l c.forget_key.new.keys.items) (sym c.in_ok-put.ensures.put)
-    (key-known g.T.Row.row_cmp g.met.T.Row.total g.K.IndexKey.of g.K.Row.row_cmp g.met.K.Row.total g.met.K.IndexKey.whole c.self.inside.rows c.in_order.ensures.ordered c.args.row
-    c.forget_key.new.keys.items c.in-Ok.field-0 without place)
+pub invariant_of-self-in-None : goal.invariant_of-self-in-None
+invariant_of-self-in-None g c =
+    subst (λ (l : List g.row.T.Denot). AreKeysOf g.K.IndexKey.of g.K.Key.order l c.put_both.new.keys) (sym c.in_ok-old.ensures.put)
+    (key-put g.T.Row.row_cmp g.met.T.Row.total g.K.IndexKey.of g.K.Key.order g.met.K.Key.total g.met.K.IndexKey.whole c.self.inside.rows c.in_order.ensures.ordered
+    c.args.row c.in_ok-key.key c.in_ok-key.ensures c.self.inside.keys c.self.invariant c.put_both.new.keys c.in_ok-old.ensures.keys g.met.K.OwnKey.own
+    (sym c.in-None.is ∙ c.in_ok-old.ensures.replaced))

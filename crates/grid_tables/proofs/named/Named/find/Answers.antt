@@ -1,43 +1,45 @@
-use Rattle.std.proofs.Common.{◌==◌, List, ap, ◌∙◌, sym}
-use Rattle.std.specs.Prelude.{filter, find, ◌&&◌}
+use Rattle.std.proofs.Common.{◌≡◌, List, None, sym, ap, ◌∙◌}
+use Rattle.std.specs.Prelude.{find, ◌&&◌}
 use Rattle.std.specs.List.{list_any}
-use Rattle.tables_laws.proofs.Rows.{in_from_filter}
-use Rattle.grid_tables.specs.ChildLists.{ids_in}
-use Rattle.grid_tables.specs.Indexes.{place_cmp, is_placed}
+use Rattle.std.specs.Option.{option_copied}
+use Rattle.grid_tables.specs.Indexes.{is_placed}
 use Rattle.grid_tables.specs.Places.{passes}
-use Rattle.grid_tables.proofs.Indexes.{moved_index}
-use Rattle.grid_tables.proofs.ChildLists.{child_alone, child_found, child_missing}
+use Rattle.grid_tables.proofs.Children.{found_by_key, none_by_key, placed_alone}
 use Rattle.grid_tables.proofs.named.Named.find.Goals as goal
 
-pub returns-in-Ok-clause-row : goal.returns-in-Ok-clause-row
-returns-in-Ok-clause-row g c =
-    let among = filter (λ r. g.T.Placed.parent r == c.args.parent) c.self.inside.rows in
-    let index = moved_index g.T.Numbered.number (place_cmp g.T.Placed.parent g.T.Placed.name) among (ids_in c.self.inside.by_parent.entries c.args.parent) c.list_of-ids.result.now c.list_of-ids.ensures (c.self.invariant c.args.parent) in
-    let place = c.in-Ok.ensures.place among (λ x here. (in_from_filter (λ r. g.T.Placed.parent r == c.args.parent) c.self.inside.rows x here).0) index in
+found : (g : _) (c : goal.After-get g) → option_copied c.get.result ≡ find (λ r. is_placed g.T.Placed.parent g.T.Placed.name c.args.parent c.args.name.now r) c.self.inside.rows
+found g c =
     c.get.ensures.row
-    ∙ child_found g.T.Numbered.number g.T.Row.row_cmp g.met.T.Row.total g.met.T.Numbered.by_number g.T.Placed.parent g.T.Placed.name c.self.inside.rows c.len-count.ensures.table.ordered
-    c.args.parent c.args.name.now c.list_of-ids.result.now index c.in-Ok.at _ place
-    ∙ ap (λ (l : List g.row.T.Denot). find (λ r. is_placed g.T.Placed.parent g.T.Placed.name c.args.parent c.args.name.now r) l) c.self.view_is
+    ∙ found_by_key g.T.Numbered.number g.T.Placed.parent g.T.Placed.name g.T.Row.row_cmp g.met.T.Row.total g.met.T.Numbered.by_number c.self.inside.rows c.len-count.ensures.table.ordered
+    c.self.inside.keys c.self.invariant
+    c.args.parent c.args.name.now c.in-Some.key.now c.in-Some.ensures
 
-pub returns-in-Ok-clause-alone : goal.returns-in-Ok-clause-alone
-returns-in-Ok-clause-alone g c = λ test.
-    let placed = λ (r : g.row.T.Denot). is_placed g.T.Placed.parent g.T.Placed.name c.args.parent c.args.name.now r in
-    ap (λ (l : List g.row.T.Denot). list_any (λ r. placed r && test r) l) (sym c.self.view_is)
-    ∙ child_alone g.T.Placed.parent g.T.Placed.name g.T.Numbered.number c.self.inside.rows c.self.inside.by_parent.entries c.self.invariant c.args.parent c.args.name.now test
-    ∙ ap (passes test) (ap (λ (l : List g.row.T.Denot). find placed l) c.self.view_is ∙ sym (returns-in-Ok-clause-row g c))
+none_found : (g : _) (c : goal.In-None g) → None ≡ find (λ r. is_placed g.T.Placed.parent g.T.Placed.name c.args.parent c.args.name.now r) c.self.inside.rows
+none_found g c =
+    none_by_key g.T.Numbered.number g.T.Placed.parent g.T.Placed.name g.T.Row.row_cmp g.met.T.Row.total g.met.T.Numbered.by_number c.self.inside.rows c.len-count.ensures.table.ordered
+    c.self.inside.keys c.self.invariant
+    c.args.parent c.args.name.now c.in-None.ensures
 
-pub returns-in-Err-clause-row : goal.returns-in-Err-clause-row
-returns-in-Err-clause-row g c =
-    let among = filter (λ r. g.T.Placed.parent r == c.args.parent) c.self.inside.rows in
-    let index = moved_index g.T.Numbered.number (place_cmp g.T.Placed.parent g.T.Placed.name) among (ids_in c.self.inside.by_parent.entries c.args.parent) c.list_of-ids.result.now c.list_of-ids.ensures (c.self.invariant c.args.parent) in
-    let place = c.in-Err.ensures.place among (λ x here. (in_from_filter (λ r. g.T.Placed.parent r == c.args.parent) c.self.inside.rows x here).0) index in
-    sym (child_missing g.T.Numbered.number g.T.Row.row_cmp g.met.T.Row.total g.met.T.Numbered.by_number g.T.Placed.parent g.T.Placed.name c.self.inside.rows c.len-count.ensures.table.ordered
-    c.args.parent c.args.name.now c.list_of-ids.result.now index c.in-Err.field-0 place)
-    ∙ ap (λ (l : List g.row.T.Denot). find (λ r. is_placed g.T.Placed.parent g.T.Placed.name c.args.parent c.args.name.now r) l) c.self.view_is
+pub returns-in-Some-clause-row : goal.returns-in-Some-clause-row
+returns-in-Some-clause-row g c =
+    found g c ∙ ap (λ (l : List g.row.T.Denot). find (λ r. is_placed g.T.Placed.parent g.T.Placed.name c.args.parent c.args.name.now r) l) c.self.view_is
 
-pub returns-in-Err-clause-alone : goal.returns-in-Err-clause-alone
-returns-in-Err-clause-alone g c = λ test.
-    let placed = λ (r : g.row.T.Denot). is_placed g.T.Placed.parent g.T.Placed.name c.args.parent c.args.name.now r in
-    ap (λ (l : List g.row.T.Denot). list_any (λ r. placed r && test r) l) (sym c.self.view_is)
-    ∙ child_alone g.T.Placed.parent g.T.Placed.name g.T.Numbered.number c.self.inside.rows c.self.inside.by_parent.entries c.self.invariant c.args.parent c.args.name.now test
-    ∙ ap (passes test) (ap (λ (l : List g.row.T.Denot). find placed l) c.self.view_is ∙ sym (returns-in-Err-clause-row g c))
+pub returns-in-Some-clause-alone : goal.returns-in-Some-clause-alone
+returns-in-Some-clause-alone g c = λ test.
+    ap (λ (l : List g.row.T.Denot). list_any (λ r. is_placed g.T.Placed.parent g.T.Placed.name c.args.parent c.args.name.now r && test r) l) (sym c.self.view_is)
+    ∙ placed_alone g.T.Numbered.number g.T.Placed.parent g.T.Placed.name g.T.Row.row_cmp g.met.T.Row.total g.met.T.Numbered.by_number c.self.inside.rows c.len-count.ensures.table.ordered
+    c.self.inside.keys c.self.invariant
+    c.args.parent c.args.name.now test
+    ∙ ap (passes test) (sym (found g c))
+
+pub returns-in-None-clause-row : goal.returns-in-None-clause-row
+returns-in-None-clause-row g c =
+    none_found g c ∙ ap (λ (l : List g.row.T.Denot). find (λ r. is_placed g.T.Placed.parent g.T.Placed.name c.args.parent c.args.name.now r) l) c.self.view_is
+
+pub returns-in-None-clause-alone : goal.returns-in-None-clause-alone
+returns-in-None-clause-alone g c = λ test.
+    ap (λ (l : List g.row.T.Denot). list_any (λ r. is_placed g.T.Placed.parent g.T.Placed.name c.args.parent c.args.name.now r && test r) l) (sym c.self.view_is)
+    ∙ placed_alone g.T.Numbered.number g.T.Placed.parent g.T.Placed.name g.T.Row.row_cmp g.met.T.Row.total g.met.T.Numbered.by_number c.self.inside.rows c.len-count.ensures.table.ordered
+    c.self.inside.keys c.self.invariant
+    c.args.parent c.args.name.now test
+    ∙ ap (passes test) (sym (none_found g c))

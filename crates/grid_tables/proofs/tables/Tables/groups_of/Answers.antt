@@ -10,5 +10,5 @@ use Rattle.grid_tables.proofs.tables.Tables.groups_of.Goals as goal
 
 pub returns : goal.returns
 returns c =
-    subst (λ (d : Cat). AreKeysOf group_of group_cmp (filter (λ r. r.user == c.args.user) d.members) c.at.result.now) c.self.view_is
-    (keys_alike group_of group_cmp (λ r. nat_cmp c.args.user r.user) (λ r. r.user == c.args.user) (λ r. same_number c.args.user r.user) c.self.inside.members c.at.result.now c.at.ensures.keys)
+    subst (λ (d : Cat). AreKeysOf group_of group_cmp (filter (λ r. r.user == c.args.user) d.members) c.at.result) c.self.view_is
+    (keys_alike group_of group_cmp (λ r. nat_cmp c.args.user r.user) (λ r. r.user == c.args.user) (λ r. same_number c.args.user r.user) c.self.inside.members c.at.result c.at.ensures.keys)

@@ -11,5 +11,5 @@ use Rattle.grid_tables.proofs.tables.Tables.has_child.Goals as goal
 pub returns : goal.returns
 returns c =
     c.has_some_id.ensures
-    ∙ index_any (λ (r : CollectionRow). r.id) (place_cmp (λ (r : CollectionRow). r.parent) (λ r. r.name)) (λ r. r.parent == c.args.id) (λ id. not (id == 0)) c.self.inside.collections c.children.result.now c.children.ensures
+    ∙ index_any (λ (r : CollectionRow). r.id) (place_cmp (λ (r : CollectionRow). r.parent) (λ r. r.name)) (λ r. r.parent == c.args.id) (λ id. not (id == 0)) c.self.inside.collections c.children.result c.children.ensures
     ∙ ap (λ (t : Cat). list_any (λ r. is_child c.args.id r) t.collections) c.self.view_is

@@ -10,5 +10,5 @@ use Rattle.grid_tables.proofs.tables.Tables.has_object_in.Goals as goal
 pub returns : goal.returns
 returns c =
     ap not c.is_empty.ensures
-    ∙ index_some (λ (r : ObjectRow). r.id) (place_cmp (λ (r : ObjectRow). r.collection) (λ r. r.name)) (λ r. r.collection == c.args.id) c.self.inside.objects c.children.result.now c.children.ensures
+    ∙ index_some (λ (r : ObjectRow). r.id) (place_cmp (λ (r : ObjectRow). r.collection) (λ r. r.name)) (λ r. r.collection == c.args.id) c.self.inside.objects c.children.result c.children.ensures
     ∙ ap (λ (t : Cat). list_any (λ r. r.collection == c.args.id) t.objects) c.self.view_is

@@ -11,8 +11,8 @@ returns c =
       collections = named_table c.self.inside.collections c.len-collections.ensures.table;
       objects = c.len-objects.ensures.table;
       replicas = c.in_order.ensures;
-      triples = c.as_slice-triples.ensures.table;
-      entries = c.as_slice-entries.ensures.table;
+      triples = c.in_order-2.ensures;
+      entries = c.in_order-3.ensures;
       resources = c.as_slice-resources.ensures.table;
       orphans = c.as_slice-orphans.ensures.table;
     })

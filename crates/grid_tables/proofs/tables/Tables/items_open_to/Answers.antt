@@ -10,5 +10,5 @@ use Rattle.grid_tables.proofs.tables.Tables.items_open_to.Goals as goal
 
 pub returns : goal.returns
 returns c =
-    subst (λ (d : Cat). AreKeysOf access_of_row access_of_user_cmp (filter (λ r. r.user == c.args.user) d.entries) c.at.result.now) c.self.view_is
-    (keys_alike access_of_row access_of_user_cmp (λ r. nat_cmp c.args.user r.user) (λ r. r.user == c.args.user) (λ r. same_number c.args.user r.user) c.self.inside.entries c.at.result.now c.at.ensures.keys)
+    subst (λ (d : Cat). AreKeysOf access_of_row access_of_user_cmp (filter (λ r. r.user == c.args.user) d.entries) c.at.result) c.self.view_is
+    (keys_alike access_of_row access_of_user_cmp (λ r. nat_cmp c.args.user r.user) (λ r. r.user == c.args.user) (λ r. same_number c.args.user r.user) c.self.inside.entries c.at.result c.at.ensures.keys)

@@ -11,6 +11,6 @@ use Rattle.grid_tables.proofs.tables.Tables.items_with.Goals as goal
 
 pub returns : goal.returns
 returns c =
-    subst (λ (d : Cat). AreKeysOf valued_of valued_cmp (filter (λ t. same_text t.attribute c.args.attribute.now) d.triples) c.at.result.now) c.self.view_is
+    subst (λ (d : Cat). AreKeysOf valued_of valued_cmp (filter (λ t. same_text t.attribute c.args.attribute.now) d.triples) c.at.result) c.self.view_is
     (keys_alike valued_of valued_cmp (λ t. text_cmp c.args.attribute.now t.attribute) (λ t. same_text t.attribute c.args.attribute.now)
-    (λ t. tied text_cmp_total c.args.attribute.now t.attribute) c.self.inside.triples c.at.result.now c.at.ensures.keys)
+    (λ t. tied text_cmp_total c.args.attribute.now t.attribute) c.self.inside.triples c.at.result c.at.ensures.keys)

@@ -12,6 +12,6 @@ pub returns : goal.returns
 returns c =
     let a = c.args.attribute.now in
     let v = c.args.value.now in
-    subst (λ (d : Cat). AreKeysOf valued_of valued_cmp (filter (λ t. same_text t.attribute a && same_text t.value v) d.triples) c.at.result.now) c.self.view_is
+    subst (λ (d : Cat). AreKeysOf valued_of valued_cmp (filter (λ t. same_text t.attribute a && same_text t.value v) d.triples) c.at.result) c.self.view_is
     (keys_alike valued_of valued_cmp (λ t. ordering_then (text_cmp a t.attribute) (text_cmp v t.value)) (λ t. same_text t.attribute a && same_text t.value v)
-    (λ t. same_texts a v t.attribute t.value) c.self.inside.triples c.at.result.now c.at.ensures.keys)
+    (λ t. same_texts a v t.attribute t.value) c.self.inside.triples c.at.result c.at.ensures.keys)

@@ -6,4 +6,4 @@ use Rattle.grid_tables.specs.KeyOrders.{leaf_of, leaf_cmp}
 use Rattle.grid_tables.proofs.tables.Tables.replicas_on.Goals as goal
 
 pub returns : goal.returns
-returns c = subst (λ (d : Cat). AreKeysOf leaf_of leaf_cmp (filter (λ r. r.leaf == c.args.leaf) d.replicas) c.on_leaf.result.now) c.self.view_is c.on_leaf.ensures
+returns c = subst (λ (d : Cat). AreKeysOf leaf_of leaf_cmp (filter (λ r. r.leaf == c.args.leaf) d.replicas) c.on_leaf.result) c.self.view_is c.on_leaf.ensures

@@ -9,12 +9,12 @@ use Rattle.grid_tables.proofs.tables.Tables.user_named.Goals as goal
 
 pub returns-in-Some : goal.returns-in-Some
 returns-in-Some c =
-    ap (option_map (λ (k : NamedId). k.id)) c.in-Some.ensures.value
-    ∙ first_named (λ (r : UserRow). r.id) (λ r. r.name) user_cmp (λ a b. refl) c.args.name.now c.self.inside.users c.as_slice-rows.ensures.table.ordered c.at.result.now c.at.ensures.keys
+    ap (option_map (λ (k : NamedId). k.id)) c.in-Some.ensures.2
+    ∙ first_named (λ (r : UserRow). r.id) (λ r. r.name) user_cmp (λ a b. refl) c.args.name.now c.self.inside.users c.as_slice-rows.ensures.table.ordered c.in-Some.ensures.0 c.in-Some.ensures.1
     ∙ ap (λ (d : Cat). option_map (λ r. r.id) (find (λ r. same_text r.name c.args.name.now) d.users)) c.self.view_is
 
 pub returns-in-None : goal.returns-in-None
 returns-in-None c =
-    ap (option_map (λ (k : NamedId). k.id)) c.in-None.ensures.value
-    ∙ first_named (λ (r : UserRow). r.id) (λ r. r.name) user_cmp (λ a b. refl) c.args.name.now c.self.inside.users c.as_slice-rows.ensures.table.ordered c.at.result.now c.at.ensures.keys
+    ap (option_map (λ (k : NamedId). k.id)) c.in-None.ensures.2
+    ∙ first_named (λ (r : UserRow). r.id) (λ r. r.name) user_cmp (λ a b. refl) c.args.name.now c.self.inside.users c.as_slice-rows.ensures.table.ordered c.in-None.ensures.0 c.in-None.ensures.1
     ∙ ap (λ (d : Cat). option_map (λ r. r.id) (find (λ r. same_text r.name c.args.name.now) d.users)) c.self.view_is

@@ -10,5 +10,5 @@ use Rattle.grid_tables.proofs.vaults.Replicas.on_leaf.Goals as goal
 
 pub returns : goal.returns
 returns c =
-    subst (λ (l : List ReplicaRow). AreKeysOf leaf_of leaf_cmp (filter (λ r. r.leaf == c.args.leaf) l) c.at.result.now) c.self.view_is
-    (keys_alike leaf_of leaf_cmp (λ r. nat_cmp c.args.leaf r.leaf) (λ r. r.leaf == c.args.leaf) (λ r. same_number c.args.leaf r.leaf) c.self.inside.rows c.at.result.now c.at.ensures.keys)
+    subst (λ (l : List ReplicaRow). AreKeysOf leaf_of leaf_cmp (filter (λ r. r.leaf == c.args.leaf) l) c.at.result) c.self.view_is
+    (keys_alike leaf_of leaf_cmp (λ r. nat_cmp c.args.leaf r.leaf) (λ r. r.leaf == c.args.leaf) (λ r. same_number c.args.leaf r.leaf) c.self.inside.rows c.at.result c.at.ensures.keys)

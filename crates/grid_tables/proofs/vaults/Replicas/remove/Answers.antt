@@ -14,7 +14,7 @@ pub invariant_of-self : goal.invariant_of-self
 invariant_of-self c =
     subst (λ (l : List ReplicaRow). IsVaults l c.remove-in-Some.new.self) (sym c.remove.ensures)
     (vaults_without c.self.inside.rows c.in_order.ensures.ordered c.self.inside.vaults c.self.invariant c.args.object c.args.number c.remove-in-Some.new.self (Some c.in-Some.vault) c.in-Some.ensures
-    (λ n. ap (λ (l : List Vault). holds l n) c.remove-in-Some.ensures ∙ holds_dropped c.self.inside.vaults c.in-Some.vault n))
+    (λ n. ap (λ (l : List Vault). holds l n) c.remove-in-Some.ensures.left ∙ holds_dropped c.self.inside.vaults c.in-Some.vault n))
 
 pub invariant_of-self-in-None : goal.invariant_of-self-in-None
 invariant_of-self-in-None c =

@@ -1,0 +1,6 @@
+mod Counts
+mod Cuts
+mod Edits
+mod Firsts
+mod Orders
+mod Runs
