@@ -23,6 +23,7 @@ beside_then a b c j k one two = record {
   keeps = keeps-then a b c one.keeps two.keeps;
   few = gives_then one.few two.few;
   named = named_then a b c one.named two.named;
+  within = λ within. two.within (one.within within);
   users = λ id is. two.users id (one.users id is);
   names = λ id is. two.names id (one.users id is) ∙ one.names id is;
 }

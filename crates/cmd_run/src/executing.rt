@@ -3,11 +3,12 @@ ghost use Rattle.grid_outside.specs.Source.{SourceState};
 ghost use Rattle.grid_model.specs.Obeying.{no_env};
 ghost use Rattle.grid_model.specs.Orders.{executes};
 ghost use Rattle.grid_model.specs.Parsed.{call_of, plain_call};
-ghost use Rattle.grid_model.specs.RowGrids.{user_name};
+ghost use Rattle.grid_model.specs.RowGrids.{user_name, grid_of};
 ghost use Rattle.grid_model.specs.RuleText.{CallText};
 ghost use Rattle.grid_model.specs.Runs.{Request};
 ghost use Rattle.grid_model.specs.Writable.{is_word};
 ghost use Rattle.grid_deed.specs.Safe.{KeepWhole};
+ghost use Rattle.size_laws.specs.Within.{IsWithin};
 ghost use Rattle.sess.specs.Places.{at, user_of};
 ghost use Rattle.chain_run.specs.Steps.{FitsFail};
 ghost use Rattle.rule_cond.specs.Scopes.{env_of};
@@ -64,6 +65,7 @@ impl Server {
         ensures passes { CallsPass D.disk P.plugin K.sink (IsErrOf result Ending.Disk) (IsErrOf result Ending.Sink)
             (record { outside = outside.old; sink = sink.old }) (record { outside = outside.new; sink = sink.new }) }
         ensures drawn { outside.new.moments ≤ outside.old.moments + 2 ^ 79 }
+        ensures in_few { IsWithin (grid_of self.old.store.cat) → outside.new.moments ≤ outside.old.moments + 2 ^ 40 }
     {
         let Some(user) = self.sessions.user(session) else {
             return self.say(alloc, outside, sink, number, End::Refused(Refusal::NoLogin));
@@ -112,6 +114,7 @@ impl Server {
         ensures passes { CallsPass D.disk P.plugin K.sink (IsErrOf result Ending.Disk) (IsErrOf result Ending.Sink)
             (record { outside = outside.old; sink = sink.old }) (record { outside = outside.new; sink = sink.new }) }
         ensures drawn { outside.new.moments ≤ outside.old.moments + 2 ^ 79 }
+        ensures in_few { IsWithin (grid_of self.old.store.cat) → outside.new.moments ≤ outside.old.moments + 2 ^ 40 }
     {
         let Ok(env) = env_by(alloc, self.store.tables(), user) else {
             return Err(Ending::Memory);
@@ -168,6 +171,7 @@ impl Server {
         ensures passes { CallsPass D.disk P.plugin K.sink (IsErrOf result Ending.Disk) (IsErrOf result Ending.Sink)
             (record { outside = outside.old; sink = sink.old }) (record { outside = outside.new; sink = sink.new }) }
         ensures drawn { outside.new.moments ≤ outside.old.moments + 2 ^ 79 }
+        ensures in_few { IsWithin (grid_of self.old.store.cat) → outside.new.moments ≤ outside.old.moments + 2 ^ 40 }
     {
         let command = self.begin(alloc, number, user, line);
         let ran = execute(

@@ -5,6 +5,8 @@ ghost use Rattle.grid_model.specs.Names.{Text as TextOf};
 ghost use Rattle.grid_model.specs.Runs.{Request as RequestOf};
 ghost use Rattle.grid_model.specs.Writable.{is_word};
 ghost use Rattle.grid_deed.specs.Safe.{KeepWhole};
+ghost use Rattle.grid_model.specs.RowGrids.{grid_of};
+ghost use Rattle.size_laws.specs.Within.{IsWithin};
 ghost use Rattle.run_laws.specs.Steps.{CallsNoRules, RemovesNoFile, RequestStep};
 ghost use Rattle.run_laws.specs.Around.{around};
 ghost use Rattle.cmd_run.specs.Asking.{AsksForRequest, IsForm, IsLineOf};
@@ -26,7 +28,7 @@ impl Server {
     /// refused, that is answered. `body` is the request's body, and empty where its verb has none or promised more bytes
     /// than an object may have. `line` is its line, which is noted while a deed of it runs. `Disk` and `Sink` come only where that
     /// device failed, and `Worn` only where numbers of vault files or the room of the log have run out; a run ends after any error.
-    /// Draws at most 2^79 moments.
+    /// Draws at most 2^79 moments, and at most 2^40 where the grid is within its limits.
     pub fn command<D: Disk, K: Sink, A: Ambient, P: Plugin>(
         &mut self,
         alloc: Global,
@@ -72,6 +74,7 @@ impl Server {
             IsRefusedAtOnce (state_of self.old) request →
             (outside.new.main ≡ outside.old.main) × (outside.new.stores ≡ outside.old.stores) }
         ensures drawn { outside.new.moments ≤ outside.old.moments + 2 ^ 79 }
+        ensures in_few { IsWithin (grid_of self.old.store.cat) → outside.new.moments ≤ outside.old.moments + 2 ^ 40 }
     {
         let request = match asked {
             Ok(request) => request,

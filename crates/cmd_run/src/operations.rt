@@ -7,6 +7,8 @@ ghost use Rattle.grid_deed.specs.Safe.{KeepWhole};
 ghost use Rattle.sess.specs.Places.{at, user_of};
 ghost use Rattle.cmd_read.specs.Orders.{promised};
 ghost use Rattle.grid_headline.specs.Reads.{is_built};
+ghost use Rattle.grid_model.specs.RowGrids.{grid_of};
+ghost use Rattle.size_laws.specs.Within.{IsWithin};
 ghost use Rattle.run_laws.specs.Around.{around};
 ghost use Rattle.run_laws.specs.Passes.{AreReady, CallsPass};
 ghost use Rattle.run_laws.specs.Steps.{CallsNoRules, RequestStep};
@@ -70,6 +72,7 @@ impl Server {
             CallsNoRules (state_of self.old) request → IsRefusedAtOnce (state_of self.old) request →
             (outside.new.main ≡ outside.old.main) × (outside.new.stores ≡ outside.old.stores) }
         ensures drawn { outside.new.moments ≤ outside.old.moments + 2 ^ 79 }
+        ensures in_few { IsWithin (grid_of self.old.store.cat) → outside.new.moments ≤ outside.old.moments + 2 ^ 40 }
     {
         if !is_built(verb) {
             let end = End::Refused(Refusal::UnknownCommand);
@@ -128,6 +131,7 @@ impl Server {
             CallsNoRules (state_of self.old) request → IsRefusedAtOnce (state_of self.old) request →
             (outside.new.main ≡ outside.old.main) × (outside.new.stores ≡ outside.old.stores) }
         ensures drawn { outside.new.moments ≤ outside.old.moments + 2 ^ 79 }
+        ensures in_few { IsWithin (grid_of self.old.store.cat) → outside.new.moments ≤ outside.old.moments + 2 ^ 40 }
     {
         let command = self.begin(alloc, number, user, line);
         let ran = operate(

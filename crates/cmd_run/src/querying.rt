@@ -3,6 +3,8 @@ ghost use Rattle.grid_outside.specs.Source.{SourceState};
 ghost use Rattle.grid_model.specs.Runs.{Request};
 ghost use Rattle.grid_model.specs.Writable.{is_word};
 ghost use Rattle.grid_deed.specs.Safe.{KeepWhole};
+ghost use Rattle.grid_model.specs.RowGrids.{grid_of};
+ghost use Rattle.size_laws.specs.Within.{IsWithin};
 ghost use Rattle.sess.specs.Places.{at, user_of};
 ghost use Rattle.run_laws.specs.Around.{around};
 ghost use Rattle.run_laws.specs.Passes.{AreReady, CallsPass};
@@ -57,6 +59,7 @@ impl Server {
         ensures idle { (request : Request) → QueryOf session text.now request → CallsNoRules (state_of self.old) request →
             (outside.new.main ≡ outside.old.main) × (outside.new.stores ≡ outside.old.stores) }
         ensures drawn { outside.new.moments ≤ outside.old.moments + 2 ^ 79 }
+        ensures in_few { IsWithin (grid_of self.old.store.cat) → outside.new.moments ≤ outside.old.moments + 2 ^ 40 }
     {
         match self.sessions.user(session) {
             None => self.say(alloc, outside, sink, number, End::Refused(Refusal::NoLogin)),
@@ -100,6 +103,7 @@ impl Server {
         ensures idle { (request : Request) → QueryOf session text.now request → CallsNoRules (state_of self.old) request →
             (outside.new.main ≡ outside.old.main) × (outside.new.stores ≡ outside.old.stores) }
         ensures drawn { outside.new.moments ≤ outside.old.moments + 2 ^ 79 }
+        ensures in_few { IsWithin (grid_of self.old.store.cat) → outside.new.moments ≤ outside.old.moments + 2 ^ 40 }
     {
         let command = self.begin(alloc, number, user, line);
         let ran = ask(

@@ -60,7 +60,7 @@ impl Server {
             (record { outside = outside.old; sink = sink.old }) (record { outside = outside.new; sink = sink.new }) }
         ensures idle { (request : Request) → request ≡ Ok (session, sweeps) → IsRefusedAtOnce (state_of self.old) request →
             (outside.new.main ≡ outside.old.main) × (outside.new.stores ≡ outside.old.stores) }
-        ensures drawn { outside.new.moments ≤ outside.old.moments + 2 ^ 50 }
+        ensures drawn { outside.new.moments ≤ outside.old.moments + (2 ^ 33 + 1) }
     {
         let Some(user) = self.sessions.user(session) else {
             return self.say(alloc, outside, sink, number, End::Refused(Refusal::NoLogin));
@@ -101,7 +101,7 @@ impl Server {
             (D.disk outside.old.main) (D.disk outside.new.main) outside.old.stores.items outside.new.stores.items }
         ensures passes { CallsPass D.disk P.plugin K.sink (IsErrOf result Ending.Disk) (IsErrOf result Ending.Sink)
             (record { outside = outside.old; sink = sink.old }) (record { outside = outside.new; sink = sink.new }) }
-        ensures drawn { outside.new.moments ≤ outside.old.moments + 2 ^ 50 }
+        ensures drawn { outside.new.moments ≤ outside.old.moments + (2 ^ 33 + 1) }
     {
         let Ok(text) = end_text(alloc, number, well(alloc)) else {
             return Err(Ending::Memory);
@@ -114,7 +114,7 @@ impl Server {
 
     /// Has the files of all orphans removed, and forgets those that are gone, whichever stores fail; nothing is said. Where there
     /// are no orphans main is left as it was. `Disk` comes only where main failed, `Worn` only where the room of the log has run
-    /// out, and `Sink` never. Draws at most 2^40 moments.
+    /// out, and `Sink` never. Draws at most 2^33 moments.
     pub fn sweep_orphans<D: Disk, A: Ambient, P: Plugin>(
         &mut self,
         alloc: Global,
@@ -134,7 +134,7 @@ impl Server {
         ensures frame { Frame D.disk P.plugin (IsErrOf result Ending.Disk) outside.old outside.new }
         ensures worn { LacksRoomAlone (D.disk outside.old.main) (D.disk outside.new.main) result }
         ensures not_sink { ¬ IsErrOf result Ending.Sink }
-        ensures drawn { outside.new.moments ≤ outside.old.moments + 2 ^ 40 }
+        ensures drawn { outside.new.moments ≤ outside.old.moments + 2 ^ 33 }
     {
         let Ok(files) = orphans_of(alloc, self.store.tables()) else {
             return Err(Ending::Memory);

@@ -28,6 +28,7 @@ use Rattle.run_laws.specs.Around.{around}
 use Rattle.run_laws.specs.Steps.{Gave}
 use Rattle.run_laws.proofs.Draws.{gave-none}
 use Rattle.run_laws.proofs.Users.{users_same}
+use Rattle.size_laws.specs.Within.{IsWithin}
 use Rattle.service_run.specs.Commands.{IsNoted, KeepsBeside, WaitsAt, noted_in, place_by}
 use Rattle.service_run.specs.NotedCalls.{NotesCall}
 use Rattle.service_run.specs.Noting.{IsNotedSo, IsOutOfRoom, NoteLeaves, OneOfNote, unnoted, noted, with_pending}
@@ -64,6 +65,7 @@ module _ {D A P K : Type 0} (disk : D → DiskState) (ambient : A → AmbientSta
         keeps = record { rises = omega arith; names = λ slot name row before named. (row, names_pending rows.cat p slot name row named) };
         few = gives_alike rows.cat after_cat refl refl;
         named = (turns_pending rows.cat p user).named;
+        within = λ within. subst IsWithin (sym (grid_pending rows.cat p)) within;
         users = users.there;
         names = users.names;
       }

@@ -52,6 +52,7 @@ use Rattle.run_laws.proofs.Users.{KeepsUsers, users_apply_all, users_then}
 use Rattle.service_run.specs.declared.command.Command.{Command}
 use Rattle.service_run.specs.declared.ending.Ending.{Ending}
 use Rattle.service_run.specs.Changes.{mark_fits, with_mark}
+use Rattle.size_laws.specs.Within.{IsWithin}
 use Rattle.service_run.specs.Commands.{IsNoted, KeepsBeside, noted_in, place_by}
 use Rattle.service_run.specs.Noting.{IsOutOfRoom, with_pending}
 use Rattle.service_run.specs.Steps.{ComesTo, IsKnownBy, IsStep}
@@ -107,7 +108,7 @@ module _ (c : Cat) (user : Text) (op : Operation) where
 module _ {D A P K : Type 0} (disk : D → DiskState) (ambient : A → AmbientState) (plugin : P → StoreState) (sink : K → SinkState) (source : SourceState) (o n : Outside D A P) (a : A) (k l : K) (kept : Cat) (rows : Journal) (x : Command) (call : Call) (undo : List Call)
     (user : IsTrue (is_user rows.cat x.user)) (s1 : Journal) (announced : s1.cat ≡ with_pending rows.cat (noted_in x call undo)) (row : Or Act) (count : ℕ) (count_is : s1.cat.stores ≡ count) (slots : rows.cat.stores ≡ length o.stores.items)
     (word now : ℕ) (body : Text) (plan : Plan) (w : WritesFiles s1.cat row word now body plan)
-    (few : length plan.files ≤ leaf_count s1.cat) where
+    (few : length plan.files ≤ leaf_count s1.cat) (ran_within : IsWithin (grid_of rows.cat) → IsWithin (w.of.ran word now [])) where
   abbrev pub its_plan : IsPlan s1.cat s1.cat count plan body
   its_plan = plan_as s1.cat plan s1.cat.stores count body count_is w.makes.is_plan
 
@@ -135,15 +136,15 @@ module _ {D A P K : Type 0} (disk : D → DiskState) (ambient : A → AmbientSta
   few_end : GivesFew s1.cat end 1
   few_end = gives_planned s1.cat end (length plan.files) w.makes.drawn.numbers few mid plan.before plan.after w.makes.is_plan.first w.makes.is_plan.then
 
+  grid_mid : grid_of mid ≡ grid_of rows.cat
+  grid_mid = w.makes.before ∙ grid_before rows.cat x call undo s1.cat announced
+
   beside_mid : KeepsBeside rows.cat mid 1
   beside_mid =
-      beside_since rows.cat x call undo s1.cat announced (length plan.files) mid w.makes.drawn_first users_mid user w.makes.is_plan.begins.named few_mid
+      beside_since rows.cat x call undo s1.cat announced (length plan.files) mid w.makes.drawn_first users_mid user w.makes.is_plan.begins.named few_mid (λ within. subst IsWithin (sym grid_mid) within)
 
   pending_mid : mid.pending ≡ Some (noted_in x call undo)
   pending_mid = pending_since rows.cat x call undo s1.cat announced (length plan.files) mid w.makes.drawn_first users_mid
-
-  grid_mid : grid_of mid ≡ grid_of rows.cat
-  grid_mid = w.makes.before ∙ grid_before rows.cat x call undo s1.cat announced
 
   pub its_note : IsNoted rows.cat x call undo mid
   its_note = record { grid = grid_mid; beside = beside_mid; pending = pending_mid }
@@ -153,7 +154,7 @@ module _ {D A P K : Type 0} (disk : D → DiskState) (ambient : A → AmbientSta
   beside_end =
       let p = w.makes.is_plan in
       beside_since rows.cat x call undo s1.cat announced (length plan.files) end w.makes.drawn users_end user
-      (λ slot name is. p.ends.named slot name (p.begins.named slot name is)) few_end
+      (λ slot name is. p.ends.named slot name (p.begins.named slot name is)) few_end (λ within. subst IsWithin (sym w.makes.ran) (ran_within within))
 
   numbers_end : end.numbers ≡ mid.numbers
   numbers_end = w.makes.drawn.numbers ∙ sym w.makes.drawn_first.numbers

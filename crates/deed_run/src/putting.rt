@@ -14,6 +14,7 @@ ghost use Rattle.grid_deed.specs.Held.{IsHeld};
 ghost use Rattle.grid_headline.specs.Numbers.{last_vault};
 ghost use Rattle.run_laws.specs.Around.{around};
 ghost use Rattle.run_laws.specs.Passes.{AreReady, CallsPass};
+ghost use Rattle.size_laws.specs.Within.{TakesAtMost};
 ghost use Rattle.service_run.specs.Steps.{IsStep};
 ghost use Rattle.deed_run.specs.Puts.{MayBeNoted, does_op};
 
@@ -37,7 +38,7 @@ const LAST_VAULT: u64 = 18_446_744_065_119_617_024;
 ///
 /// The answer is how the put came out. An error ends the command: `Memory` may come at any time, `Disk` and `Sink` where one of them
 /// failed, and `Worn` where the numbers of vault files or the room behind the log have run out; the first of these comes before anything
-/// outside is asked. Draws at most 2^65 moments.
+/// outside is asked. Draws at most 2^65 moments, and at most 2^20 where the grid is within its limits.
 pub fn put<D: Disk, K: Sink, A: Ambient, P: Plugin>(
     alloc: Global,
     store: &mut Store,
@@ -70,7 +71,7 @@ pub fn put<D: Disk, K: Sink, A: Ambient, P: Plugin>(
     ensures untouched { (place : ℕ) → IsErrOf result (Ending.Worn Wear.Vaults place) → (outside.new ≡ outside.old) × (sink.new ≡ sink.old) }
     // It comes to an answer only where there is a number left for a file.
     ensures number { IfOk result (λ ran. store.old.cat.numbers.next_vault ≤ last_vault) }
-    ensures drawn { outside.new.moments ≤ outside.old.moments + 2 ^ 65 }
+    ensures drawn { (each : ℕ) → TakesAtMost (grid_of store.old.cat) each → outside.new.moments ≤ outside.old.moments + each }
 {
     match spent_vaults(store) {
         None => {}
@@ -121,7 +122,7 @@ fn put_found<D: Disk, K: Sink, A: Ambient, P: Plugin>(
     ensures passes { CallsPass D.disk P.plugin K.sink (IsErrOf result Ending.Disk) (IsErrOf result Ending.Sink)
         (record { outside = outside.old; sink = sink.old }) (record { outside = outside.new; sink = sink.new }) }
     ensures untouched { (place : ℕ) → IsErrOf result (Ending.Worn Wear.Vaults place) → (outside.new ≡ outside.old) × (sink.new ≡ sink.old) }
-    ensures drawn { outside.new.moments ≤ outside.old.moments + 2 ^ 65 }
+    ensures drawn { (each : ℕ) → TakesAtMost (grid_of store.old.cat) each → outside.new.moments ≤ outside.old.moments + each }
 {
     let word = outside.ambient.word();
     let now = outside.ambient.now();

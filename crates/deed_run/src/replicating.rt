@@ -11,6 +11,7 @@ ghost use Rattle.grid_deed.specs.Held.{IsHeld};
 ghost use Rattle.grid_headline.specs.Numbers.{last_vault};
 ghost use Rattle.run_laws.specs.Around.{around};
 ghost use Rattle.run_laws.specs.Passes.{AreReady, CallsPass};
+ghost use Rattle.size_laws.specs.Within.{TakesAtMost};
 ghost use Rattle.service_run.specs.Steps.{IsStep};
 ghost use Rattle.deed_run.specs.Puts.{MayBeNoted, does_op};
 
@@ -54,7 +55,7 @@ pub fn repl<D: Disk, K: Sink, A: Ambient, P: Plugin>(
     ensures untouched { (place : ℕ) → IsErrOf result (Ending.Worn Wear.Vaults place) → (outside.new ≡ outside.old) × (sink.new ≡ sink.old) }
     // It comes to an answer only where there is a number left for a file.
     ensures number { IfOk result (λ ran. store.old.cat.numbers.next_vault ≤ last_vault) }
-    ensures drawn { outside.new.moments ≤ outside.old.moments + 2 ^ 65 }
+    ensures drawn { (each : ℕ) → TakesAtMost (grid_of store.old.cat) each → outside.new.moments ≤ outside.old.moments + each }
 {
     match spent_vaults(store) {
         None => {}

@@ -23,7 +23,7 @@ use std::alloc::Global;
 /// then still to be told. Where the store fails, or the file is not what is recorded of it, the call is refused so. Main is not called.
 ///
 /// The answer is how the call came out. An error ends the command: `Sink`, where the sink failed, behind a first part of the lines, and
-/// `Memory`. Draws at most 2^49 moments.
+/// `Memory`. Draws at most one moment for each part of the file, of 65,536 bytes, and so at most 2^49.
 pub fn send_file<D: Disk, K: Sink, A: Ambient, P: Plugin>(
     alloc: Global,
     outside: &mut Outside<D, A, P>,
@@ -42,6 +42,7 @@ pub fn send_file<D: Disk, K: Sink, A: Ambient, P: Plugin>(
     ensures passes { CallsPass D.disk P.plugin K.sink (IsErrOf result Ending.Disk) (IsErrOf result Ending.Sink)
         (record { outside = outside.old; sink = sink.old }) (record { outside = outside.new; sink = sink.new }) }
     ensures drawn { outside.new.moments ≤ outside.old.moments + 2 ^ 49 }
+    ensures few { outside.new.moments ≤ outside.old.moments + parts file.now.size }
 {
     few_parts(file);
     let word = outside.ambient.word();

@@ -12,6 +12,7 @@ ghost use Rattle.grid_model.specs.declared.refusal.Refusal.{Refusal as RefusalOf
 ghost use Rattle.grid_deed.specs.Held.{IsHeld};
 ghost use Rattle.run_laws.specs.Around.{around};
 ghost use Rattle.run_laws.specs.Passes.{AreReady, CallsPass};
+ghost use Rattle.size_laws.specs.Within.{TakesAtMost};
 ghost use Rattle.service_run.specs.Steps.{IsStep};
 ghost use Rattle.service_run.specs.declared.ending.Ending.{Ending};
 ghost use Rattle.deed_run.specs.Puts.{MayBeNoted, does_op};
@@ -55,7 +56,7 @@ pub fn chksum<D: Disk, K: Sink, A: Ambient, P: Plugin>(
         (record { outside = outside.old; sink = sink.old }) (record { outside = outside.new; sink = sink.new }) }
     ensures still { (outside.new.main ≡ outside.old.main) × (sink.new ≡ sink.old) }
     ensures errors { (e : Ending) → IsErrOf result e → e ≡ Ending.Memory }
-    ensures drawn { outside.new.moments ≤ outside.old.moments + 2 ^ 65 }
+    ensures drawn { (each : ℕ) → TakesAtMost (grid_of store.old.cat) each → outside.new.moments ≤ outside.old.moments + each }
 {
     let _undo = undo;
     let files = match find_files(alloc, store, command.user, path) {

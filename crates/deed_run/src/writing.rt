@@ -28,7 +28,7 @@ use std::alloc::{AllocError, Global};
 /// word and this time: `Ran` where all were written, and else that of the store's fault.
 ///
 /// An error ends the command: `Memory` may come at any time, `Disk` and `Sink` where one of them failed, and `Worn` where the room behind
-/// the log has run out.
+/// the log has run out. Draws at most 2^65 moments.
 pub(crate) fn write_marked<D: Disk, K: Sink, A: Ambient, P: Plugin>(
     alloc: Global,
     store: &mut Store,
@@ -56,7 +56,8 @@ pub(crate) fn write_marked<D: Disk, K: Sink, A: Ambient, P: Plugin>(
     ensures ambient { outside.new.ambient ≡ outside.old.ambient }
     // What has run out is not the numbers of vault files.
     ensures left { (place : ℕ) → IsErrOf result (Ending.Worn Wear.Vaults place) → ⊥ }
-    ensures drawn { outside.new.moments ≤ outside.old.moments + 2 ^ 65 }
+    ensures drawn { outside.new.moments ≤ outside.old.moments + moments_for plan.files body.now }
+    ensures few { moments_for plan.files body.now ≤ 2 ^ 65 }
 {
     few_writes(&plan, body, body.len());
     let fault = match write_noted(alloc, store, outside, sink, command, plan, body) {

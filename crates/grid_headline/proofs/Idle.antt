@@ -131,6 +131,7 @@ module _ {B : Type 0} (old : World B) (c : Cat) (rules : List Rule) where
       named = stay_named;
       silent = λ tells settled. none_silent settled;
       numbers = λ tells settled n i j d e m x session order b k is did means makes some was. absurd (never settled n i d b);
+      takes_few = λ within. omega arith;
       orphans = λ e. absurd (cc e);
       caused = record { counted = λ slot less. omega arith; there = λ slot less. absurd (omega (arith, less)) };
       completes = λ tells failed all settled whole fits. record { good_end = tt; clean = tt; by_rows = tt };

@@ -11,6 +11,7 @@ use Rattle.grid_headline.specs.Served.{Run, NoneSweeps, report_of, sure_text, ac
 use Rattle.grid_headline.specs.Stops.{OneImage}
 use Rattle.grid_headline.specs.Files.{IsKnown, IsOfUnknown, DisksAreSettled, AreSettled, WereWhole, AllStayWhole, ReplicasStayNamed}
 use Rattle.grid_headline.specs.Silence.{NoneIsSilent}
+use Rattle.grid_headline.specs.Moments.{TakesFew}
 use Rattle.grid_headline.specs.Causes.{AreCaused, NoneFailed, AllTell}
 use Rattle.grid_headline.specs.Draws.{DrawsMarks, shown_marks}
 use Rattle.grid_headline.specs.Ends.{RunEnd, read_all, no_memory, worn, HasRecovery, SaysOfEnd, HadNumbers, LeavesFewOrphans}
@@ -64,6 +65,8 @@ pub record Serves {B : Type 0} (old new : World B) (found : Cat) (end : RunEnd) 
   -- no row is committed in silence, and no number is given past the last one
   pub silent : IsTrue old.sink.tells → AreSettled old → NoneIsSilent run old new
   pub numbers : IsTrue old.sink.tells → AreSettled old → HadNumbers run old new
+  -- it takes few moments
+  pub takes_few : TakesFew run old new
   -- few files without a replica are left
   pub orphans : end ≡ read_all → LeavesFewOrphans run old new
   -- no mark tells that a known file is not what is recorded

@@ -36,6 +36,7 @@ use Rattle.grid_server.specs.Wearing.{HasWorn}
 use Rattle.grid_server.specs.declared.status.Status.{Status}
 use Rattle.grid_server.specs.declared.status.Status.TheVariants as status
 use Rattle.grid_server.proofs.RestLemmas.{rests_where}
+use Rattle.run_laws.specs.Moments.{OpensInFew}
 
 -- ---- the rules
 
@@ -171,9 +172,9 @@ open_out found main_old main_new spare error.Memory what place is told stops = a
 
 -- ---- how a run ends that was not opened
 
-module _ {B : Type 0} (old now : World B) (found : Cat) (begin : BeginsOn old found) (opens : Opens old now found) where
+module _ {B : Type 0} (old now : World B) (found : Cat) (begin : BeginsOn old found) (opens : Opens old now found) (in_few : OpensInFew old now found) where
   ends_so : (x : RunEnd) → StopsSo old now found (begins opens.undone.opened.grid opens.undone.rules) [] x → IsGoodIfNoneFailed old now x → Serves old now found x
-  ends_so x stops good = ends_before begin opens stops good
+  ends_so x stops good = ends_before begin opens in_few stops good
 
   pub serves_unopened : (e : OpenError) (end : RunEnd) → run_end_of (unopened e) ≡ Some end → OpenStops found old.main now.main e
       → (e ≡ error.Disk → Rose old.main.faults now.main.faults) → (e ≡ error.Sink → Rose old.sink.faults now.sink.faults) → Serves old now found end
@@ -237,21 +238,23 @@ module _ {D S K A P : Type 0} (v : Views D S K A P) (start : Around D S K A P) w
 
     -- it was opened
     pub opens_now : (now : Around D S K A P) (begun : Cat) (rules : List Rule) → (o : Opened (world_of v start) (world_of v now) found begun)
-        → o.opens.undone.rules ≡ rules → WasOpened v (first main spare) now found begun rules
+        → OpensInFew (world_of v start) (world_of v now) found → o.opens.undone.rules ≡ rules → WasOpened v (first main spare) now found begun rules
     unfolding opened-before opens-before
-    opens_now now begun rules o rules_are = record {
+    opens_now now begun rules o in_few rules_are = record {
       begin = begin;
       opened = opened-before (world_of v start) (v.disk main) (v.disk spare) looked spare_looked begin.main_tells begin.spare_tells found (world_of v now) begun o;
+      few = in_few;
       rules_are = rules_are;
     }
 
     -- or not
-    pub serves_not : (now : Around D S K A P) (e : OpenError) (end : RunEnd) → Opens (world_of v start) (world_of v now) found → run_end_of (unopened e) ≡ Some end
+    pub serves_not : (now : Around D S K A P) (e : OpenError) (end : RunEnd) → Opens (world_of v start) (world_of v now) found → OpensInFew (world_of v start) (world_of v now) found
+        → run_end_of (unopened e) ≡ Some end
         → OpenStops found (v.disk start.outside.main) (v.disk now.outside.main) e → (e ≡ error.Disk → Rose (v.disk start.outside.main).faults (v.disk now.outside.main).faults)
         → (e ≡ error.Sink → Rose (v.sink start.sink).faults (v.sink now.sink).faults) → Serves (world_of v (first main spare)) (world_of v now) found end
-    serves_not now e end o its stops cause sink_cause =
+    serves_not now e end o in_few its stops cause sink_cause =
         serves_unopened (world_of v (first main spare)) (world_of v now) found begin
-        (opens-before (world_of v start) (v.disk main) (v.disk spare) looked spare_looked begin.main_tells begin.spare_tells found (world_of v now) o)
+        (opens-before (world_of v start) (v.disk main) (v.disk spare) looked spare_looked begin.main_tells begin.spare_tells found (world_of v now) o) in_few
         e end its (stops_first e stops) (λ d. (let rose = cause d in omega (arith, rose, looked.faults))) sink_cause
       where
         stops_first : (x : OpenError) → OpenStops found (v.disk start.outside.main) (v.disk now.outside.main) x → OpenStops found (v.disk main) (v.disk now.outside.main) x
@@ -266,7 +269,7 @@ module _ {D S K A P : Type 0} (v : Views D S K A P) (start : Around D S K A P) w
     pub serves_still : (end : RunEnd) → run_end_of status.Memory ≡ Some end → Serves (world_of v (first main spare)) (world_of v start) found end
     serves_still end its =
         let r = rules_found (world_of v start) found begin_now in
-        serves_not start error.Memory end (opens-still (world_of v start) found r.0 begin_now order_now r.1).0 its tt (λ e. cc e) (λ e. cc e)
+        serves_not start error.Memory end (opens-still (world_of v start) found r.0 begin_now order_now r.1).0 (λ within. omega arith) its tt (λ e. cc e) (λ e. cc e)
 
   -- the disks were only looked at
   module _ (found : Cat) (main spare : D) (begin : BeginsOn (world_of v start) found) (order : AreInOrder (world_of v start)) (looked : Rests (v.disk start.outside.main) (v.disk main)) (same : spare ≡ start.outside.spare) where
@@ -289,8 +292,8 @@ module _ {D S K A P : Type 0} (v : Views D S K A P) (start : Around D S K A P) w
         (opens-still (world_of v seen) found r.0 seen_begin seen_order r.1).0
 
     pub serves_looked_memory : (end : RunEnd) → run_end_of status.Memory ≡ Some end → Serves (world_of v start) (world_of v seen) found end
-    serves_looked_memory end its = serves_unopened (world_of v start) (world_of v seen) found begin opens_looked error.Memory end its tt (λ e. cc e) (λ e. cc e)
+    serves_looked_memory end its = serves_unopened (world_of v start) (world_of v seen) found begin opens_looked (λ within. omega arith) error.Memory end its tt (λ e. cc e) (λ e. cc e)
 
     pub serves_looked_fault : (end : RunEnd) → run_end_of status.DiskFault ≡ Some end → Rose (v.disk start.outside.main).faults (v.disk main).faults
         → Serves (world_of v start) (world_of v seen) found end
-    serves_looked_fault end its rose = serves_unopened (world_of v start) (world_of v seen) found begin opens_looked error.Disk end its tt (λ d. rose) (λ e. cc e)
+    serves_looked_fault end its rose = serves_unopened (world_of v start) (world_of v seen) found begin opens_looked (λ within. omega arith) error.Disk end its tt (λ d. rose) (λ e. cc e)

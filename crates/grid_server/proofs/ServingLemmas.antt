@@ -101,6 +101,7 @@ module _ {D S K A P : Type 0} (v : Views D S K A P) (from : Server) (start mid n
       goes_by = record {
         order = order_by;
         went = went_of v (result ≡ Some status.DiskFault) (result ≡ Some status.SinkFault) by new passes;
+        few = cmd.moments;
         whole = keeps_whole v by new (command_of was heard) r now.server main_told cmd hears.asked.line its_line;
         names = λ none main_tells settled t main d late left stands.
             let named = removes_nothing asks.means (none asked hears.asked (first_with asked told ans.heard heard.ends refl)) in

@@ -1,5 +1,5 @@
 -- The sweep behind the opening of a run, and how the run goes on from it.
-use Rattle.std.proofs.Common.{◌≡◌, ℕ, ◌+◌, ◌^◌, ◌<◌, List, [], ◌∷◌, suc, refl, sym, ap, ◌∙◌, subst, arith, IsTrue}
+use Rattle.std.proofs.Common.{◌≡◌, ℕ, ◌+◌, ◌^◌, ◌<◌, List, [], ◌∷◌, suc, refl, sym, ap, ◌∙◌, subst, arith, IsTrue, ◌≤◌}
 use Rattle.std.specs.Prelude.{Option, Some, None, Result, ⊤, vec_len, Err}
 use Rattle.grid_outside.specs.Disk.{DiskState}
 use Rattle.grid_outside.specs.Fault.{Rose}
@@ -41,6 +41,7 @@ use Rattle.grid_server.specs.Turning.{status_of}
 use Rattle.grid_server.specs.Views.{Views, PassesOn, world_of}
 use Rattle.grid_server.specs.Wearing.{HasWorn}
 use Rattle.grid_server.specs.declared.status.Status.TheVariants as status
+use Rattle.run_laws.specs.Moments.{SweepsInFew}
 
 -- nobody is logged in
 sessions_none : (names : ℕ → Text) (n : ℕ) (places : Places) → ((k : ℕ) → at places k ≡ None) → sessions_from names n places ≡ empty
@@ -132,10 +133,14 @@ module _ {D S K A P : Type 0} (v : Views D S K A P) (start : Around D S K A P) (
   module _ (whole : KeepWhole v.plugin start.outside.moments was.store.cat (v.disk start.outside.main) (v.disk swept.main) start.outside.stores.items swept.stores.items)
       (result : Result ⊤ Ending) (left : Cat)
       (leaves : SweepsMain was.store.cat start.outside.moments (v.disk start.outside.main) (v.disk swept.main) result left)
+      (in_few : swept.moments ≤ start.outside.moments + 2 ^ 33)
       (none : was.store.cat.pending ≡ None) where
     module _ (e : Around D S K A P) (found : Cat) (opened : WasOpened v (before v e start) start found was.store.cat (rules_of was.rules)) where
       abbrev old : Around D S K A P
       old = before v e start
+
+      swept_few : SweepsInFew (world_of v start) (world_of v behind)
+      swept_few = omega (arith, in_few)
 
       told : IsTrue (v.disk start.outside.main).tells
       told = subst IsTrue (sym opened.opened.opens.went.main.tells) opened.begin.main_tells
@@ -160,7 +165,7 @@ module _ {D S K A P : Type 0} (v : Views D S K A P) (start : Around D S K A P) (
           record {
             begin = opened.begin;
             so = subst (λ (s : State). Sofar (world_of v old) (world_of v behind) found now.store.cat s []) (sym state)
-                (none_yet opened.begin opened.opened (subst (Sweeps (world_of v start) (world_of v behind) was.store.cat) is_now sweeps_begun) done);
+                (none_yet opened.begin opened.opened opened.few (subst (Sweeps (world_of v start) (world_of v behind) was.store.cat) is_now sweeps_begun) swept_few done);
           }
 
       -- something ran out or failed in it
@@ -172,11 +177,11 @@ module _ {D S K A P : Type 0} (v : Views D S K A P) (start : Around D S K A P) (
       serves_swept ending.Memory end its disk sink wears vaults =
           let is : no_memory ≡ end = cc in
           let S : RunEnd → Type 0 = λ y. Serves (world_of v old) (world_of v behind) found y in
-          subst S is (ends_swept opened.begin opened.opened sweeps_begun tt (λ none fits. tt))
+          subst S is (ends_swept opened.begin opened.opened opened.few sweeps_begun swept_few tt (λ none fits. tt))
       serves_swept ending.Disk end its disk sink wears vaults =
           let is : disk_failed ≡ end = cc in
           let S : RunEnd → Type 0 = λ y. Serves (world_of v old) (world_of v behind) found y in
-          subst S is (ends_swept opened.begin opened.opened sweeps_begun tt
+          subst S is (ends_swept opened.begin opened.opened opened.few sweeps_begun swept_few tt
           (λ none fits. absurd (none.of_main (let rose = disk refl in omega (arith, rose, opened.opened.opens.went.main.faults)))))
       serves_swept ending.Sink end its disk sink wears vaults = absurd (sink refl)
       serves_swept (ending.Worn wear.Runs place) end its disk sink wears vaults = absurd (wears wear.Runs place refl told)
@@ -185,5 +190,5 @@ module _ {D S K A P : Type 0} (v : Views D S K A P) (start : Around D S K A P) (
           let is : worn wear.Log place ≡ end = cc in
           let S : RunEnd → Type 0 = λ y. Serves (world_of v old) (world_of v behind) found y in
           let w = wears wear.Log place refl told in
-          subst S is (ends_swept opened.begin opened.opened sweeps_begun
+          subst S is (ends_swept opened.begin opened.opened opened.few sweeps_begun swept_few
           ((w.0, record { records = w.1.records; log = w.1.log; place_is = w.1.place_is }), tt) (λ none fits. tt))

@@ -21,6 +21,7 @@ use Rattle.grid_server.specs.declared.status.Status.{Status}
 use Rattle.grid_server.specs.declared.status.Status.TheVariants as status
 use Rattle.grid_server.specs.Turning.{input_of}
 use Rattle.grid_server.specs.Views.{Views, WasRead, world_of, PassesOn}
+use Rattle.run_laws.specs.Moments.{OpensInFew}
 
 -- a status with which a run ends that was begun
 abbrev pub EndsBegun : Status → Type 0
@@ -55,6 +56,7 @@ module _ {D S K A P : Type 0} (v : Views D S K A P) where
   pub record WasOpened (old now : Around D S K A P) (found begun : Cat) (rules : List Rule) : Type 0 where
     pub begin : BeginsOn (world_of v old) found
     pub opened : Opened (world_of v old) (world_of v now) found begun
+    pub few : OpensInFew (world_of v old) (world_of v now) found
     pub rules_are : opened.opens.undone.rules ≡ rules
 
   -- it was begun in between, over this catalogue: this is the server, and nothing was asked of it yet

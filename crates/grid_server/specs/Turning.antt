@@ -6,6 +6,7 @@ use Rattle.grid_model.specs.Names.{Text}
 use Rattle.grid_model.specs.Runs as runs
 use Rattle.grid_deed.specs.Safe.{KeepWhole}
 use Rattle.grid_headline.specs.Worlds.{World}
+use Rattle.run_laws.specs.Moments.{GoesOnInFew}
 use Rattle.run_laws.specs.Steps.{RemovesNoFile, RequestStep}
 use Rattle.run_laws.specs.declared.around.Around.{Around}
 use Rattle.req_lines.specs.Reading.{Input, input}
@@ -58,6 +59,7 @@ pub record Commanded {B : Type 0} (old new : World B) (c : Command) (result : Re
   pub call : (line : Text) → IsLineOf c.heard.asked c.heard.line line → NamesItsCall line old.moments old.main new.main
   pub remembers : (request : runs.Request) → AsksForRequest (state_of c.before) c.heard.asked c.heard.body request → RemovesNoFile request
       → RemembersDeed c.heard.line c.before.store.cat old.moments old.main new.main
+  pub moments : GoesOnInFew old new c.before.store.cat
   pub few : (request : runs.Request) → AsksForRequest (state_of c.before) c.heard.asked c.heard.body request
       → SweepLeavesFew old new c.before request result after
 

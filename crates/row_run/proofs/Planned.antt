@@ -1,7 +1,6 @@
 -- What a plan of a verb's operation does as a call of a command.
-use Rattle.std.proofs.Common.{◌≡◌, ℕ, List, [], Option, Result, Ok, Err, refl, sym, ap, ◌∙◌, subst, arith, eqb-true, false, ◌++◌, inl, inr}
+use Rattle.std.proofs.Common.{◌≡◌, ℕ, List, [], Option, Result, Ok, Err, refl, sym, ap, ◌∙◌, subst, arith, eqb-true, inl, inr}
 use Rattle.std.specs.Prelude.{⊤, IfOk, true, ◌==◌, length, ◌∷◌}
-use Rattle.grid_outside.specs.Source.{SourceState}
 use Rattle.grid_outside.specs.Disk.{DiskState}
 use Rattle.grid_model.specs.Names.{Text}
 use Rattle.grid_model.specs.Grid.{Grid}
@@ -10,8 +9,8 @@ use Rattle.grid_model.specs.RowGrids.{grid_of, user_name}
 use Rattle.grid_model.specs.Refusing.{Or}
 use Rattle.grid_model.specs.Deeds.{Act}
 use Rattle.grid_model.specs.Operations.Table.{Operation, row}
-use Rattle.grid_model.specs.Meanings.{Meaning, gives, waits, unfit}
-use Rattle.grid_model.specs.Doing.{Course, Did, did_fail, do_act, do_operation}
+use Rattle.grid_model.specs.Meanings.{gives}
+use Rattle.grid_model.specs.Doing.{Course, did_fail, do_act, do_operation}
 use Rattle.grid_model.specs.declared.calls.Call.{Call}
 use Rattle.grid_model.specs.declared.deltas.Delta.{Delta}
 use Rattle.grid_model.specs.declared.deltas.Numbers.{Numbers}
@@ -23,14 +22,9 @@ use Rattle.grid_model.specs.declared.requests.Verb.{Verb}
 use Rattle.grid_model.specs.declared.requests.Verb.TheVariants as verb
 use Rattle.grid_journal.specs.Journal.{Journal}
 use Rattle.grid_deed.specs.Held.{IsHeld, IsStaged}
-use Rattle.grid_headline.specs.Worlds.{World}
 use Rattle.plan_base.specs.Plans.{Changes, PlansChange}
-use Rattle.chain_run.specs.Places.{course_at}
-use Rattle.service_run.specs.declared.command.Command.{Command}
 use Rattle.service_run.specs.declared.ending.Ending.{Ending}
 use Rattle.service_run.specs.Changes.{LeadOn, MakesGridOf}
-use Rattle.service_run.specs.Commands.{place_by}
-use Rattle.service_run.specs.Steps.{IsStep, IsStepDone}
 use Rattle.row_run.specs.Planned.{PlansBy, PlansVerb}
 use Rattle.row_run.specs.Verbs.{IsRowsVerb}
 
@@ -83,13 +77,6 @@ refused_makes_none c user op deltas r p is = let e = sym p.row_is ∙ is in cc
 
 -- ---- what is left
 
--- a call, and a source, of which nothing is known
-abbrev pub no_call : Call
-no_call = record { name = []; args = [] }
-
-abbrev pub no_source : SourceState
-no_source = record { faults = 0; tells = false; left = [] }
-
 -- a list without items
 pub empty_of : (deltas : List Delta) → (length deltas == 0) ≡ true → deltas ≡ []
 empty_of [] is = refl
@@ -98,21 +85,6 @@ empty_of (d ∷ ds) is = let none : length (d ∷ ds) ≡ 0 = eqb-true (length (
 -- no changes lead to the rows that were there
 pub none_staged : (kept after : Cat) (main : DiskState) (rows : Journal) → IsHeld kept main rows → LeadOn rows.cat [] after → IsStaged kept after main rows
 none_staged kept after main rows held led = record { held = held; cat = let e : Ok rows.cat ≡ Ok after = led.applied in cc }
-
--- the grid of what is given, or this one
-abbrev grid_in : Grid → Meaning Did → Grid
-grid_in g (gives d) = d.state.grid
-grid_in g (waits w) = g
-grid_in g unfit = g
-
-module _ {B : Type 0} (old new : World B) (kept : Cat) (rows : Journal) (x : Command) (call : Call) (undo : List Call) (y : Command) (after : Journal) (end : Cat) (does : Course → Meaning Did) (makes : MakesGridOf rows.cat end does) where
-  -- where it was done the rows have the grid that it makes
-  pub grid_left : (result : Result (Result ⊤ Failure) Ending) → IsStep old new kept rows x call undo y after does result → IfOk result (λ ran. grid_of after.cat ≡ grid_of end)
-  grid_left (Ok ran) step =
-      let d : IsStepDone old new kept rows x call undo y after does ran = step.ends in
-      let s = course_at (place_by rows.cat x) (d.did.marks ++ []) 0 false in
-      sym (ap (grid_in (grid_of end)) (sym (makes s refl) ∙ (d.did.did [] 0 false).1))
-  grid_left (Err e) step = tt
 
 -- Where the grid is as before nothing more is staged.
 pub quiet_changes : (old new : Journal) (user : Text) (op : Operation) (deltas : List Delta) (p : Changes old.cat user op deltas) (result : Result (Result ⊤ Failure) Ending) → (deltas ≡ [] → new ≡ old)

@@ -12,6 +12,7 @@ ghost use Rattle.grid_deed.specs.Held.{IsHeld};
 ghost use Rattle.row_run.specs.Verbs.{HasGoodWords, IsRowsVerb};
 ghost use Rattle.run_laws.specs.Around.{around};
 ghost use Rattle.run_laws.specs.Passes.{AreReady};
+ghost use Rattle.size_laws.specs.Within.{IsWithin};
 ghost use Rattle.service_run.specs.Changes.{LeadOn, MakesGridOf};
 ghost use Rattle.service_run.specs.Steps.{IsStep};
 ghost use Rattle.service_run.specs.declared.ending.Ending.{Ending};
@@ -71,6 +72,7 @@ fn change_if_any<D: Disk, K: Sink, A: Ambient, P: Plugin>(
     requires ready { AreReady D.disk P.plugin K.sink 0 (record { outside = outside.now; sink = sink.now }) }
     ensures step { (source : SourceState) (kept after : Cat) (call : CallOf) (undo : List CallOf) (does : Course → Meaning Did) →
         IsHeld kept (D.disk outside.now.main) store.old → LeadOn store.old.cat deltas after → MakesGridOf store.old.cat after does →
+        (IsWithin (grid_of store.old.cat) → IsWithin (grid_of after)) →
         IsStep (around D.disk A.ambient P.plugin outside.now (K.sink sink.now) source) (around D.disk A.ambient P.plugin outside.now (K.sink sink.now) source)
         kept store.old command.now call undo command.now store.new does result }
     ensures none { deltas ≡ [] → store.new ≡ store.old }

@@ -1,5 +1,5 @@
 -- Calls that were made one after another, by a chain of them.
-use Rattle.std.proofs.Common.{◌≡◌, ◌+◌, ◌*◌, ◌^◌, ◌≤◌, List, [], ◌∷◌, ◌++◌, Option, Some, None, IsErrOf, Err, length, sym, ap, ◌∙◌, subst}
+use Rattle.std.proofs.Common.{◌≡◌, ◌+◌, ◌*◌, ◌^◌, ◌≤◌, List, [], ◌∷◌, ◌++◌, Option, Some, None, IsErrOf, Err, length, sym, ap, ◌∙◌, subst, ℕ}
 use Rattle.std.proofs.Common.{append_assoc, length-append, arith}
 use Rattle.std.specs.Prelude.{All}
 use Rattle.std.proofs.lemmas.List.{append-nil, same_from_push}
@@ -20,6 +20,9 @@ use Rattle.call_laws.proofs.Joined.{passes_then}
 use Rattle.rule_run.specs.Calls.{Called, Chain, Spot, more, none}
 use Rattle.rule_run.proofs.OneCall.{AmidAt, does_there, one_cut, one_done, passes_on}
 use Rattle.rule_run.proofs.Passing.{passes_none, passes_stopped}
+use Rattle.size_laws.specs.Within.{IsWithin, TakesAtMost}
+use Rattle.size_laws.proofs.Moments.{takes_where}
+use Rattle.grid_model.specs.RowGrids.{grid_of}
 
 -- none but the last one was stopped
 abbrev pub FrontGoesOn : List (Made Ending) → Type 0
@@ -62,12 +65,40 @@ module _ {D A P K : Type 0} (disk : D → DiskState) (ambient : A → AmbientSta
       passes_then disk plugin sink _ _ start.seen mid.seen b.seen (passes_all before mid chain (front_goes_on (Some e) calls stops before x is))
       (passes_stopped disk plugin sink {T = T} x.stop e mid.seen b.seen (last_stops e calls stops before x is) called.passes)
 
-  pub drawn_all : (calls : List (Made Ending)) (b : Spot D A P K) → Chain disk ambient plugin sink start calls b
-      → b.seen.outside.moments + b.left * 2 ^ 65 ≤ start.seen.outside.moments + start.left * 2 ^ 65
-  drawn_all calls b (none is same) =
-      let S : Spot D A P K → Type 0 = λ at. at.seen.outside.moments + at.left * 2 ^ 65 ≤ start.seen.outside.moments + start.left * 2 ^ 65 in
-      subst S (sym same) (omega arith)
-  drawn_all calls b (more before mid x is chain called) = omega (arith, drawn_all before mid chain, called.drawn)
+  -- the grid is within the limits where it was so before
+  pub within_all : (calls : List (Made Ending)) (b : Spot D A P K) → Chain disk ambient plugin sink start calls b → All IsUnstopped calls
+      → IsWithin (grid_of start.rows.cat) → IsWithin (grid_of b.rows.cat)
+  within_all calls b (none is same) all within = let S : Spot D A P K → Type 0 = λ at. IsWithin (grid_of at.rows.cat) in subst S (sym same) within
+  within_all calls b (more before mid x is chain called) all within =
+      let parts = All-pop IsUnstopped calls before (Some x) is all in
+      called.within parts.1 (within_all before mid chain parts.0 within)
+
+  module _ (each : ℕ) (most : TakesAtMost (grid_of start.rows.cat) each) where
+    draws_one : (before : List (Made Ending)) (mid b : Spot D A P K) (x : Made Ending) → Chain disk ambient plugin sink start before mid
+        → All IsUnstopped before → Called disk ambient plugin sink mid x b
+        → mid.seen.outside.moments + mid.left * each ≤ start.seen.outside.moments + start.left * each
+        → b.seen.outside.moments + b.left * each ≤ start.seen.outside.moments + start.left * each
+    draws_one before mid b x chain all called so_far =
+        let there = called.drawn each (takes_where (grid_of start.rows.cat) (grid_of mid.rows.cat) each (within_all before mid chain all) most) in
+        omega (arith, so_far, there)
+
+    -- each call took at most as many moments
+    drawn_on : (calls : List (Made Ending)) (b : Spot D A P K) → Chain disk ambient plugin sink start calls b → All IsUnstopped calls
+        → b.seen.outside.moments + b.left * each ≤ start.seen.outside.moments + start.left * each
+    drawn_on calls b (none is same) all =
+        let S : Spot D A P K → Type 0 = λ at. at.seen.outside.moments + at.left * each ≤ start.seen.outside.moments + start.left * each in
+        subst S (sym same) (omega arith)
+    drawn_on calls b (more before mid x is chain called) all =
+        let parts = All-pop IsUnstopped calls before (Some x) is all in
+        draws_one before mid b x chain parts.0 called (drawn_on before mid chain parts.0)
+
+    pub drawn_all : (stop : Option Ending) (calls : List (Made Ending)) (b : Spot D A P K) → Chain disk ambient plugin sink start calls b
+        → OnlyLastStops stop calls → b.seen.outside.moments + b.left * each ≤ start.seen.outside.moments + start.left * each
+    drawn_all None calls b chain stops = drawn_on calls b chain stops
+    drawn_all (Some e) calls b (none is same) stops = absurd (some_stopped e calls stops is)
+    drawn_all (Some e) calls b (more before mid x is chain called) stops =
+        let front = front_goes_on (Some e) calls stops before x is in
+        draws_one before mid b x chain front called (drawn_on before mid chain front)
 
   -- ---- how far the command has come
 

@@ -1,5 +1,5 @@
 -- What the calls of a run of rules show, from where they began to where they came.
-use Rattle.std.proofs.Common.{◌≡◌, false, inl, inr, refl, sym, subst, ◌∙◌, ◌+◌, ◌*◌, ◌^◌, ◌≤◌, List, [], ◌++◌, Option, Some, None, Result, Ok, Err}
+use Rattle.std.proofs.Common.{◌≡◌, false, inl, inr, refl, sym, subst, ◌∙◌, ◌+◌, ◌*◌, ◌^◌, ◌≤◌, List, [], ◌++◌, Option, Some, None, Result, Ok, Err, ℕ}
 use Rattle.std.proofs.Common.{IsErrOf, IsTrue, length}
 use Rattle.std.specs.Prelude.{All, IfOk, ◌⊎◌}
 use Rattle.std.proofs.lemmas.List.Elements.{All-weaker}
@@ -11,7 +11,7 @@ use Rattle.grid_outside.specs.Source.{SourceState}
 use Rattle.grid_model.specs.Applying.{is_user}
 use Rattle.grid_model.specs.Names.{Text}
 use Rattle.grid_model.specs.Rows.{Cat}
-use Rattle.grid_model.specs.RowGrids.{user_name}
+use Rattle.grid_model.specs.RowGrids.{user_name, grid_of}
 use Rattle.grid_model.specs.RuleText.{Rule}
 use Rattle.grid_model.specs.Values.{Env, Value}
 use Rattle.grid_model.specs.Meanings.{Meaning}
@@ -41,10 +41,11 @@ use Rattle.rule_run.specs.declared.calling.Calling.{Calling}
 use Rattle.rule_run.specs.Asked.{IsAsked, asked_setting}
 use Rattle.rule_run.specs.Calls.{Chain, MayGoOn, Spot}
 use Rattle.rule_run.specs.Running.{RunEnds, WaitsWith, alone_from, ended_by}
-use Rattle.rule_run.proofs.Chains.{drawn_all, passes_all, passes_to_stop}
+use Rattle.rule_run.proofs.Chains.{drawn_all, passes_all, passes_to_stop, within_all}
 use Rattle.rule_run.proofs.Passing.{same_Err}
 use Rattle.rule_run.proofs.Spots.{LentAlike, place_at, spot_of}
 use Rattle.rule_run.proofs.RunEnds.{ends_stopped, ends_well, ends_without_memory}
+use Rattle.size_laws.specs.Within.{TakesAtMost, IsWithin}
 
 no_disk : (e : Ending) → e ≡ ending.Memory → IsErrOf {T = told.Outcome} (Err e) ending.Disk → ⊥
 no_disk e is failed = let same : e ≡ ending.Disk = same_Err e ending.Disk failed in cc
@@ -181,15 +182,22 @@ module _ {D A P K : Type 0} (disk : D → DiskState) (ambient : A → AmbientSta
       passes (Err e) m it = short_passes e it
 
       abbrev IsDrawn : Type 0
-      IsDrawn = end.seen.outside.moments + end.left * 2 ^ 65 ≤ start.seen.outside.moments + start.left * 2 ^ 65
+      IsDrawn = (each : ℕ) → TakesAtMost (grid_of start.rows.cat) each
+          → end.seen.outside.moments + end.left * each ≤ start.seen.outside.moments + start.left * each
 
       made_draws : (stop : Option Ending) → MadeSo stop start end → IsDrawn
-      made_draws stop made = drawn_all disk ambient plugin sink start made.calls end made.chain
+      made_draws stop made each most = drawn_all disk ambient plugin sink start each most stop made.calls end made.chain made.stops
 
       pub draws : (result : Result told.Outcome Ending) (m : Frames) → Ran result m start end → IsDrawn
       draws (Ok outcome) m it = made_draws None it.made
       draws (Err e) m (inl made) = made_draws (Some e) made
       draws (Err e) m (inr made) = made_draws None made.0
+
+      -- of what its grid is within
+      pub stays : (result : Result told.Outcome Ending) (m : Frames) → Ran result m start end
+          → IfOk result (λ outcome. IsWithin (grid_of start.rows.cat) → IsWithin (grid_of end.rows.cat))
+      stays (Ok outcome) m it = within_all disk ambient plugin sink start it.made.calls end it.made.chain it.made.stops
+      stays (Err e) m it = tt
 
       -- of what the command needs for its next call
       pub holds : (result : Result told.Outcome Ending) (m : Frames) → Ran result m start end

@@ -1,5 +1,5 @@
 -- The calls that were made for a command, one after another, and what they left.
-use Rattle.std.specs.Prelude.{◌≡◌, ℕ, ◌+◌, ◌*◌, ◌^◌, ◌≤◌, List, [], ◌∷◌, ◌++◌, Option, Some, Result, IsTrue, ⊤, length}
+use Rattle.std.specs.Prelude.{◌≡◌, ℕ, ◌+◌, ◌*◌, ◌^◌, ◌≤◌, List, [], ◌∷◌, ◌++◌, Option, Some, None, Result, IsTrue, ⊤, length}
 use Rattle.grid_outside.specs.Ambient.{AmbientState}
 use Rattle.grid_outside.specs.Disk.{DiskState}
 use Rattle.grid_outside.specs.Files.{StoreState}
@@ -7,11 +7,12 @@ use Rattle.grid_outside.specs.Sink.{SinkState}
 use Rattle.grid_outside.specs.Source.{SourceState}
 use Rattle.grid_model.specs.Applying.{is_user}
 use Rattle.grid_model.specs.Rows.{Cat}
-use Rattle.grid_model.specs.RowGrids.{user_name}
+use Rattle.grid_model.specs.RowGrids.{grid_of, user_name}
 use Rattle.grid_model.specs.Doing.{do_call}
 use Rattle.grid_model.specs.declared.refusal.Failure.{Failure}
 use Rattle.grid_journal.specs.Journal.{Journal}
 use Rattle.grid_deed.specs.Held.{IsHeld}
+use Rattle.size_laws.specs.Within.{IsWithin, TakesAtMost}
 use Rattle.grid_headline.specs.Worlds.{World}
 use Rattle.chain_run.specs.Calls.{Made, stop_of}
 use Rattle.run_laws.specs.Around.{around}
@@ -66,7 +67,10 @@ module _ {D A P K : Type 0} (disk : D → DiskState) (ambient : A → AmbientSta
     pub place : x.place ≡ place_by from.rows.cat from.command
     pub did : Did from x to
     pub passes : CallsPass disk plugin sink (x.stop ≡ Some ending.Disk) (x.stop ≡ Some ending.Sink) from.seen to.seen
-    pub drawn : to.seen.outside.moments + to.left * 2 ^ 65 ≤ from.seen.outside.moments + from.left * 2 ^ 65
+    pub drawn : (each : ℕ) → TakesAtMost (grid_of from.rows.cat) each
+        → to.seen.outside.moments + to.left * each ≤ from.seen.outside.moments + from.left * each
+    -- where it was not stopped a grid within the limits is still so
+    pub within : x.stop ≡ None → IsWithin (grid_of from.rows.cat) → IsWithin (grid_of to.rows.cat)
 
   -- These calls were made one after another.
   pub data Chain (from : Spot D A P K) : List (Made Ending) → Spot D A P K → Type 0 where

@@ -5,7 +5,7 @@ ghost use Rattle.grid_model.specs.Applying.{is_user};
 ghost use Rattle.grid_model.specs.Checks.{first_fault, rules_faults};
 ghost use Rattle.grid_model.specs.Deltas.{text as text_part, u32, u64};
 ghost use Rattle.grid_model.specs.Parsed.{rule_of};
-ghost use Rattle.grid_model.specs.RowGrids.{user_name};
+ghost use Rattle.grid_model.specs.RowGrids.{grid_of, user_name};
 ghost use Rattle.grid_model.specs.Runs.{Request};
 ghost use Rattle.grid_model.specs.Sessions.{State};
 ghost use Rattle.grid_model.specs.Values.{Value};
@@ -14,6 +14,7 @@ ghost use Rattle.grid_deed.specs.Held.{IsHeld};
 ghost use Rattle.chain_core.specs.Running.{HasValues};
 ghost use Rattle.chain_core.specs.Seen.{rules_of};
 ghost use Rattle.rule_cond.specs.Scopes.{env_of};
+ghost use Rattle.size_laws.specs.Within.{IsWithin};
 ghost use Rattle.run_laws.specs.Passes.{AreReady, CallsPass};
 ghost use Rattle.run_laws.specs.Steps.{CallsNoRules};
 ghost use Rattle.service_run.specs.declared.ending.Ending.{Ending};
@@ -36,7 +37,8 @@ use std::alloc::Global;
 /// with no path, and the rules are checked ones.
 ///
 /// An error ends the command: `Memory` may come at any time, `Disk` and `Sink` where one of them failed, and `Worn` where the numbers of
-/// vault files or the room behind the log have run out. Draws at most 2^78 + 2^10 moments.
+/// vault files or the room behind the log have run out. Draws at most 2^78 + 2^10 moments, and at most 2^34 where the grid is within
+/// its limits.
 pub fn execute<D: Disk, K: Sink, A: Ambient, P: Plugin>(
     alloc: Global,
     store: &mut Store,
@@ -63,6 +65,7 @@ pub fn execute<D: Disk, K: Sink, A: Ambient, P: Plugin>(
     ensures passes { CallsPass D.disk P.plugin K.sink (IsErrOf result Ending.Disk) (IsErrOf result Ending.Sink)
         (record { outside = outside.old; sink = sink.old }) (record { outside = outside.new; sink = sink.new }) }
     ensures drawn { outside.new.moments ≤ outside.old.moments + (2 ^ 78 + 2 ^ 10) }
+    ensures few { IsWithin (grid_of store.old.cat) → outside.new.moments ≤ outside.old.moments + 2 ^ 34 }
 {
     stops_halt();
     takes_in_order();

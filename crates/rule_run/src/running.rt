@@ -1,11 +1,11 @@
 //! Rules run for a request to their end, or as far as they come.
-ghost use Rattle.std.specs.Prelude.{◌≡◌, ◌+◌, ◌*◌, ◌^◌, ◌≤◌, [], List, None, IfOk, IsErrOf, IsTrue, map, vec_len};
+ghost use Rattle.std.specs.Prelude.{◌≡◌, ℕ, ◌+◌, ◌*◌, ◌^◌, ◌≤◌, [], List, None, IfOk, IsErrOf, IsTrue, map, vec_len};
 ghost use Rattle.grid_outside.specs.Source.{SourceState};
 ghost use Rattle.grid_model.specs.Applying.{is_user};
 ghost use Rattle.grid_model.specs.Checks.{first_fault, rules_faults};
 ghost use Rattle.grid_model.specs.Names.{Text as TextOf};
 ghost use Rattle.grid_model.specs.Parsed.{rule_of};
-ghost use Rattle.grid_model.specs.RowGrids.{user_name};
+ghost use Rattle.grid_model.specs.RowGrids.{grid_of, user_name};
 ghost use Rattle.grid_model.specs.Rows.{Cat};
 ghost use Rattle.grid_model.specs.Runs.{Request};
 ghost use Rattle.grid_model.specs.Sessions.{State};
@@ -15,6 +15,7 @@ ghost use Rattle.grid_deed.specs.Held.{IsHeld};
 ghost use Rattle.chain_core.specs.Running.{HasValues};
 ghost use Rattle.chain_core.specs.Seen.{rules_of};
 ghost use Rattle.rule_cond.specs.Scopes.{env_of};
+ghost use Rattle.size_laws.specs.Within.{IsWithin, TakesAtMost};
 ghost use Rattle.run_laws.specs.Passes.{AreReady, CallsPass, Seen};
 ghost use Rattle.service_run.specs.Commands.{place_by};
 ghost use Rattle.service_run.specs.declared.command.Command.{Command};
@@ -37,7 +38,7 @@ use service_run::{Command, Ending};
 use std::alloc::Global;
 
 /// Runs the rules of a point for a command, by their name, from where the machine is, which has the steps of its other point. At most as
-/// many calls more are made as are left. All that is said of [`run_alone`] is so of it, but that it draws at most 2^65 moments a call.
+/// many calls more are made as are left. All that is said of [`run_alone`] is so of it, but that it draws moments by the calls that it makes.
 pub fn run_point<D: Disk, K: Sink, A: Ambient, P: Plugin>(
     alloc: Global,
     store: &mut Store,
@@ -70,9 +71,11 @@ pub fn run_point<D: Disk, K: Sink, A: Ambient, P: Plugin>(
     ensures held { IfOk result (λ outcome. (kept : Cat) × IsHeld kept (D.disk outside.new.main) store.new) }
     ensures kept { IfOk result (λ outcome. IsTrue (is_user store.new.cat command.new.user) × IsKeepable command.new × AreKeepable command.new []
         × (user_name store.new.cat command.new.user ≡ env.now.user) × (store.new.cat.stores ≡ store.old.cat.stores)) }
+    ensures within { IfOk result (λ outcome. IsWithin (grid_of store.old.cat) → IsWithin (grid_of store.new.cat)) }
     ensures passes { CallsPass D.disk P.plugin K.sink (IsErrOf result Ending.Disk) (IsErrOf result Ending.Sink)
         (record { outside = outside.old; sink = sink.old }) (record { outside = outside.new; sink = sink.new }) }
-    ensures drawn { outside.new.moments + left.new * 2 ^ 65 ≤ outside.old.moments + left.old * 2 ^ 65 }
+    ensures drawn { (each : ℕ) → TakesAtMost (grid_of store.old.cat) each →
+        outside.new.moments + left.new * each ≤ outside.old.moments + left.old * each }
 {
     machines_complete();
     names_complete();
@@ -87,8 +90,9 @@ pub fn run_point<D: Disk, K: Sink, A: Ambient, P: Plugin>(
 /// the command, with no path, and the rules are checked ones.
 ///
 /// An error ends the command: `Memory` may come at any time, `Disk` and `Sink` where one of them failed, and `Worn` where the numbers of
-/// vault files or the room behind the log have run out. Draws at most 2^78 moments. A command begins 4,096 steps at most, and each has one
-/// recovery at most, so twice as many calls are never all made.
+/// vault files or the room behind the log have run out. A command begins 4,096 steps at most, and each has one recovery at most, so twice as
+/// many calls are never all made. Draws at most 2^78 moments, and at most 2^33 where the grid is
+/// within its limits.
 pub(crate) fn run_alone<D: Disk, K: Sink, A: Ambient, P: Plugin>(
     alloc: Global,
     store: &mut Store,
@@ -121,7 +125,7 @@ pub(crate) fn run_alone<D: Disk, K: Sink, A: Ambient, P: Plugin>(
     ensures held { IfOk result (λ outcome. (kept : Cat) × IsHeld kept (D.disk outside.new.main) store.new) }
     ensures passes { CallsPass D.disk P.plugin K.sink (IsErrOf result Ending.Disk) (IsErrOf result Ending.Sink)
         (record { outside = outside.old; sink = sink.old }) (record { outside = outside.new; sink = sink.new }) }
-    ensures drawn { outside.new.moments ≤ outside.old.moments + 2 ^ 78 }
+    ensures drawn { (each : ℕ) → TakesAtMost (grid_of store.old.cat) each → outside.new.moments ≤ outside.old.moments + 2 ^ 13 * each }
 {
     machines_complete();
     calls_complete();

@@ -1,5 +1,5 @@
 -- The catalogue with which a run is begun: it has the rows that there were, no command has changed anything, and none is pending.
-use Rattle.std.proofs.Common.{◌≡◌, ℕ, ◌+◌, [], None, length, IsTrue, refl, ◌∙◌, arith}
+use Rattle.std.proofs.Common.{◌≡◌, ℕ, ◌+◌, None, length, IsTrue, refl, ◌∙◌, arith}
 use Rattle.grid_outside.specs.Files.{Files}
 use Rattle.grid_model.specs.Rows.{Cat}
 use Rattle.grid_model.specs.RowGrids.{grid_of}

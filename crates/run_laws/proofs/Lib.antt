@@ -10,6 +10,7 @@ pub mod Images
 pub mod Sureness
 pub mod Beginning
 pub mod Orphans
+pub mod Moments
 pub mod More
 pub mod Opening
 pub mod Silent

@@ -1,5 +1,5 @@
 -- One more request, behind those that were handled.
-use Rattle.std.proofs.Common.{◌≡◌, ◌⊎◌, inl, inr, ℕ, ◌+◌, ◌<◌, ◌≤◌, List, [], ◌∷◌, ◌++◌, None, Some, suc, length, slice_get, IsTrue, refl, sym, ap, ◌∙◌, subst, append_assoc, length-append, arith}
+use Rattle.std.proofs.Common.{◌≡◌, ◌⊎◌, inl, inr, ℕ, ◌+◌, ◌<◌, ◌≤◌, List, [], ◌∷◌, ◌++◌, None, Some, suc, length, slice_get, IsTrue, refl, sym, ap, ◌∙◌, subst, append_assoc, length-append, arith, ◌*◌}
 use Rattle.std.specs.List.{AllByRecursion}
 use Rattle.std.proofs.lemmas.Bool.{cases_lt}
 use Rattle.std.proofs.lemmas.Option.{slice_get_within}
@@ -42,7 +42,12 @@ use Rattle.run_laws.proofs.BuiltOrders.{is_no_call, removes_nothing}
 use Rattle.run_laws.proofs.Recoveries.{told-behind}
 use Rattle.run_laws.proofs.Images.{IsOneMore, behind-of, had-now, like-of, image-more, image-one, shows-one, shown-taken, reply_has}
 use Rattle.run_laws.proofs.Sureness.{sure-front, sure-have, sure-less, sure-many, sure-pieces, sure-whole}
-use Rattle.run_laws.proofs.Orphans.{LastOne, swept_last, quit_last, few-before, few-behind, few-swept, last-one, quit-leaves}
+use Rattle.run_laws.proofs.Orphans.{LastOne, swept_last, quit_last, few-before, few-swept, last-one, quit-leaves, few-behind}
+use Rattle.grid_headline.specs.Moments.{IsWithinLimits, most_moments}
+use Rattle.size_laws.specs.Within.{IsWithin}
+use Rattle.grid_model.specs.Grid.{Grid}
+use Rattle.run_laws.proofs.Moments.{after-within, undone-within}
+use Rattle.run_laws.specs.Moments.{GoesOnInFew}
 
 -- ---- what was handled so far
 
@@ -96,11 +101,16 @@ module _ {B : Type 0} (old mid : World B) (found c : Cat) (at : State) (asked : 
         by (inl later) = λ slot name row names is. stay none mid_tells (so.main_settled settled) t main d later left stands slot name (now slot name row names is)
         by (inr early) = so.ran.named none free settled t main d late (then.main.earlier t main early left) stands
 
+module _ {B : Type 0} (old mid : World B) (found c : Cat) (at : State) (asked : List Asked) (so : Sofar old mid found c at asked) where
+  -- the state is within the limits
+  pub within-so : IsWithin (grid_of found) → IsWithin at.grid
+  within-so within = after-within so.ran.after (undone-within found so.ran.undone within)
+
 -- ---- one more
 
 module _ {B : Type 0} (old mid new : World B) (found c : Cat) (at : State) (asked : List Asked) (begin : BeginsOn old found) (order : AreInOrder mid)
     (so : Sofar old mid found c at asked) (then : Went mid new)
-    (stay : KeepsWhole mid new c) (names : NoneSweeps old.source.left → KeepsNames mid new c) (a : Asked) (noted : NotesLine a.line mid new)
+    (in_few : GoesOnInFew mid new c) (stay : KeepsWhole mid new c) (names : NoneSweeps old.source.left → KeepsNames mid new c) (a : Asked) (noted : NotesLine a.line mid new)
     (request : Request) (means : MeansRequest at a request) (step : RequestStep mid new at c (length asked + 1) request) where
   abbrev h : Handled
   h = so.ran.handled
@@ -218,6 +228,13 @@ module _ {B : Type 0} (old mid new : World B) (found c : Cat) (at : State) (aske
   pub gave-few : GaveFew c m step.next
   gave-few = record { keeps = step.keeps; few = step.few }
 
+  -- few moments were taken for it
+  pub moments-more : IsWithinLimits found → new.moments ≤ old.moments + (length more.begun + 1) * most_moments
+  moments-more limits =
+      let W : Grid → Type 0 = λ g. IsWithin g in
+      let took = in_few (subst W (sym so.grid) (within-so old mid found c at asked so limits.grid)) in
+      omega (arith, so.moments limits, took, length-append h.begun (m ∷ []))
+
   -- it was begun, and maybe not handled whole
   abbrev pub ran-more : Ran old new found step.d.state (asked ++ a ∷ [])
   ran-more = record {
@@ -231,6 +248,7 @@ module _ {B : Type 0} (old mid new : World B) (found c : Cat) (at : State) (aske
     few_before = so.ran.few_before;
     all_few = few-push h.first c step.next h.begun h.behind m so.ran.all_few
         (ap (slice_get (cats_of h)) (begun-many old mid found at asked so.ran) ∙ so.is_last) gave-few;
+    moments = λ limits. omega (arith, moments-more limits);
     went = went-then old mid new so.ran.went then;
     shown = shown-part;
     caused = subst (AreCaused old new) (sym marks_more) (caused-then old mid new (u.report ++ marks_of h.begun) step.marks so.ran.went.count so.ran.caused step.caused);
@@ -348,6 +366,7 @@ module _ {B : Type 0} (old mid new : World B) (found c : Cat) (at : State) (aske
       ran = ran-more;
       none_end = all-append (λ (x : Asked). ¬ EndsInput x) asked (a ∷ []) so.none_end (goes_on, tt);
       all_drawn = ap (λ (d : List Mark). d ++ step.taken) so.all_drawn ∙ ap (λ (d : List Mark). (u.report ++ marks_of h.begun) ++ d) whole.all_taken ∙ sym marks_more;
+      moments = moments-more;
       pieces_are = pieces-more;
       all_sure = all-sure;
       text = text-more;

@@ -18,8 +18,9 @@ use Rattle.run_laws.specs.Opening.{OneOfOpening, not_begun, begun, Opens}
 use Rattle.run_laws.specs.Sofar.{Ran}
 use Rattle.run_laws.specs.Steps.{IsToldOf}
 use Rattle.run_laws.specs.Undone.{Undone, recoveries_told, whole_report}
+use Rattle.run_laws.specs.Moments.{OpensInFew}
 
-module _ {B : Type 0} (old now : World B) (found : Cat) (opens : Opens old now found) where
+module _ {B : Type 0} (old now : World B) (found : Cat) (opens : Opens old now found) (in_few : OpensInFew old now found) where
   abbrev u : Undone found
   u = opens.undone
 
@@ -83,6 +84,7 @@ module _ {B : Type 0} (old now : World B) (found : Cat) (opens : Opens old now f
     by_rows = tt;
     few_before = (opens.keeps, opens.few);
     all_few = tt;
+    moments = λ limits. omega (arith, in_few limits);
     went = opens.went;
     shown = shown-none;
     caused = subst (AreCaused old now) (sym (append-nil u.report)) opens.caused;

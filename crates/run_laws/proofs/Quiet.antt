@@ -1,5 +1,5 @@
 -- The requests that were handled, where nothing is seen of what came behind them, or the source alone was read.
-use Rattle.std.proofs.Common.{◌≡◌, ◌⊎◌, inl, inr, ℕ, ◌<◌, ◌≤◌, List, [], ◌++◌, ◌-◌, length, take, slice_get, Option, None, IsTrue, sym, ap, ◌∙◌, subst, append_assoc, length-append, arith}
+use Rattle.std.proofs.Common.{◌≡◌, ◌⊎◌, inl, inr, ℕ, ◌<◌, ◌≤◌, List, [], ◌++◌, ◌-◌, length, take, slice_get, Option, None, IsTrue, sym, ap, ◌∙◌, subst, append_assoc, length-append, arith, ◌+◌, ◌*◌}
 use Rattle.std.specs.Prelude.{max}
 use Rattle.std.proofs.lemmas.Bool.{cases_lt}
 use Rattle.std.proofs.lemmas.List.{append-nil}
@@ -29,11 +29,15 @@ use Rattle.run_laws.proofs.Causes.{caused-on}
 use Rattle.run_laws.proofs.Draws.{gave-then, shown-first}
 use Rattle.run_laws.proofs.Recoveries.{told-behind}
 use Rattle.run_laws.proofs.Images.{shows-all, shows-whole}
-use Rattle.run_laws.proofs.More.{begun-many, replies-many, state-now, whole-so, named-so}
+use Rattle.run_laws.proofs.More.{begun-many, replies-many, state-now, whole-so, named-so, within-so}
+use Rattle.grid_headline.specs.Moments.{IsWithinLimits, most_moments}
+use Rattle.size_laws.specs.Within.{IsWithin}
+use Rattle.grid_model.specs.Grid.{Grid}
+use Rattle.run_laws.specs.Moments.{GoesOnInFew}
 
 module _ {B : Type 0} (old mid new : World B) (found c : Cat) (at : State) (asked : List Asked) (begin : BeginsOn old found) (order : AreInOrder mid)
     (so : Sofar old mid found c at asked) (then : Went mid new)
-    (stay : KeepsWhole mid new c) (names : NoneSweeps old.source.left → KeepsNames mid new c) (quiet : IsQuiet mid new c) where
+    (in_few : GoesOnInFew mid new c) (stay : KeepsWhole mid new c) (names : NoneSweeps old.source.left → KeepsNames mid new c) (quiet : IsQuiet mid new c) where
   abbrev h : Handled
   h = so.ran.handled
 
@@ -96,6 +100,14 @@ module _ {B : Type 0} (old mid new : World B) (found c : Cat) (at : State) (aske
       (told-behind found u h (length part) (marks_of h.begun) (shows-whole report h old.sink.holds new.sink.holds (begun-many old mid found at asked so.ran ∙ sym (replies-many old mid found at asked so.ran))
       so.all_sure (quiet.sink (sink-mid tells) ∙ so.text tells)) (shown-first h (length part - length report)))
 
+  -- few moments were taken for it
+  pub moments-quiet : IsWithinLimits found → new.moments ≤ old.moments + (length h.begun + 2) * most_moments
+  moments-quiet limits =
+      let here = within-so old mid found c at asked so limits.grid in
+      let W : Grid → Type 0 = λ g. IsWithin g in
+      let took = in_few (subst W (sym so.grid) here) in
+      omega (arith, so.moments limits, took)
+
   -- nothing is seen of what came behind
   abbrev pub ran-quiet : Ran old new found at asked
   ran-quiet = record {
@@ -108,6 +120,7 @@ module _ {B : Type 0} (old mid new : World B) (found c : Cat) (at : State) (aske
     by_rows = so.ran.by_rows;
     few_before = so.ran.few_before;
     all_few = so.ran.all_few;
+    moments = moments-quiet;
     went = went-then old mid new so.ran.went then;
     shown = shown_all;
     caused = caused-on old mid new (u.report ++ marks_of h.begun) then so.ran.caused;
@@ -140,6 +153,7 @@ module _ {B : Type 0} (old now : World B) (source : SourceState) where
     by_rows = ran.by_rows;
     few_before = ran.few_before;
     all_few = ran.all_few;
+    moments = ran.moments;
     went = went_on ran.went;
     shown = ran.shown;
     caused = record { counted = ran.caused.counted; there = ran.caused.there };
@@ -159,6 +173,7 @@ module _ {B : Type 0} (old now : World B) (source : SourceState) where
     ran = ran-read found at asked so.ran;
     none_end = so.none_end;
     all_drawn = so.all_drawn;
+    moments = so.moments;
     pieces_are = so.pieces_are;
     all_sure = so.all_sure;
     text = so.text;

@@ -26,14 +26,15 @@ use Rattle.run_laws.proofs.Opening.{ran-none}
 use Rattle.run_laws.proofs.Quiet.{ran-quiet, sofar-read}
 use Rattle.run_laws.proofs.Runs.{needs_last, serves, serves_dry}
 use Rattle.run_laws.proofs.Silent.{ran-swept, sofar-swept}
+use Rattle.run_laws.specs.Moments.{OpensInFew, SweepsInFew}
 
 -- ---- how it goes on
 
 -- the run is begun, and has swept
 pub none_yet : {B : Type 0} {old mid now : World B} {found begun c : Cat} → BeginsOn old found → (opened : Opened old mid found begun)
-    → Sweeps mid now begun c → IsSwept mid now begun c → Sofar old now found c (begins opened.opens.undone.opened.grid opened.opens.undone.rules) []
-none_yet {old = old} {mid = mid} {now = now} {found = found} {begun = begun} {c = c} begin opened sweeps swept =
-    sofar-swept old mid now found begun c begin opened sweeps swept
+    → OpensInFew old mid found → Sweeps mid now begun c → SweepsInFew mid now → IsSwept mid now begun c → Sofar old now found c (begins opened.opens.undone.opened.grid opened.opens.undone.rules) []
+none_yet {old = old} {mid = mid} {now = now} {found = found} {begun = begun} {c = c} begin opened in_few sweeps swept_few swept =
+    sofar-swept old mid now found begun c begin opened in_few sweeps swept_few swept
 
 -- the source alone was read
 pub read_on : {B : Type 0} {old now : World B} {found c : Cat} {at : State} {asked : List Asked} (source : SourceState) → Sofar old now found c at asked
@@ -47,7 +48,7 @@ pub one_more : {B : Type 0} {old mid new : World B} {found c after : Cat} {at en
     → (step : RequestStep mid new at c (length asked + 1) request) → LeavesFew mid new request step.d after
     → IsHandledWhole mid new at c (length asked + 1) request step after end → Sofar old new found after end (asked ++ a ∷ [])
 one_more {old = old} {mid = mid} {new = new} {found = found} {c = c} {after = after} {at = at} {end = end} {asked = asked} {a = a} {request = request} begin so goes noted means more step few whole =
-    sofar-more old mid new found c at asked begin goes.order so goes.went goes.whole goes.names a noted request means step after end whole few more
+    sofar-more old mid new found c at asked begin goes.order so goes.went goes.few goes.whole goes.names a noted request means step after end whole few more
 
 -- ---- how it ends
 
@@ -65,15 +66,15 @@ end-behind (x ∷ y ∷ more) a none = (none.0, end-behind (y ∷ more) a none.1
 
 -- nothing was asked of it, and maybe not all was undone, or it is not begun
 pub ends_before : {B : Type 0} {old now : World B} {found : Cat} {end : RunEnd} → BeginsOn old found → (opens : Opens old now found)
-    → StopsSo old now found (begins opens.undone.opened.grid opens.undone.rules) [] end → IsGoodIfNoneFailed old now end → Serves old now found end
-ends_before {old = old} {now = now} {found = found} {end = end} begin opens stops good =
-    serves old now found (begins opens.undone.opened.grid opens.undone.rules) [] (ran-none old now found opens) (inl (old.source.left, none_taken)) tt begin.main_tells end (inr stops) good
+    → OpensInFew old now found → StopsSo old now found (begins opens.undone.opened.grid opens.undone.rules) [] end → IsGoodIfNoneFailed old now end → Serves old now found end
+ends_before {old = old} {now = now} {found = found} {end = end} begin opens in_few stops good =
+    serves old now found (begins opens.undone.opened.grid opens.undone.rules) [] (ran-none old now found opens in_few) (inl (old.source.left, none_taken)) tt begin.main_tells end (inr stops) good
 
 -- the run is begun, and maybe has not swept all
 pub ends_swept : {B : Type 0} {old mid now : World B} {found begun left : Cat} {end : RunEnd} → BeginsOn old found → (opened : Opened old mid found begun)
-    → Sweeps mid now begun left → StopsSo old now found (begins opened.opens.undone.opened.grid opened.opens.undone.rules) [] end → IsGoodIfNoneFailed old now end → Serves old now found end
-ends_swept {old = old} {mid = mid} {now = now} {found = found} {begun = begun} {left = left} {end = end} begin opened sweeps stops good =
-    serves old now found (begins opened.opens.undone.opened.grid opened.opens.undone.rules) [] (ran-swept old mid now found begun left begin opened sweeps)
+    → OpensInFew old mid found → Sweeps mid now begun left → SweepsInFew mid now → StopsSo old now found (begins opened.opens.undone.opened.grid opened.opens.undone.rules) [] end → IsGoodIfNoneFailed old now end → Serves old now found end
+ends_swept {old = old} {mid = mid} {now = now} {found = found} {begun = begun} {left = left} {end = end} begin opened in_few sweeps swept_few stops good =
+    serves old now found (begins opened.opens.undone.opened.grid opened.opens.undone.rules) [] (ran-swept old mid now found begun left begin opened in_few sweeps swept_few)
     (inl (old.source.left, none_taken)) tt begin.main_tells end (inr stops) good
 
 -- the input was read, and all is answered
@@ -108,7 +109,7 @@ pub ends_quiet : {B : Type 0} {old mid new : World B} {found c : Cat} {at : Stat
     → Sofar old mid found c at asked → CallsGoOn old.source.left mid new c → IsQuiet mid new c → BeginsWithRequests old.source.left asked → StopsSo old new found at asked end
     → IsGoodIfNoneFailed old new end → Serves old new found end
 ends_quiet {old = old} {mid = mid} {new = new} {found = found} {c = c} {at = at} {asked = asked} {end = end} begin so goes quiet first stops good =
-    serves old new found at asked (ran-quiet old mid new found c at asked begin goes.order so goes.went goes.whole goes.names quiet) first
+    serves old new found at asked (ran-quiet old mid new found c at asked begin goes.order so goes.went goes.few goes.whole goes.names quiet) first
     (end-last asked so.none_end) begin.main_tells end (inr stops) good
 
 module _ {B : Type 0} {old mid new : World B} {found c : Cat} {at : State} {asked : List Asked} {a : Asked} {request : Request}
@@ -121,7 +122,7 @@ module _ {B : Type 0} {old mid new : World B} {found c : Cat} {at : State} {aske
       → HasRunOut found new.main.holds new.spare.holds place wear.Vaults → IsGoodIfNoneFailed old new (worn wear.Vaults place)
       → Serves old new found (worn wear.Vaults place)
   ends_dry session order is makes place out good =
-      let ran = ran-more old mid new found c at asked begin goes.order so goes.went goes.whole goes.names a noted request means step in
+      let ran = ran-more old mid new found c at asked begin goes.order so goes.went goes.few goes.whole goes.names a noted request means step in
       let many = done-many old mid found at asked so.ran in
       let ds = so.ran.handled.done in
       let now : state_after (begins so.ran.undone.opened.grid so.ran.undone.rules) (ds ++ step.d ∷ []) (length asked) ≡ at =
@@ -142,7 +143,7 @@ module _ {B : Type 0} {old mid new : World B} {found c : Cat} {at : State} {aske
   pub ends_within : StopsSo old new found step.d.state (asked ++ a ∷ []) end → IsGoodIfNoneFailed old new end → Serves old new found end
   ends_within stops good =
       serves old new found step.d.state (asked ++ a ∷ [])
-      (ran-more old mid new found c at asked begin goes.order so goes.went goes.whole goes.names a noted request means step) first (end-behind asked a so.none_end) begin.main_tells end (inr stops) good
+      (ran-more old mid new found c at asked begin goes.order so goes.went goes.few goes.whole goes.names a noted request means step) first (end-behind asked a so.none_end) begin.main_tells end (inr stops) good
 
   -- the input ended with a request, which was handled whole
   pub ends_with : {after : Cat} {left : State} → LeavesFew mid new request step.d after → IsHandledWhole mid new at c (length asked + 1) request step after left
@@ -150,18 +151,18 @@ module _ {B : Type 0} {old mid new : World B} {found c : Cat} {at : State} {aske
       → IsGoodIfNoneFailed old new end → Serves old new found end
   ends_with {after = after} {left = left} few whole reads good =
       serves old new found step.d.state (asked ++ a ∷ [])
-      (ran-more old mid new found c at asked begin goes.order so goes.went goes.whole goes.names a noted request means step) first (end-behind asked a so.none_end) begin.main_tells end
+      (ran-more old mid new found c at asked begin goes.order so goes.went goes.few goes.whole goes.names a noted request means step) first (end-behind asked a so.none_end) begin.main_tells end
       (inl (
         record {
-          all = pieces-more old mid new found c at asked begin goes.order so goes.went goes.whole goes.names a noted request means step after left whole;
-          text = text-more old mid new found c at asked begin goes.order so goes.went goes.whole goes.names a noted request means step after left whole;
+          all = pieces-more old mid new found c at asked begin goes.order so goes.went goes.few goes.whole goes.names a noted request means step after left whole;
+          text = text-more old mid new found c at asked begin goes.order so goes.went goes.few goes.whole goes.names a noted request means step after left whole;
           cat = after;
-          stands = stands-more old mid new found c at asked begin goes.order so goes.went goes.whole goes.names a noted request means step after left whole;
-          of_run = of-run-more old mid new found c at asked begin goes.order so goes.went goes.whole goes.names a noted request means step after left whole;
+          stands = stands-more old mid new found c at asked begin goes.order so goes.went goes.few goes.whole goes.names a noted request means step after left whole;
+          of_run = of-run-more old mid new found c at asked begin goes.order so goes.went goes.few goes.whole goes.names a noted request means step after left whole;
           grid = whole.grid ∙ ap (λ (s : State). s.grid) (sym whole.state);
-          rules = rules-more old mid new found c at asked begin goes.order so goes.went goes.whole goes.names a noted request means step after left whole;
-          still = λ no_rules none clear all. (still-more old mid new found c at asked begin goes.order so goes.went goes.whole goes.names a noted request means step after left whole no_rules none clear all).0;
-          few = few-more old mid new found c at asked begin goes.order so goes.went goes.whole goes.names a noted request means step after left whole few;
+          rules = rules-more old mid new found c at asked begin goes.order so goes.went goes.few goes.whole goes.names a noted request means step after left whole;
+          still = λ no_rules none clear all. (still-more old mid new found c at asked begin goes.order so goes.went goes.few goes.whole goes.names a noted request means step after left whole no_rules none clear all).0;
+          few = few-more old mid new found c at asked begin goes.order so goes.went goes.few goes.whole goes.names a noted request means step after left whole few;
         },
         reads,
       )) good

@@ -1,5 +1,5 @@
 -- What was undone and the requests that were handled, as a run.
-use Rattle.std.proofs.Common.{◌≡◌, ℕ, List, ◌++◌, length, sym, subst}
+use Rattle.std.proofs.Common.{ℕ, List, ◌++◌, length, sym, subst}
 use Rattle.std.specs.Prelude.{◌≢◌}
 use Rattle.grid_model.specs.Rows.{Cat}
 use Rattle.grid_model.specs.Inputs.{Asked}

@@ -16,7 +16,6 @@ use Rattle.grid_model.specs.Sessions.{State}
 use Rattle.grid_model.specs.Runs.{Marked, Request}
 use Rattle.grid_model.specs.declared.deltas.Pending.{Pending}
 use Rattle.grid_model.specs.declared.marks.Mark.{Mark}
-use Rattle.grid_model.specs.declared.marks.Mark.TheVariants.{Stop}
 use Rattle.grid_model.specs.declared.marks.Mark.TheVariants as mark
 use Rattle.grid_headline.specs.Worlds.{World, DevicesImage}
 use Rattle.grid_headline.specs.Reads.{HasRules, MeansRequest, EndsInputLast}
@@ -381,6 +380,7 @@ module _ {B : Type 0} (old new : World B) (found : Cat) (at : State) (asked : Li
     named = ran.named;
     silent = λ tells settled. none_silent old new found at asked ran first end_last tells settled;
     numbers = λ tells settled. had_numbers old new found at asked ran first end_last tells settled;
+    takes_few = ran.moments;
     orphans = few;
     caused = ran.caused;
     completes = λ tells none tell settled whole fits. completes tells end none tell settled whole (good none fits);

@@ -1,5 +1,5 @@
 -- The sweep behind the opening of a run, before anything is asked: nothing of it is seen.
-use Rattle.std.proofs.Common.{◌≡◌, ◌⊎◌, inl, inr, ℕ, zero, suc, ◌-◌, ◌<◌, ◌≤◌, List, [], ◌++◌, length, IsTrue, refl, sym, ◌∙◌, subst, arith}
+use Rattle.std.proofs.Common.{◌≡◌, ◌⊎◌, inl, inr, ℕ, zero, suc, ◌-◌, ◌<◌, ◌≤◌, List, [], ◌++◌, length, IsTrue, refl, sym, ◌∙◌, subst, arith, ◌+◌}
 use Rattle.std.proofs.lemmas.Bool.{cases_lt}
 use Rattle.std.proofs.lemmas.List.{append-nil}
 use Rattle.std.proofs.lemmas.Option.{same_Some}
@@ -32,6 +32,8 @@ use Rattle.run_laws.proofs.Images.{keeps-then, like-of, like_self}
 use Rattle.run_laws.proofs.Orphans.{few-before}
 use Rattle.run_laws.proofs.Opening.{ran-none}
 use Rattle.run_laws.proofs.Recoveries.{left-alone, recoveries-first}
+use Rattle.grid_headline.specs.Moments.{IsWithinLimits, most_moments}
+use Rattle.run_laws.specs.Moments.{OpensInFew, SweepsInFew}
 
 -- a catalogue of which nothing is seen to be other is behind no request
 behind_none : (found : Cat) (u : Undone found) (begun left e : Cat) (count : ℕ) → IsBegunWith found u begun → IsLike begun e → GivesNone begun e → GivesNone e left
@@ -77,7 +79,7 @@ amid_sweep_too found u begun left few gives old_sink main sink (in_deed_of_run c
     absurd (cc a.waits_behind.is_next)
 
 module _ {B : Type 0} (old mid new : World B) (found begun left : Cat) (begin : BeginsOn old found) (opened : Opened old mid found begun)
-    (swept : Sweeps mid new begun left) where
+    (in_few : OpensInFew old mid found) (swept : Sweeps mid new begun left) (swept_few : SweepsInFew mid new) where
   abbrev first : Went old mid
   first = opened.opens.went
 
@@ -85,7 +87,7 @@ module _ {B : Type 0} (old mid new : World B) (found begun left : Cat) (begin : 
   u = opened.opens.undone
 
   abbrev before : Ran old mid found (begins u.opened.grid u.rules) []
-  before = ran-none old mid found opened.opens
+  before = ran-none old mid found opened.opens in_few
 
   main_tells : IsTrue mid.main.tells
   main_tells = subst IsTrue (sym first.main.tells) begin.main_tells
@@ -145,6 +147,10 @@ module _ {B : Type 0} (old mid new : World B) (found begun left : Cat) (begin : 
       subst (λ (x : List Mark). AreFirst x opened.opens.taken) (sym (append-nil told))
       (subst (λ (x : List Mark). AreFirst told x) (sym opened.all) (recoveries-first found u (length (whole_report found u))))
 
+  -- few moments were taken for both
+  pub moments-swept : IsWithinLimits found → new.moments ≤ old.moments + most_moments
+  moments-swept limits = omega (arith, in_few limits, swept_few)
+
   -- nothing was asked yet, and maybe not all was swept
   abbrev pub ran-swept : Ran old new found (begins u.opened.grid u.rules) []
   ran-swept = record {
@@ -160,6 +166,7 @@ module _ {B : Type 0} (old mid new : World B) (found begun left : Cat) (begin : 
       gives_before opened.begun.few (none_few begun left swept.gives),
     );
     all_few = tt;
+    moments = λ limits. omega (arith, moments-swept limits);
     went = went-then old mid new first swept.went;
     shown = λ tells. record {
       part = whole_report found u;
@@ -185,6 +192,7 @@ module _ {B : Type 0} (old mid new : World B) (found begun left : Cat) (begin : 
     ran = ran-swept;
     none_end = tt;
     all_drawn = opened.all ∙ sym (append-nil u.report);
+    moments = λ limits. omega (arith, moments-swept limits);
     pieces_are = tt;
     all_sure = refl;
     text = λ tells. sink-is tells ∙ sym (append-nil (old.sink.holds ++ whole_report found u));

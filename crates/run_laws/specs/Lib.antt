@@ -1,6 +1,7 @@
 pub mod Around
 pub mod Ends
 pub mod Handled
+pub mod Moments
 pub mod Opening
 pub mod Passes
 pub mod Silent

@@ -1,5 +1,5 @@
 -- The requests of a run that were handled so far.
-use Rattle.std.specs.Prelude.{◌≡◌, ℕ, ◌<◌, ◌≤◌, List, [], ◌∷◌, ◌++◌, Some, None, length, slice_get, IsTrue}
+use Rattle.std.specs.Prelude.{◌≡◌, ℕ, ◌+◌, ◌*◌, ◌<◌, ◌≤◌, List, [], ◌∷◌, ◌++◌, Some, None, length, slice_get, IsTrue}
 use Rattle.std.specs.List.{AllByRecursion}
 use Rattle.grid_outside.specs.Device.{IsSettled}
 use Rattle.grid_model.specs.Names.{Text}
@@ -20,9 +20,11 @@ use Rattle.grid_headline.specs.Files.{IsKnown, AreSettled, DisksAreSettled, Were
 use Rattle.grid_headline.specs.Causes.{AreCaused}
 use Rattle.grid_headline.specs.Ends.{AllStill, HasOneMore, HasFewOrphans, HasRecovery, EndsSwept}
 use Rattle.grid_headline.specs.Stops.{AreFirst}
+use Rattle.grid_headline.specs.Moments.{IsWithinLimits, most_moments}
 use Rattle.grid_headline.specs.Numbers.{KeepsNumbers}
 use Rattle.count_laws.specs.GivenNumbers.{GivesFew}
 use Rattle.run_laws.specs.Handled.{AllGaveFew, Handled, LastHadNumbers, cats_of, replies_of, marks_told, state_behind, IsOfRun, OneOfRun, ShowsMost}
+use Rattle.run_laws.specs.Moments.{GoesOnInFew}
 use Rattle.run_laws.specs.Steps.{Gave, IsToldOf}
 use Rattle.run_laws.specs.Undone.{Undone, whole_report}
 use Rattle.run_laws.specs.Went.{Went, AreInOrder}
@@ -40,11 +42,12 @@ KeepsWhole mid new c = DisksAreSettled mid → WereWhole mid mid.moments c → A
 abbrev pub KeepsNames : {B : Type 0} → World B → World B → Cat → Type 0
 KeepsNames mid new c = IsTrue mid.main.tells → IsSettled mid.main → StayNamed new mid.moments c
 
--- Calls go on from a world in order, and the files that were whole by this catalogue stay so, and those that were named where no request
--- of the input asks for a sweep.
+-- Calls go on from a world in order, few of them, and the files that were whole by this catalogue stay so, and those that were named where no
+-- request of the input asks for a sweep.
 pub record CallsGoOn {B : Type 0} (input : Text) (mid new : World B) (c : Cat) : Type 0 where
   pub order : AreInOrder mid
   pub went : Went mid new
+  pub few : GoesOnInFew mid new c
   pub whole : KeepsWhole mid new c
   pub names : NoneSweeps input → KeepsNames mid new c
 
@@ -61,6 +64,8 @@ pub record Ran {B : Type 0} (old now : World B) (found : Cat) (at : State) (aske
   -- few numbers were given before the requests and for each of them
   pub few_before : KeepsNumbers found handled.first × GivesFew found handled.first (length undone.report)
   pub all_few : AllGaveFew handled.first handled.begun handled.behind
+  -- few moments were taken
+  pub moments : IsWithinLimits found → now.moments ≤ old.moments + (length handled.begun + 2) * most_moments
   pub went : Went old now
   pub shown : IsTrue old.sink.tells → ShowsMost (whole_report found undone) handled old.sink.holds now.sink.holds
   pub caused : AreCaused old now (undone.report ++ marks_of handled.begun)
@@ -78,6 +83,8 @@ pub record Sofar {B : Type 0} (old now : World B) (found c : Cat) (at : State) (
   pub ran : Ran old now found at asked
   pub none_end : AllByRecursion (λ a. ¬ EndsInput a) asked
   pub all_drawn : ran.drawn ≡ ran.undone.report ++ marks_of ran.handled.begun
+  -- few moments were taken, and none for what came to nothing
+  pub moments : IsWithinLimits found → now.moments ≤ old.moments + (length ran.handled.begun + 1) * most_moments
   pub pieces_are : AllPieces (IsKnown old found) 1 ran.handled.done ran.handled.pieces
   pub all_sure : ran.handled.sure ≡ joined_texts (replies_of ran.handled)
   pub text : IsTrue old.sink.tells → now.sink.holds ≡ (old.sink.holds ++ whole_report found ran.undone) ++ joined_texts (replies_of ran.handled)

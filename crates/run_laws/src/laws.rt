@@ -9,6 +9,7 @@ ghost use Rattle.grid_headline.specs.Headline.{BeginsOn, Serves};
 ghost use Rattle.grid_headline.specs.Reads.{EndsInput, MeansRequest};
 ghost use Rattle.grid_headline.specs.Served.{BeginsWithRequests};
 ghost use Rattle.run_laws.specs.Ends.{IsGoodIfNoneFailed, ReadsSo, StopsSo};
+ghost use Rattle.run_laws.specs.Moments.{OpensInFew, SweepsInFew};
 ghost use Rattle.run_laws.specs.Opening.{Opened, Opens};
 ghost use Rattle.run_laws.specs.Silent.{IsSwept, LeavesFew, Sweeps};
 ghost use Rattle.run_laws.specs.Sofar.{CallsGoOn, Sofar};
@@ -24,7 +25,7 @@ pub fn a_run_ends_in_its_opening<D: Disk, S: Source, K: Sink, A: Ambient, P: Plu
     now: &Around<D, S, K, A, P>,
 )
     ensures { let from = world D.disk S.source K.sink A.ambient P.plugin old.now in let to = world D.disk S.source K.sink A.ambient P.plugin now.now in
-        (found : Cat) (end : RunEnd) → BeginsOn from found → (opens : Opens from to found) →
+        (found : Cat) (end : RunEnd) → BeginsOn from found → (opens : Opens from to found) → OpensInFew from to found →
         StopsSo from to found (begins opens.undone.opened.grid opens.undone.rules) [] end → IsGoodIfNoneFailed from to end → Serves from to found end }
 {}
 
@@ -36,8 +37,8 @@ pub fn a_run_is_begun<D: Disk, S: Source, K: Sink, A: Ambient, P: Plugin>(
 )
     ensures { let from = world D.disk S.source K.sink A.ambient P.plugin old.now in let by = world D.disk S.source K.sink A.ambient P.plugin mid.now in
         let to = world D.disk S.source K.sink A.ambient P.plugin now.now in
-        (found begun c : Cat) → BeginsOn from found → (opened : Opened from by found begun) → Sweeps by to begun c →
-        IsSwept by to begun c → Sofar from to found c (begins opened.opens.undone.opened.grid opened.opens.undone.rules) [] }
+        (found begun c : Cat) → BeginsOn from found → (opened : Opened from by found begun) → OpensInFew from by found →
+        Sweeps by to begun c → SweepsInFew by to → IsSwept by to begun c → Sofar from to found c (begins opened.opens.undone.opened.grid opened.opens.undone.rules) [] }
 {}
 
 /// Where something ran out or failed in the sweep behind the opening, all holds that is promised of a run.
@@ -48,7 +49,8 @@ pub fn a_run_ends_in_its_sweep<D: Disk, S: Source, K: Sink, A: Ambient, P: Plugi
 )
     ensures { let from = world D.disk S.source K.sink A.ambient P.plugin old.now in let by = world D.disk S.source K.sink A.ambient P.plugin mid.now in
         let to = world D.disk S.source K.sink A.ambient P.plugin now.now in
-        (found begun left : Cat) (end : RunEnd) → BeginsOn from found → (opened : Opened from by found begun) → Sweeps by to begun left →
+        (found begun left : Cat) (end : RunEnd) → BeginsOn from found → (opened : Opened from by found begun) → OpensInFew from by found →
+        Sweeps by to begun left → SweepsInFew by to →
         StopsSo from to found (begins opened.opens.undone.opened.grid opened.opens.undone.rules) [] end →
         IsGoodIfNoneFailed from to end → Serves from to found end }
 {}

@@ -4,6 +4,7 @@ ghost use Rattle.grid_model.specs.RuleText.{Rule};
 ghost use Rattle.grid_deed.specs.Held.{IsHeld};
 ghost use Rattle.grid_headline.specs.Headline.{BeginsOn};
 ghost use Rattle.grid_headline.specs.Reads.{HasRules};
+ghost use Rattle.grid_headline.specs.Moments.{IsWithinLimits};
 ghost use Rattle.run_laws.specs.Around.{around};
 ghost use Rattle.run_laws.specs.Passes.{AreReady, CallsPass};
 ghost use Rattle.run_laws.specs.Went.{AreInOrder};
@@ -24,7 +25,8 @@ use std::alloc::Global;
 /// recoveries are run, and then one commit begins the run and clears the command, and the rest of the report is told.
 ///
 /// Where the number of runs or the room of the log has run out nothing is touched. `Disk` and `Sink` come only where that device failed;
-/// `Memory` may come at any time. Draws at most 2^120 + 6 moments.
+/// `Memory` may come at any time. Draws at most 2^120 + 6 moments, and at most 2^33 where the catalogue is
+/// within the limits.
 pub fn open_run<D: Disk, K: Sink, A: Ambient, P: Plugin>(
     alloc: Global,
     store: &mut Store,
@@ -46,6 +48,7 @@ pub fn open_run<D: Disk, K: Sink, A: Ambient, P: Plugin>(
         × (outside.new ≡ outside.old) × (sink.new ≡ sink.old) }
     ensures silent { store.old.cat.pending ≡ None → sink.new ≡ sink.old }
     ensures drawn { outside.new.moments ≤ outside.old.moments + (2 ^ 120 + 6) }
+    ensures few { IsWithinLimits store.old.cat → outside.new.moments ≤ outside.old.moments + 2 ^ 33 }
 {
     let run = store.tables().numbers().run;
     if run == u64::MAX {

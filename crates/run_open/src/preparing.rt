@@ -7,6 +7,7 @@ ghost use Rattle.grid_model.specs.declared.deltas.Pending.{Pending as PendingOf}
 ghost use Rattle.grid_deed.specs.Held.{IsHeld};
 ghost use Rattle.grid_headline.specs.Headline.{BeginsOn};
 ghost use Rattle.grid_headline.specs.Reads.{HasRules};
+ghost use Rattle.grid_headline.specs.Moments.{IsWithinLimits};
 ghost use Rattle.run_laws.specs.Around.{around};
 ghost use Rattle.run_laws.specs.Passes.{AreReady, CallsPass};
 ghost use Rattle.run_laws.specs.Went.{AreInOrder};
@@ -48,6 +49,7 @@ pub(crate) fn prepare<D: Disk, K: Sink, A: Ambient, P: Plugin>(
         (record { outside = outside.old; sink = sink.old }) (record { outside = outside.new; sink = sink.new }) }
     ensures none { store.old.cat.pending ≡ None → IfOk result (λ rest. rest ≡ []) × (sink.new ≡ sink.old) }
     ensures drawn { outside.new.moments ≤ outside.old.moments + (2 ^ 120 + 1) }
+    ensures few { IsWithinLimits store.old.cat → outside.new.moments ≤ outside.old.moments + (2 ^ 32 + 1) }
 {
     match store.tables().pending() {
         None => Ok(Text::from_vec(Vec::new(alloc))),
@@ -95,6 +97,7 @@ fn undo_stopped<D: Disk, K: Sink, A: Ambient, P: Plugin>(
     ensures passes { CallsPass D.disk P.plugin K.sink (IsErrOf result OpenError.Disk) (IsErrOf result OpenError.Sink)
         (record { outside = outside.old; sink = sink.old }) (record { outside = outside.new; sink = sink.new }) }
     ensures drawn { outside.new.moments ≤ outside.old.moments + (2 ^ 120 + 1) }
+    ensures few { IsWithinLimits store.old.cat → outside.new.moments ≤ outside.old.moments + (2 ^ 32 + 1) }
 {
     match tell(&mut outside.moments, sink, front.as_slice()) {
         Ok(()) => {}

@@ -26,6 +26,7 @@ use Rattle.grid_headline.specs.Worlds.{World}
 use Rattle.run_laws.specs.Around.{around}
 use Rattle.run_laws.proofs.Draws.{gave-none}
 use Rattle.run_laws.proofs.OneMark.{caused_none}
+use Rattle.size_laws.specs.Within.{IsWithin}
 use Rattle.service_run.specs.declared.command.Command.{Command}
 use Rattle.service_run.specs.declared.ending.Ending.{Ending}
 use Rattle.service_run.specs.declared.ending.Ending.TheVariants as ending
@@ -55,12 +56,13 @@ module _ {D A P : Type 0} (disk : D → DiskState) (ambient : A → AmbientState
   changes_cut after = ends_so after (Err ending.Memory) tt
 
   -- changes of rows were staged
-  pub changes_made : (user : IsTrue (is_user rows.cat x.user)) (end : Cat) (deltas : List Delta) → LeadOn rows.cat deltas end → MakesGridOf rows.cat end does → (after : Journal) → IsStaged kept end (disk o.main) after
+  pub changes_made : (user : IsTrue (is_user rows.cat x.user)) (end : Cat) (deltas : List Delta) → LeadOn rows.cat deltas end → MakesGridOf rows.cat end does → (IsWithin (grid_of rows.cat) → IsWithin (grid_of end)) → (after : Journal)
+      → IsStaged kept end (disk o.main) after
       → IsStep at at kept rows x call undo x after does (Ok (Ok tt))
-  changes_made user end deltas led makes after staged =
-      let E : Cat → Type 0 = λ c. LeadOn rows.cat deltas c × MakesGridOf rows.cat c does in
-      let now = subst E (sym staged.cat) (led, makes) in
-      let beside = beside_led rows.cat after.cat deltas now.0 in
+  changes_made user end deltas led makes within after staged =
+      let E : Cat → Type 0 = λ c. LeadOn rows.cat deltas c × MakesGridOf rows.cat c does × (IsWithin (grid_of rows.cat) → IsWithin (grid_of c)) in
+      let now = subst E (sym staged.cat) (led, makes, within) in
+      let beside = beside_led rows.cat after.cat deltas now.0 now.2 in
       ends_so after (Ok (Ok tt)) (record {
         did = record { user = beside.names x.user user; marks = []; taken = sym (append-nil x.marks); did = λ more begun stopped. (stopped, now.1 (course_at (place_by rows.cat x) more begun stopped) refl) };
         beside = beside;

@@ -68,6 +68,7 @@ use Rattle.run_laws.specs.Passes.{Seen}
 use Rattle.run_laws.specs.Steps.{Gave, IsToldOf}
 use Rattle.run_laws.proofs.OneMark.{caused_fault, caused_none, gave_ran, gave_untold}
 use Rattle.run_laws.proofs.Users.{KeepsUsers, users_apply_all, users_same, users_then}
+use Rattle.size_laws.specs.Within.{IsWithin}
 use Rattle.service_run.specs.declared.command.Command.{Command}
 use Rattle.service_run.specs.declared.ending.Ending.{Ending}
 use Rattle.service_run.specs.declared.ending.Ending.TheVariants as ending
@@ -256,8 +257,8 @@ module _ (c : Cat) (x : Command) (call : Call) (undo : List Call) (c1 : Cat) (c1
     pub pending_since : d.pending ≡ Some (noted_in x call undo)
     pending_since = draws_since.pending
 
-    pub beside_since : IsTrue (is_user c x.user) → KeepsNamed c1 d → GivesFew c1 d 1 → KeepsBeside c d 1
-    beside_since user named few =
+    pub beside_since : IsTrue (is_user c x.user) → KeepsNamed c1 d → GivesFew c1 d 1 → (IsWithin (grid_of c) → IsWithin (grid_of d)) → KeepsBeside c d 1
+    beside_since user named few within =
         let all = users_then c c1 d users_before users in
         let s = draws_since in
         record {
@@ -271,6 +272,7 @@ module _ (c : Cat) (x : Command) (call : Call) (undo : List Call) (c1 : Cat) (c1
           };
           few = gives_behind gives_noted few;
           named = λ slot name is. named slot name ((turns_before user).named slot name is);
+          within = within;
           users = all.there;
           names = all.names;
         }
@@ -280,7 +282,7 @@ module _ (c : Cat) (x : Command) (call : Call) (undo : List Call) (c1 : Cat) (c1
 module _ {D A P K : Type 0} (disk : D → DiskState) (ambient : A → AmbientState) (plugin : P → StoreState) (sink : K → SinkState) (source : SourceState) (o n : Outside D A P) (a : A) (k l : K) (kept : Cat) (rows : Journal) (x : Command) (call : Call) (undo : List Call)
     (user : IsTrue (is_user rows.cat x.user)) (s1 : Journal) (announced : s1.cat ≡ with_pending rows.cat (noted_in x call undo)) (row : Or Act) (file : OldFile) (named : IsNamedFile rows.cat file) (within : file.slot < rows.cat.stores)
     (count : ℕ) (count_is : s1.cat.stores ≡ count) (slots : rows.cat.stores ≡ length o.stores.items) (word now : ℕ) (plan : Plan) (w : CopiesFile s1.cat row word now file plan)
-    (few : length plan.files ≤ leaf_count s1.cat) where
+    (few : length plan.files ≤ leaf_count s1.cat) (ran_within : IsWithin (grid_of rows.cat) → IsWithin (w.of.ran word now [])) where
   abbrev pub its_plan : IsCopyPlan s1.cat s1.cat count plan file
   its_plan = copy_plan_as s1.cat plan s1.cat.stores count file count_is w.makes.is_plan
 
@@ -313,15 +315,15 @@ module _ {D A P K : Type 0} (disk : D → DiskState) (ambient : A → AmbientSta
   few_end : GivesFew s1.cat end 1
   few_end = gives_planned s1.cat end (length plan.files) w.makes.drawn.numbers few mid plan.before plan.after w.makes.is_plan.first w.makes.is_plan.then
 
+  grid_mid : grid_of mid ≡ grid_of rows.cat
+  grid_mid = w.makes.before ∙ grid_before rows.cat x call undo s1.cat announced
+
   beside_mid : KeepsBeside rows.cat mid 1
   beside_mid =
-      beside_since rows.cat x call undo s1.cat announced (length plan.files) mid w.makes.drawn_first users_mid user w.makes.is_plan.begins.named few_mid
+      beside_since rows.cat x call undo s1.cat announced (length plan.files) mid w.makes.drawn_first users_mid user w.makes.is_plan.begins.named few_mid (λ within. subst IsWithin (sym grid_mid) within)
 
   pending_mid : mid.pending ≡ Some (noted_in x call undo)
   pending_mid = pending_since rows.cat x call undo s1.cat announced (length plan.files) mid w.makes.drawn_first users_mid
-
-  grid_mid : grid_of mid ≡ grid_of rows.cat
-  grid_mid = w.makes.before ∙ grid_before rows.cat x call undo s1.cat announced
 
   pub its_note : IsNoted rows.cat x call undo mid
   its_note = record { grid = grid_mid; beside = beside_mid; pending = pending_mid }
@@ -334,7 +336,7 @@ module _ {D A P K : Type 0} (disk : D → DiskState) (ambient : A → AmbientSta
   beside_end says =
       let p = w.makes.is_plan in
       beside_since rows.cat x call undo s1.cat announced (length plan.files) end w.makes.drawn users_end user (λ slot name is. named_last says slot name (p.begins.named slot name is))
-      few_end
+      few_end (λ within. subst IsWithin (sym w.makes.ran) (ran_within within))
 
   pending_end : end.pending ≡ Some (noted_in x call undo)
   pending_end = pending_since rows.cat x call undo s1.cat announced (length plan.files) end w.makes.drawn users_end

@@ -2,6 +2,7 @@ pub mod CallSteps
 pub mod ChangeSteps
 pub mod CopySteps
 pub mod DeedSteps
+pub mod FewMoments
 pub mod NamedFiles
 pub mod NoteSteps
 pub mod Passing

@@ -15,6 +15,7 @@ use Rattle.grid_outside.specs.declared.outside.Outside.{Outside}
 use Rattle.grid_outside.proofs.Spans.{at_place}
 use Rattle.grid_model.specs.Names.{Text}
 use Rattle.grid_model.specs.Rows.{Cat}
+use Rattle.grid_model.specs.RowGrids.{grid_of}
 use Rattle.grid_model.specs.Meanings.{Meaning}
 use Rattle.grid_model.specs.Doing.{Course, Did}
 use Rattle.grid_model.specs.Deltas.{all_fit, bad_replica as bad_parts}
@@ -35,6 +36,7 @@ use Rattle.count_laws.proofs.GivenNumbers.{gives_by_changes, gives_more, gives_n
 use Rattle.run_laws.specs.Around.{around}
 use Rattle.run_laws.specs.Steps.{Gave}
 use Rattle.run_laws.proofs.Users.{users_apply_all}
+use Rattle.size_laws.specs.Within.{IsWithin}
 use Rattle.service_run.specs.declared.command.Command.{Command}
 use Rattle.service_run.specs.declared.ending.Ending.{Ending}
 use Rattle.service_run.specs.Changes.{LeadOn, mark_fits}
@@ -74,13 +76,14 @@ beside_same c = record {
   keeps = record { rises = omega arith; names = λ slot name row before named. (row, named) };
   few = gives_none c;
   named = λ slot name named. named;
+  within = λ within. within;
   users = λ id is. is;
   names = λ id is. refl;
 }
 
 -- changes lead on from them
-pub beside_led : (c after : Cat) (deltas : List Delta) → LeadOn c deltas after → KeepsBeside c after 0
-beside_led c after deltas leads =
+pub beside_led : (c after : Cat) (deltas : List Delta) → LeadOn c deltas after → (IsWithin (grid_of c) → IsWithin (grid_of after)) → KeepsBeside c after 0
+beside_led c after deltas leads within =
     let users = users_apply_all deltas c after leads.applied in
     record {
       run = ap (λ (k : Numbers). k.run) leads.numbers;
@@ -90,6 +93,7 @@ beside_led c after deltas leads =
       keeps = leads.keeps;
       few = gives_by_changes c after deltas leads.applied (ap (λ (k : Numbers). k.next_vault) leads.numbers);
       named = leads.turns.named;
+      within = within;
       users = users.there;
       names = users.names;
     }
@@ -104,6 +108,7 @@ beside_more c after j k more b = record {
   keeps = b.keeps;
   few = gives_more k more b.few;
   named = b.named;
+  within = b.within;
   users = b.users;
   names = b.names;
 }

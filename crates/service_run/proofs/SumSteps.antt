@@ -19,6 +19,7 @@ use Rattle.grid_model.specs.Deeds.{Deed, deed, fault_fits, fits}
 use Rattle.grid_model.specs.Meanings.{gives}
 use Rattle.grid_model.specs.Doing.{did_fail, did_well, take_mark, taking, where_mark_fits}
 use Rattle.grid_model.specs.Operations.Replicas.{chksum_row}
+use Rattle.grid_model.specs.Operations.Table.{chksum}
 use Rattle.grid_model.specs.Replies.{mark_line}
 use Rattle.grid_model.specs.declared.calls.Call.{Call}
 use Rattle.grid_model.specs.declared.deltas.Delta.{Delta}
@@ -40,6 +41,7 @@ use Rattle.grid_headline.specs.Worlds.{World}
 use Rattle.plan_object.specs.ChksumPlans.{MarksBad, MayChksum}
 use Rattle.run_laws.specs.Around.{around}
 use Rattle.run_laws.proofs.OneMark.{caused_fault, caused_none, gave_ran, gave_untold}
+use Rattle.size_laws.specs.Within.{IsWithin}
 use Rattle.service_run.specs.declared.command.Command.{Command}
 use Rattle.service_run.specs.declared.ending.Ending.{Ending}
 use Rattle.service_run.specs.declared.ending.Ending.TheVariants as ending
@@ -49,6 +51,7 @@ use Rattle.service_run.specs.Steps.{IsStep, StaysAway, StepEnds, lines_of}
 use Rattle.service_run.specs.declared.looking.Looked.{Looked}
 use Rattle.service_run.specs.declared.looking.Looked.TheVariants as looked
 use Rattle.service_run.specs.Sums.{AreSeen, IsFileIn, LooksSay, TookLooked}
+use Rattle.service_run.proofs.FewMoments.{ran_within}
 use Rattle.service_run.proofs.SeenFiles.{at_all, found_so, slot_of_file, told_found}
 use Rattle.service_run.proofs.StillSteps.{beside_led, beside_more, beside_same, one_fits, stays_away, step_still, whole_looked}
 
@@ -181,7 +184,8 @@ module _ {D A P : Type 0} (disk : D → DiskState) (ambient : A → AmbientState
     leads = let L : Cat → Type 0 = λ c. LeadOn rows.cat led.deltas c in subst L (sym its_cat) led.leads
 
     beside : KeepsBeside rows.cat after.cat 1
-    beside = beside_more rows.cat after.cat 0 1 (omega arith) (beside_led rows.cat after.cat led.deltas leads)
+    beside = beside_more rows.cat after.cat 0 1 (omega arith) (beside_led rows.cat after.cat led.deltas leads
+        (λ within. subst IsWithin (sym grid_is) (ran_within rows.cat rows.cat (user_name rows.cat x.user) (chksum path) may.of refl may.row_is word now bad within)))
 
     held_after : IsHeld kept (disk n.main) after
     held_after = led.staged.held

@@ -10,6 +10,7 @@ use Rattle.grid_model.specs.declared.deltas.Pending.{Pending}
 use Rattle.grid_headline.specs.Files.{KeepsNamed}
 use Rattle.grid_headline.specs.Numbers.{KeepsNumbers}
 use Rattle.count_laws.specs.GivenNumbers.{GivesFew}
+use Rattle.size_laws.specs.Within.{IsWithin}
 use Rattle.chain_run.specs.Places.{Place, course_at}
 use Rattle.service_run.specs.declared.command.Command.{Command}
 
@@ -31,7 +32,7 @@ noted_in x call undo = record {
 }
 
 -- What rows have beside the grid and the pending command is as it was, and each user that is there keeps the name. No number of a
--- vault file is given again, few are given for so many marks, and no file is lost track of.
+-- vault file is given again, few are given for so many marks, no file is lost track of, and the grid stays within the limits where it was.
 pub record KeepsBeside (before after : Cat) (marks : ℕ) : Type 0 where
   pub run : after.numbers.run ≡ before.numbers.run
   pub last : after.numbers.last ≡ before.numbers.last
@@ -40,6 +41,7 @@ pub record KeepsBeside (before after : Cat) (marks : ℕ) : Type 0 where
   pub keeps : KeepsNumbers before after
   pub few : GivesFew before after marks
   pub named : KeepsNamed before after
+  pub within : IsWithin (grid_of before) → IsWithin (grid_of after)
   pub users : (id : ℕ) → IsTrue (is_user before id) → IsTrue (is_user after id)
   pub names : (id : ℕ) → IsTrue (is_user before id) → user_name after id ≡ user_name before id
 

@@ -1,13 +1,15 @@
-ghost use Rattle.std.specs.Prelude.{◌≡◌, List, IsErrOf, IsTrue};
+ghost use Rattle.std.specs.Prelude.{◌≡◌, List, IfOk, IsErrOf, IsTrue};
 ghost use Rattle.grid_outside.specs.Source.{SourceState};
 ghost use Rattle.grid_model.specs.Applying.{is_user};
 ghost use Rattle.grid_model.specs.Doing.{Course, Did};
 ghost use Rattle.grid_model.specs.Meanings.{Meaning};
+ghost use Rattle.grid_model.specs.RowGrids.{grid_of};
 ghost use Rattle.grid_model.specs.Rows.{Cat};
 ghost use Rattle.grid_model.specs.declared.calls.Call.{Call as CallOf};
 ghost use Rattle.grid_deed.specs.Held.{IsHeld};
 ghost use Rattle.run_laws.specs.Around.{around};
 ghost use Rattle.run_laws.specs.Passes.{AreReady};
+ghost use Rattle.size_laws.specs.Within.{IsWithin};
 ghost use Rattle.service_run.specs.Changes.{LeadOn, MakesGridOf};
 ghost use Rattle.service_run.specs.Steps.{IsStep};
 ghost use Rattle.service_run.specs.declared.ending.Ending.{Ending};
@@ -37,8 +39,10 @@ pub fn change<D: Disk, K: Sink, A: Ambient, P: Plugin>(
     requires ready { AreReady D.disk P.plugin K.sink 0 (record { outside = outside.now; sink = sink.now }) }
     ensures step { (source : SourceState) (kept after : Cat) (call : CallOf) (undo : List CallOf) (does : Course → Meaning Did) →
         IsHeld kept (D.disk outside.now.main) store.old → LeadOn store.old.cat deltas after → MakesGridOf store.old.cat after does →
+        (IsWithin (grid_of store.old.cat) → IsWithin (grid_of after)) →
         IsStep (around D.disk A.ambient P.plugin outside.now (K.sink sink.now) source) (around D.disk A.ambient P.plugin outside.now (K.sink sink.now) source)
         kept store.old command.now call undo command.now store.new does result }
+    ensures grid { (after : Cat) → LeadOn store.old.cat deltas after → IfOk result (λ ran. grid_of store.new.cat ≡ grid_of after) }
     ensures errors { (e : Ending) → IsErrOf result e → e ≡ Ending.Memory }
 {
     let _sink = sink;

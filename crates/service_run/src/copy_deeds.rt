@@ -46,7 +46,7 @@ pub(crate) fn with_few_files(plan: Plan) -> Result<Plan, AllocError>
 /// this time: `Ran` where the file was copied, and else that of the store's fault or of the bytes that were found.
 ///
 /// An error ends the command: `Memory` may come at any time, `Disk` and `Sink` where one of them failed, and `Worn` where the room behind
-/// the log has run out.
+/// the log has run out. Draws at most 2^65 moments.
 pub(crate) fn copy_marked<D: Disk, K: Sink, A: Ambient, P: Plugin>(
     alloc: Global,
     store: &mut Store,
@@ -75,7 +75,8 @@ pub(crate) fn copy_marked<D: Disk, K: Sink, A: Ambient, P: Plugin>(
     ensures ambient { outside.new.ambient ≡ outside.old.ambient }
     // What has run out is not the numbers of vault files.
     ensures left { (place : ℕ) → IsErrOf result (Ending.Worn Wear.Vaults place) → ⊥ }
-    ensures drawn { outside.new.moments ≤ outside.old.moments + 2 ^ 65 }
+    ensures drawn { outside.new.moments ≤ outside.old.moments + moments_of plan.files from.now.size }
+    ensures few { moments_of plan.files from.now.size ≤ 2 ^ 65 }
 {
     few_copies(&plan, from);
     let copied = match copy_noted(alloc, store, outside, sink, command, plan, from) {

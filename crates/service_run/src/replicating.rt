@@ -14,6 +14,7 @@ ghost use Rattle.grid_headline.specs.Numbers.{leaf_count};
 ghost use Rattle.plan_object.specs.ReplPlans.{CopiesFile, MayRepl};
 ghost use Rattle.run_laws.specs.Around.{around};
 ghost use Rattle.run_laws.specs.Passes.{AreReady, CallsPass};
+ghost use Rattle.size_laws.specs.Within.{TakesAtMost};
 ghost use Rattle.service_run.specs.Commands.{noted_in};
 ghost use Rattle.service_run.specs.Steps.{IsStep};
 
@@ -32,7 +33,7 @@ use std::alloc::{AllocError, Global};
 /// stays as it is.
 ///
 /// `Worn` with `Vaults` comes before anything outside is asked, where the next number of a vault file is past 2^64 - 2^33. Draws at most
-/// 2^65 moments.
+/// 2^65 moments, and at most 2^20 where the grid is within its limits.
 pub fn repl<D: Disk, K: Sink, A: Ambient, P: Plugin>(
     alloc: Global,
     store: &mut Store,
@@ -59,7 +60,7 @@ pub fn repl<D: Disk, K: Sink, A: Ambient, P: Plugin>(
         (record { outside = outside.old; sink = sink.old }) (record { outside = outside.new; sink = sink.new }) }
     // Where the numbers of vault files have run out no device was asked for anything.
     ensures untouched { (place : ℕ) → IsErrOf result (Ending.Worn Wear.Vaults place) → (outside.new ≡ outside.old) × (sink.new ≡ sink.old) }
-    ensures drawn { outside.new.moments ≤ outside.old.moments + 2 ^ 65 }
+    ensures drawn { (each : ℕ) → TakesAtMost (grid_of store.old.cat) each → outside.new.moments ≤ outside.old.moments + each }
 {
     match spent_vaults(store) {
         None => {}

@@ -1,8 +1,8 @@
-ghost use Rattle.std.specs.Prelude.{◌≡◌, ◌+◌, ◌^◌, ◌≤◌, IsErrOf, IsTrue, vec_len};
+ghost use Rattle.std.specs.Prelude.{◌≡◌, ℕ, ◌+◌, ◌^◌, ◌≤◌, IsErrOf, IsTrue, vec_len};
 ghost use Rattle.grid_outside.specs.Source.{SourceState};
 ghost use Rattle.grid_model.specs.Applying.{is_user};
 ghost use Rattle.grid_model.specs.Doing.{do_call};
-ghost use Rattle.grid_model.specs.RowGrids.{user_name};
+ghost use Rattle.grid_model.specs.RowGrids.{grid_of, user_name};
 ghost use Rattle.grid_model.specs.Rows.{Cat};
 ghost use Rattle.grid_model.specs.Services.{service};
 ghost use Rattle.grid_journal.specs.Journal.{can_be_kept};
@@ -10,6 +10,7 @@ ghost use Rattle.grid_deed.specs.Held.{IsHeld};
 ghost use Rattle.plan_service.specs.ServicePlans.{AddsWords};
 ghost use Rattle.run_laws.specs.Around.{around};
 ghost use Rattle.run_laws.specs.Passes.{AreReady, CallsPass};
+ghost use Rattle.size_laws.specs.Within.{TakesAtMost};
 ghost use Rattle.service_run.specs.Commands.{noted_in};
 ghost use Rattle.service_run.specs.Steps.{IsStep};
 ghost use Rattle.service_run.specs.declared.ending.Ending.{Ending};
@@ -30,7 +31,8 @@ use std::alloc::Global;
 /// still to tell is told then.
 ///
 /// The answer is how the call came out. An error ends the command: `Memory` may come at any time, `Disk` and `Sink` where one of them
-/// failed, and `Worn` where the numbers of vault files or the room behind the log have run out. Draws at most 2^65 moments.
+/// failed, and `Worn` where the numbers of vault files or the room behind the log have run out. Draws at most 2^65 moments, and at most 2^20 where the
+/// grid is within its limits.
 pub fn run_call<D: Disk, K: Sink, A: Ambient, P: Plugin>(
     alloc: Global,
     store: &mut Store,
@@ -51,7 +53,7 @@ pub fn run_call<D: Disk, K: Sink, A: Ambient, P: Plugin>(
         kept store.old command.old call.now undo.now command.new store.new (do_call (user_name store.old.cat command.old.user) call.now) result }
     ensures passes { CallsPass D.disk P.plugin K.sink (IsErrOf result Ending.Disk) (IsErrOf result Ending.Sink)
         (record { outside = outside.old; sink = sink.old }) (record { outside = outside.new; sink = sink.new }) }
-    ensures drawn { outside.new.moments ≤ outside.old.moments + 2 ^ 65 }
+    ensures drawn { (each : ℕ) → TakesAtMost (grid_of store.old.cat) each → outside.new.moments ≤ outside.old.moments + each }
 {
     store.is_spelled();
     match plan_call(alloc, store.tables(), command.user, call) {

@@ -1,8 +1,9 @@
 -- What the loop over the recoveries keeps.
-use Rattle.std.proofs.Common.{◌≡◌, ℕ, ◌+◌, ◌-◌, ◌^◌, ◌<◌, ◌≤◌, false, List, [], ◌∷◌, ◌++◌, Option, Some, Result, Ok}
+use Rattle.std.proofs.Common.{◌≡◌, ℕ, ◌+◌, ◌-◌, ◌*◌, ◌^◌, ◌<◌, ◌≤◌, false, List, [], ◌∷◌, ◌++◌, Option, Some, Result, Ok}
 use Rattle.std.proofs.Common.{Err, IsErrOf, IsTrue, true, length, take, slice_get, refl, sym, ap, ◌∙◌, subst, length-append, arith}
 use Rattle.std.specs.Prelude.{⊤, nat_lt}
 use Rattle.std.specs.List.{list_all}
+use Rattle.std.proofs.Math.Nat.{add-mul}
 use Rattle.std.proofs.lemmas.Bool.{and_parts}
 use Rattle.std.proofs.lemmas.List.{take_all}
 use Rattle.std.proofs.lemmas.Option.{slice_get_within}
@@ -58,6 +59,12 @@ last_split {X} xs ys x same is =
 
 pub one_shorter : {X : Type 0} (xs ys : List X) (x : X) → xs ≡ ys ++ x ∷ [] → length xs ≡ length ys + 1
 one_shorter xs ys x is = omega (arith, ap length is, length-append ys (x ∷ []))
+
+-- with one recovery fewer left, what those before it and it took is no more than for all
+pub one_drawn : (old at new all each left before now : ℕ) → left ≡ before + 1 → now ≡ before → at + left * each ≤ old + all → new ≤ at + each → new + now * each ≤ old + all
+one_drawn old at new all each left before now one same drawn this =
+    let turn : left * each ≡ before * each + each = omega (arith, ap (λ n. n * each) one, add-mul before 1 each) in
+    omega (arith, turn, ap (λ n. n * each) same, drawn, this)
 
 pub none_left : {X : Type 0} (xs ys : List X) → ys ≡ xs → length ys ≤ 0 → xs ≡ []
 none_left [] ys same few = refl

@@ -4,6 +4,7 @@ ghost use Rattle.grid_outside.specs.Source.{SourceState};
 ghost use Rattle.grid_model.specs.Applying.{is_user};
 ghost use Rattle.grid_model.specs.Deltas.{is_shown_byte, text};
 ghost use Rattle.grid_model.specs.Printing.{print_failure};
+ghost use Rattle.grid_model.specs.RowGrids.{grid_of};
 ghost use Rattle.grid_model.specs.Rows.{Cat};
 ghost use Rattle.grid_model.specs.Services.{service};
 ghost use Rattle.grid_deed.specs.Held.{IsHeld};
@@ -11,6 +12,7 @@ ghost use Rattle.grid_journal.specs.Journal.{can_be_kept};
 ghost use Rattle.plan_service.specs.ServicePlans.{AddsWords};
 ghost use Rattle.run_laws.specs.Around.{around};
 ghost use Rattle.run_laws.specs.Passes.{AreReady, CallsPass};
+ghost use Rattle.size_laws.specs.Within.{TakesAtMost};
 ghost use Rattle.service_run.specs.Commands.{noted_in};
 ghost use Rattle.service_run.specs.declared.ending.Ending.{Ending};
 ghost use Rattle.call_laws.specs.OneCall.{RoundEnds};
@@ -27,7 +29,8 @@ use std::mem::replace;
 /// Runs a recovery of a command, the last of this list. One that is refused is passed over, and noted with its failure. The answer is how it
 /// failed, if it did.
 ///
-/// Errors are those of `run_call`; `Memory` may come too where the recovery was run and refused.
+/// Errors are those of `run_call`; `Memory` may come too where the recovery was run and refused. Draws at most 2^65 moments, and at most
+/// 2^20 where the grid is within its limits.
 pub fn undo_one<D: Disk, K: Sink, A: Ambient, P: Plugin>(
     alloc: Global,
     store: &mut Store,
@@ -48,7 +51,7 @@ pub fn undo_one<D: Disk, K: Sink, A: Ambient, P: Plugin>(
         (around D.disk A.ambient P.plugin outside.new (K.sink sink.new) source) kept store.old command.old call.now undo.now store.new result command.new }
     ensures passes { CallsPass D.disk P.plugin K.sink (IsErrOf result Ending.Disk) (IsErrOf result Ending.Sink)
         (record { outside = outside.old; sink = sink.old }) (record { outside = outside.new; sink = sink.new }) }
-    ensures drawn { outside.new.moments ≤ outside.old.moments + 2 ^ 65 }
+    ensures drawn { (each : ℕ) → TakesAtMost (grid_of store.old.cat) each → outside.new.moments ≤ outside.old.moments + each }
 {
     match run_call(alloc, store, outside, sink, command, call, undo) {
         Ok(Ok(())) => Ok(None),

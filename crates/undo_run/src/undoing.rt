@@ -1,11 +1,13 @@
-ghost use Rattle.std.specs.Prelude.{◌≡◌, ◌+◌, ◌^◌, ◌≤◌, List, [], Ok, Some, IsErrOf, vec_len};
+ghost use Rattle.std.specs.Prelude.{◌≡◌, ℕ, ◌+◌, ◌*◌, ◌^◌, ◌≤◌, List, [], Ok, Some, IsErrOf, length, vec_len};
 ghost use Rattle.grid_outside.specs.Source.{SourceState};
+ghost use Rattle.grid_model.specs.RowGrids.{grid_of};
 ghost use Rattle.grid_model.specs.RuleText.{Rule};
 ghost use Rattle.grid_model.specs.declared.deltas.Pending.{Pending as PendingOf};
 ghost use Rattle.grid_deed.specs.Held.{IsHeld};
 ghost use Rattle.grid_headline.specs.Reads.{HasRules};
 ghost use Rattle.run_laws.specs.Around.{around};
 ghost use Rattle.run_laws.specs.Passes.{AreReady, CallsPass};
+ghost use Rattle.size_laws.specs.Within.{TakesAtMost};
 ghost use Rattle.service_run.specs.declared.ending.Ending.{Ending};
 ghost use Rattle.undo_run.specs.Undoing.{Undoes, stopped_command};
 
@@ -22,7 +24,8 @@ use std::alloc::Global;
 ///
 /// What they left is in memory, and the next commit keeps it; lines of marks that were not told yet are in the command. An error ends it:
 /// `Memory` may come at any time, and comes where there are more than 2^48 recoveries; `Disk` and `Sink` come where one of them failed, and
-/// `Worn` where the numbers of vault files or the room behind the log have run out. Draws at most 2^120 moments.
+/// `Worn` where the numbers of vault files or the room behind the log have run out. Draws at most 2^120 moments; where the grid
+/// is within its limits, at most 2^20 for each recovery.
 pub fn undo_all<D: Disk, K: Sink, A: Ambient, P: Plugin>(
     alloc: Global,
     store: &mut Store,
@@ -41,7 +44,8 @@ pub fn undo_all<D: Disk, K: Sink, A: Ambient, P: Plugin>(
     ensures none { undo ≡ [] → (result ≡ Ok tt) × (store.new ≡ store.old) × (outside.new ≡ outside.old) × (sink.new ≡ sink.old) × (command.new ≡ command.old) }
     ensures passes { CallsPass D.disk P.plugin K.sink (IsErrOf result Ending.Disk) (IsErrOf result Ending.Sink)
         (record { outside = outside.old; sink = sink.old }) (record { outside = outside.new; sink = sink.new }) }
-    ensures drawn { outside.new.moments ≤ outside.old.moments + 2 ^ 120 }
+    ensures drawn { (each : ℕ) → TakesAtMost (grid_of store.old.cat) each → outside.new.moments ≤ outside.old.moments + length undo * each }
+    ensures bounded { outside.new.moments ≤ outside.old.moments + 2 ^ 120 }
 {
     if undo.as_slice().len() > 1 << 48 {
         return Err(Ending::Memory);

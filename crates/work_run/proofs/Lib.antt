@@ -5,6 +5,7 @@ pub mod Concluded
 pub mod Cut
 pub mod Deeds
 pub mod Ends
+pub mod Drawn
 pub mod Fetched
 pub mod Fetching
 pub mod FromStart

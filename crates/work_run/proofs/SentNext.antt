@@ -47,6 +47,7 @@ use Rattle.work_run.specs.Fetched.{FetchEnds, IsSentFor}
 use Rattle.work_run.specs.Next.{CanGoOn}
 use Rattle.work_run.specs.Works.{DoesSo}
 use Rattle.work_run.proofs.Fetched.{fetch_cut, fetched}
+use Rattle.size_laws.specs.Within.{IsWithin}
 
 -- ---- rows that are others by the pending command alone
 
@@ -74,6 +75,13 @@ module _ (rows later : Journal) (same : later.cat ≡ record rows.cat { pending 
         digest_row = s.digest_row;
       } in
       subst (λ (c : Cat). Sends c user path asked file) (sym same) (its later.cat.pending)
+
+  pub within_so : (result : Result (Result ⊤ Failure) Ending) → IfOk result (λ ran. IsWithin (grid_of rows.cat) → IsWithin (grid_of later.cat))
+  within_so (Ok ran) =
+      let same_grid : grid_of later.cat ≡ grid_of rows.cat = ap grid_of same ∙ grid_pending rows.cat later.cat.pending in
+      let W : Grid → Type 0 = λ g. IsWithin g in
+      λ within. subst W (sym same_grid) within
+  within_so (Err e) = tt
 
   module _ (y z : Command) (command : z ≡ record y { untold = [] }) where
     pub name_same : user_name later.cat z.user ≡ user_name rows.cat y.user

@@ -48,6 +48,6 @@ pub memory_vaults : {T : Type 0} (place : ℕ) → IsErrOf {T = T} {E = Ending} 
 memory_vaults place is = cc is
 
 -- the end of a command is always within what is still to be drawn
-pub draws_five : (a : Option After) → 5 ≤ draws_by a
-draws_five None = omega arith
-draws_five (Some a) = omega arith
+pub draws_five : (each : ℕ) (a : Option After) → 5 ≤ draws_by each a
+draws_five each None = omega arith
+draws_five each (Some a) = omega arith

@@ -45,10 +45,10 @@ abbrev pub begun_by : Option After → ℕ
 begun_by None = 0
 begun_by (Some a) = steps_begun a.frames
 
--- they, and the end behind them, draw at most so many moments
-abbrev pub draws_by : Option After → ℕ
-draws_by None = 5
-draws_by (Some a) = a.left * 2 ^ 65 + 5
+-- they, and the end behind them, draw at most so many moments where each call draws so many
+abbrev pub draws_by : ℕ → Option After → ℕ
+draws_by each None = 5
+draws_by each (Some a) = a.left * each + 5
 
 -- they are run for this user
 abbrev pub AreFor : Option After → Text → Type 0

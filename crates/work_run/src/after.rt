@@ -7,7 +7,7 @@ ghost use Rattle.grid_model.specs.Checks.{first_fault, rules_faults};
 ghost use Rattle.grid_model.specs.Names.{Text as TextOf};
 ghost use Rattle.grid_model.specs.Parsed.{rule_of};
 ghost use Rattle.grid_model.specs.Points.{Point};
-ghost use Rattle.grid_model.specs.RowGrids.{user_name};
+ghost use Rattle.grid_model.specs.RowGrids.{user_name, grid_of};
 ghost use Rattle.grid_model.specs.Rows.{Cat};
 ghost use Rattle.grid_model.specs.Runs.{Request};
 ghost use Rattle.grid_model.specs.Sessions.{State};
@@ -16,6 +16,7 @@ ghost use Rattle.grid_model.specs.Writable.{is_word};
 ghost use Rattle.grid_model.specs.declared.marks.Mark.{Mark};
 ghost use Rattle.grid_deed.specs.Held.{IsHeld};
 ghost use Rattle.grid_headline.specs.Files.{IsKnown};
+ghost use Rattle.size_laws.specs.Within.{TakesAtMost};
 ghost use Rattle.chain_core.specs.Rest.{steps_begun};
 ghost use Rattle.chain_core.specs.Seen.{rules_of};
 ghost use Rattle.point_laws.specs.Works.{IsAskedSo, Work};
@@ -77,7 +78,7 @@ pub(crate) fn finish_work<D: Disk, K: Sink, A: Ambient, P: Plugin>(
     requires shown { IsTrue (list_all is_word words) }
     requires rows { IsTrue (list_all (list_all is_word) rows) }
     requires checked { first_fault (rules_faults (map rule_of rules.now.rules)) ≡ None }
-    requires ready { AreReady D.disk P.plugin K.sink (draws_by after) (record { outside = outside.old; sink = sink.old }) }
+    requires ready { AreReady D.disk P.plugin K.sink (draws_by (2 ^ 65) after) (record { outside = outside.old; sink = sink.old }) }
     ensures executes { (source : SourceState) (at : State) (request : Request) (before : Cat) (x : Command) (from : Seen D A P K) (taken : List Mark)
         (user : TextOf) (w : Work) (p : Option Point) (text_of : List Mark → TextOf) (sent : Option Sent) → IsAsked at request before x →
         DoesSo at request user w → IsAskedSo w → RunsAfter at request (rules_of rules.now) after p →
@@ -91,7 +92,7 @@ pub(crate) fn finish_work<D: Disk, K: Sink, A: Ambient, P: Plugin>(
     ensures passes { CallsPass D.disk P.plugin K.sink (IsErrOf result Ending.Disk) (IsErrOf result Ending.Sink)
         (record { outside = outside.old; sink = sink.old }) (record { outside = outside.new; sink = sink.new }) }
     ensures idle { after ≡ None → HasNothing store.old command → (outside.new.main ≡ outside.old.main) × (outside.new.stores ≡ outside.old.stores) }
-    ensures drawn { outside.new.moments ≤ outside.old.moments + draws_by after }
+    ensures drawn { (each : ℕ) → TakesAtMost (grid_of store.old.cat) each → outside.new.moments ≤ outside.old.moments + draws_by each after }
 {
     match after {
         Some(after) => end_work(
@@ -134,7 +135,7 @@ fn end_work<D: Disk, K: Sink, A: Ambient, P: Plugin>(
         Executes D.disk A.ambient P.plugin K.sink source at request before x from (record { outside = outside.new; sink = sink.new }) result store.new }
     ensures passes { CallsPass D.disk P.plugin K.sink (IsErrOf result Ending.Disk) (IsErrOf result Ending.Sink)
         (record { outside = outside.old; sink = sink.old }) (record { outside = outside.new; sink = sink.new }) }
-    ensures drawn { outside.new.moments ≤ outside.old.moments + (after.left * 2 ^ 65 + 5) }
+    ensures drawn { (each : ℕ) → TakesAtMost (grid_of store.old.cat) each → outside.new.moments ≤ outside.old.moments + (after.left * each + 5) }
 {
     names_halt();
     names_are_stopped();

@@ -1,4 +1,4 @@
-ghost use Rattle.std.specs.Prelude.{◌≡◌, ℕ, ◌+◌, ◌^◌, ◌≤◌, [], Err, IsErrOf, IsTrue, None, map, vec_len};
+ghost use Rattle.std.specs.Prelude.{◌≡◌, ℕ, ◌+◌, ◌^◌, ◌≤◌, [], Err, IsErrOf, IsTrue, None, map, vec_len, ◌*◌};
 ghost use Rattle.grid_outside.specs.Source.{SourceState};
 ghost use Rattle.grid_model.specs.Applying.{is_user};
 ghost use Rattle.grid_model.specs.Checks.{first_fault, rules_faults};
@@ -6,11 +6,12 @@ ghost use Rattle.grid_model.specs.Deltas.{text as text_part};
 ghost use Rattle.grid_model.specs.Parsed.{rule_of};
 ghost use Rattle.grid_model.specs.QueryOrders.{ReadsQuery};
 ghost use Rattle.grid_model.specs.Refusing.{Or};
-ghost use Rattle.grid_model.specs.RowGrids.{user_name};
+ghost use Rattle.grid_model.specs.RowGrids.{user_name, grid_of};
 ghost use Rattle.grid_model.specs.Runs.{Request};
 ghost use Rattle.grid_model.specs.Sessions.{State};
 ghost use Rattle.grid_model.specs.declared.queries.Query.{Query};
 ghost use Rattle.grid_deed.specs.Held.{IsHeld};
+ghost use Rattle.size_laws.specs.Within.{IsWithin};
 ghost use Rattle.chain_core.specs.Seen.{rules_of};
 ghost use Rattle.run_laws.specs.Passes.{AreReady, CallsPass};
 ghost use Rattle.service_run.specs.declared.ending.Ending.{Ending};
@@ -33,7 +34,8 @@ use std::alloc::{AllocError, Global};
 /// checked ones.
 ///
 /// An error ends the command: `Memory` may come at any time, `Disk` and `Sink` where one of them failed, and `Worn` where the numbers of
-/// vault files or the room behind the log have run out. Draws at most 2^79 moments.
+/// vault files or the room behind the log have run out. Draws at most 2^79 moments, and at most 2^34 where the
+/// grid is within its limits.
 pub fn ask<D: Disk, K: Sink, A: Ambient, P: Plugin>(
     alloc: Global,
     store: &mut Store,
@@ -64,6 +66,7 @@ pub fn ask<D: Disk, K: Sink, A: Ambient, P: Plugin>(
     // Without rules the numbers of vault files do not run out.
     ensures files { (place : ℕ) → rules_of rules.now ≡ [] → result ≡ Err (Ending.Worn Wear.Vaults place) → ⊥ }
     ensures drawn { outside.new.moments ≤ outside.old.moments + 2 ^ 79 }
+    ensures few { IsWithin (grid_of store.old.cat) → outside.new.moments ≤ outside.old.moments + 2 ^ 34 }
 {
     names_complete();
     pre_ends();

@@ -1,14 +1,15 @@
 //! The rules before an operation or a query.
-ghost use Rattle.std.specs.Prelude.{◌≡◌, ◌+◌, ◌^◌, ◌≤◌, IsErrOf, IsTrue, None, Some, [], Err, false, map, vec_len};
+ghost use Rattle.std.specs.Prelude.{◌≡◌, ◌+◌, ◌^◌, ◌≤◌, IsErrOf, IsTrue, None, Some, [], Err, false, map, vec_len, ℕ, ◌*◌};
 ghost use Rattle.grid_outside.specs.Source.{SourceState};
 ghost use Rattle.grid_model.specs.Applying.{is_user};
 ghost use Rattle.grid_model.specs.Checks.{first_fault, rules_faults};
 ghost use Rattle.grid_model.specs.Parsed.{rule_of};
 ghost use Rattle.grid_model.specs.Points.{Point};
-ghost use Rattle.grid_model.specs.RowGrids.{user_name};
+ghost use Rattle.grid_model.specs.RowGrids.{user_name, grid_of};
 ghost use Rattle.grid_model.specs.Runs.{Request};
 ghost use Rattle.grid_model.specs.Sessions.{State};
 ghost use Rattle.grid_deed.specs.Held.{IsHeld};
+ghost use Rattle.size_laws.specs.Within.{TakesAtMost};
 ghost use Rattle.chain_core.specs.Rest.{steps_begun, took_stop};
 ghost use Rattle.chain_core.specs.Seen.{rules_of};
 ghost use Rattle.point_laws.specs.Works.{Work};
@@ -76,7 +77,7 @@ pub(crate) fn run_before<D: Disk, K: Sink, A: Ambient, P: Plugin>(
         (record { outside = outside.old; sink = sink.old }) (record { outside = outside.new; sink = sink.new }) result store.new }
     ensures passes { CallsPass D.disk P.plugin K.sink (IsErrOf result Ending.Disk) (IsErrOf result Ending.Sink)
         (record { outside = outside.old; sink = sink.old }) (record { outside = outside.new; sink = sink.new }) }
-    ensures drawn { outside.new.moments ≤ outside.old.moments + 2 ^ 79 }
+    ensures drawn { (each : ℕ) → TakesAtMost (grid_of store.old.cat) each → outside.new.moments ≤ outside.old.moments + 2 ^ 14 * each }
 {
     names_halt();
     names_are_stopped();

@@ -12,6 +12,7 @@ ghost use Rattle.grid_model.specs.Runs.{Request};
 ghost use Rattle.grid_model.specs.Sessions.{State};
 ghost use Rattle.grid_model.specs.declared.marks.Mark.{Mark};
 ghost use Rattle.grid_deed.specs.Held.{IsHeld};
+ghost use Rattle.size_laws.specs.Within.{TakesAtMost};
 ghost use Rattle.chain_core.specs.Seen.{rules_of};
 ghost use Rattle.point_laws.specs.Works.{Work};
 ghost use Rattle.row_run.specs.Verbs.{HasGoodWords};
@@ -62,7 +63,7 @@ pub(crate) fn do_work<D: Disk, K: Sink, A: Ambient, P: Plugin>(
     requires words { HasGoodWords verb.now }
     requires verb { HasWork verb.now body.now }
     requires checked { first_fault (rules_faults (map rule_of rules.now.rules)) ≡ None }
-    requires ready { AreReady D.disk P.plugin K.sink (2 ^ 65 + draws_by after) (record { outside = outside.old; sink = sink.old }) }
+    requires ready { AreReady D.disk P.plugin K.sink (2 ^ 65 + draws_by (2 ^ 65) after) (record { outside = outside.old; sink = sink.old }) }
     ensures executes { (source : SourceState) (at : State) (request : Request) (before : Cat) (x : Command) (from : Seen D A P K) (taken : List Mark)
         (w : Work) (p : Option Point) → IsAsked at request before x → WorksAs verb.now body.now w → DoesSo at request (user_name store.old.cat command.user) w →
         RunsAfter at request (rules_of rules.now) after p →
@@ -80,7 +81,7 @@ pub(crate) fn do_work<D: Disk, K: Sink, A: Ambient, P: Plugin>(
         (outside.new.main ≡ outside.old.main) × (outside.new.stores ≡ outside.old.stores) }
     // Without them the numbers of vault files run out only in an operation that makes files.
     ensures files { (count place : ℕ) → after ≡ None → result ≡ Err (Ending.Worn Wear.Vaults place) → MayMakeFile count verb.now body.now }
-    ensures drawn { outside.new.moments ≤ outside.old.moments + (2 ^ 65 + draws_by after) }
+    ensures drawn { (each : ℕ) → TakesAtMost (grid_of store.old.cat) each → outside.new.moments ≤ outside.old.moments + (each + draws_by each after) }
 {
     if is_call(verb) {
         return call_for(

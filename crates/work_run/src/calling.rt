@@ -15,6 +15,7 @@ ghost use Rattle.grid_model.specs.Sessions.{State};
 ghost use Rattle.grid_model.specs.declared.marks.Mark.{Mark};
 ghost use Rattle.grid_model.specs.declared.refusal.Refusal.{Refusal as RefusalOf};
 ghost use Rattle.grid_deed.specs.Held.{IsHeld};
+ghost use Rattle.size_laws.specs.Within.{TakesAtMost};
 ghost use Rattle.chain_core.specs.Seen.{rules_of};
 ghost use Rattle.point_laws.specs.Works.{operation};
 ghost use Rattle.row_run.specs.Verbs.{HasGoodWords, WorksBy};
@@ -68,7 +69,7 @@ pub(crate) fn call_for<D: Disk, K: Sink, A: Ambient, P: Plugin>(
     requires verb { (op : Operation) × WorksBy verb.now body.now op }
     requires call { is_call verb.now ≡ true }
     requires checked { first_fault (rules_faults (map rule_of rules.now.rules)) ≡ None }
-    requires ready { AreReady D.disk P.plugin K.sink (2 ^ 65 + draws_by after) (record { outside = outside.old; sink = sink.old }) }
+    requires ready { AreReady D.disk P.plugin K.sink (2 ^ 65 + draws_by (2 ^ 65) after) (record { outside = outside.old; sink = sink.old }) }
     ensures executes { (source : SourceState) (at : State) (request : Request) (before : Cat) (x : Command) (from : Seen D A P K) (taken : List Mark)
         (op : Operation) (p : Option Point) → IsAsked at request before x → WorksBy verb.now body.now op → DoesSo at request (user_name store.old.cat command.user) (operation op) →
         RunsAfter at request (rules_of rules.now) after p →
@@ -87,7 +88,7 @@ pub(crate) fn call_for<D: Disk, K: Sink, A: Ambient, P: Plugin>(
     // Without them the numbers of vault files run out only in an operation that makes files.
     ensures files { (op : Operation) (count place : ℕ) → WorksBy verb.now body.now op → after ≡ None →
         IsErrOf result (Ending.Worn Wear.Vaults place) → MakesFile (works op count) }
-    ensures drawn { outside.new.moments ≤ outside.old.moments + (2 ^ 65 + draws_by after) }
+    ensures drawn { (each : ℕ) → TakesAtMost (grid_of store.old.cat) each → outside.new.moments ≤ outside.old.moments + (each + draws_by each after) }
 {
     work_ends();
     works_end_by_rows();

@@ -17,6 +17,7 @@ ghost use Rattle.grid_model.specs.declared.marks.Mark.{Mark};
 ghost use Rattle.grid_model.specs.declared.refusal.Refusal.{Refusal as RefusalOf};
 ghost use Rattle.grid_model.specs.Writable.{is_word};
 ghost use Rattle.grid_deed.specs.Held.{IsHeld};
+ghost use Rattle.size_laws.specs.Within.{TakesAtMost, IsWithin};
 ghost use Rattle.chain_core.specs.Seen.{rules_of};
 ghost use Rattle.plan_object.specs.Sending.{Sends};
 ghost use Rattle.point_laws.specs.Works.{operation};
@@ -75,7 +76,7 @@ pub(crate) fn get_for<D: Disk, K: Sink, A: Ambient, P: Plugin>(
     requires slots { store.old.cat.stores ≡ vec_len outside.old.stores }
     requires asked { IsWordIfAny (option_copied asked) }
     requires checked { first_fault (rules_faults (map rule_of rules.now.rules)) ≡ None }
-    requires ready { AreReady D.disk P.plugin K.sink (2 ^ 65 + draws_by after) (record { outside = outside.old; sink = sink.old }) }
+    requires ready { AreReady D.disk P.plugin K.sink (2 ^ 65 + draws_by (2 ^ 65) after) (record { outside = outside.old; sink = sink.old }) }
     ensures executes { (source : SourceState) (at : State) (request : Request) (before : Cat) (x : Command) (from : Seen D A P K) (taken : List Mark)
         (p : Option Point) → IsAsked at request before x →
         DoesSo at request (user_name store.old.cat command.user) (operation (get_of path.now (option_copied asked.entry))) →
@@ -95,7 +96,7 @@ pub(crate) fn get_for<D: Disk, K: Sink, A: Ambient, P: Plugin>(
         (outside.new.main ≡ outside.old.main) × (outside.new.stores ≡ outside.old.stores) }
     // Without them what runs out is not the numbers of vault files.
     ensures vaults { (place : ℕ) → after ≡ None → IsErrOf result (Ending.Worn Wear.Vaults place) → ⊥ }
-    ensures drawn { outside.new.moments ≤ outside.old.moments + (2 ^ 65 + draws_by after) }
+    ensures drawn { (each : ℕ) → TakesAtMost (grid_of store.old.cat) each → outside.new.moments ≤ outside.old.moments + (each + draws_by each after) }
 {
     work_ends();
     works_end_by_rows();
@@ -175,12 +176,13 @@ fn fetch<D: Disk, K: Sink, A: Ambient, P: Plugin>(
     ensures next { IfOk result (λ ran. CanGoOn (D.disk outside.new.main) store.new command.new) }
     ensures name { IfOk result (λ ran. user_name store.new.cat command.new.user ≡ user_name store.old.cat command.old.user) }
     ensures stores { IfOk result (λ ran. store.new.cat.stores ≡ store.old.cat.stores) }
+    ensures within { IfOk result (λ ran. IsWithin (grid_of store.old.cat) → IsWithin (grid_of store.new.cat)) }
     // It took a mark.
     ensures marks { IfOk result (λ ran. command.new.marks ≡ [] → ⊥) }
     ensures vaults { (place : ℕ) → IsErrOf result (Ending.Worn Wear.Vaults place) → ⊥ }
     ensures passes { CallsPass D.disk P.plugin K.sink (IsErrOf result Ending.Disk) (IsErrOf result Ending.Sink)
         (record { outside = outside.old; sink = sink.old }) (record { outside = outside.new; sink = sink.new }) }
-    ensures drawn { outside.new.moments ≤ outside.old.moments + 2 ^ 65 }
+    ensures drawn { (each : ℕ) → TakesAtMost (grid_of store.old.cat) each → outside.new.moments ≤ outside.old.moments + each }
 {
     after_work_ends();
     after_work_sends();

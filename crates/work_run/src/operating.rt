@@ -1,4 +1,4 @@
-ghost use Rattle.std.specs.Prelude.{◌≡◌, ℕ, ◌+◌, ◌^◌, ◌≤◌, [], Err, IsErrOf, IsTrue, None, map, vec_len};
+ghost use Rattle.std.specs.Prelude.{◌≡◌, ℕ, ◌+◌, ◌^◌, ◌≤◌, [], Err, IsErrOf, IsTrue, None, map, vec_len, ◌*◌};
 ghost use Rattle.grid_outside.specs.Source.{SourceState};
 ghost use Rattle.grid_model.specs.Applying.{is_user};
 ghost use Rattle.grid_model.specs.Checks.{first_fault, rules_faults};
@@ -11,6 +11,7 @@ ghost use Rattle.grid_model.specs.Runs.{Request};
 ghost use Rattle.grid_model.specs.Sessions.{State};
 ghost use Rattle.grid_model.specs.declared.refusal.Refusal.{Refusal as RefusalOf};
 ghost use Rattle.grid_deed.specs.Held.{IsHeld};
+ghost use Rattle.size_laws.specs.Within.{IsWithin};
 ghost use Rattle.chain_core.specs.Seen.{rules_of};
 ghost use Rattle.point_laws.specs.Works.{operation};
 ghost use Rattle.row_run.specs.Verbs.{HasGoodWords, WorksBy};
@@ -34,7 +35,8 @@ use std::alloc::Global;
 /// are read. `body` is what a put puts. The command has no mark, and the rules are checked ones.
 ///
 /// An error ends the command: `Memory` may come at any time, `Disk` and `Sink` where one of them failed, and `Worn` where the numbers of
-/// vault files or the room behind the log have run out. Draws at most 2^79 moments.
+/// vault files or the room behind the log have run out. Draws at most 2^79 moments, and at most 2^34 where the
+/// grid is within its limits.
 pub fn operate<D: Disk, K: Sink, A: Ambient, P: Plugin>(
     alloc: Global,
     store: &mut Store,
@@ -71,6 +73,7 @@ pub fn operate<D: Disk, K: Sink, A: Ambient, P: Plugin>(
     ensures files { (op : Operation) (count place : ℕ) → WorksBy verb.now body.now op → rules_of rules.now ≡ [] →
         result ≡ Err (Ending.Worn Wear.Vaults place) → MakesFile (works op count) }
     ensures drawn { outside.new.moments ≤ outside.old.moments + 2 ^ 79 }
+    ensures few { IsWithin (grid_of store.old.cat) → outside.new.moments ≤ outside.old.moments + 2 ^ 34 }
 {
     let frames = Frames::new(alloc);
     begin(

@@ -1,5 +1,5 @@
 //! An operation or a query whose point has rules.
-ghost use Rattle.std.specs.Prelude.{◌≡◌, ◌+◌, ◌^◌, ◌≤◌, [], Err, IsErrOf, IsTrue, List, None, Some, false, codes, map, vec_len};
+ghost use Rattle.std.specs.Prelude.{◌≡◌, ◌+◌, ◌^◌, ◌≤◌, [], Err, IsErrOf, IsTrue, List, None, Some, false, codes, map, vec_len, ℕ, ◌*◌};
 ghost use Rattle.grid_outside.specs.Source.{SourceState};
 ghost use Rattle.grid_model.specs.Applying.{is_user};
 ghost use Rattle.grid_model.specs.Checks.{first_fault, rules_faults};
@@ -8,6 +8,7 @@ ghost use Rattle.grid_model.specs.RowGrids.{grid_of, user_name};
 ghost use Rattle.grid_model.specs.Runs.{Request};
 ghost use Rattle.grid_model.specs.Sessions.{State};
 ghost use Rattle.grid_deed.specs.Held.{IsHeld};
+ghost use Rattle.size_laws.specs.Within.{TakesAtMost};
 ghost use Rattle.chain_core.specs.Rest.{steps_begun, took_stop};
 ghost use Rattle.chain_core.specs.Seen.{rules_of};
 ghost use Rattle.point_laws.specs.Works.{Work};
@@ -66,7 +67,7 @@ pub(crate) fn do_ruled<D: Disk, K: Sink, A: Ambient, P: Plugin>(
         (record { outside = outside.old; sink = sink.old }) (record { outside = outside.new; sink = sink.new }) result store.new }
     ensures passes { CallsPass D.disk P.plugin K.sink (IsErrOf result Ending.Disk) (IsErrOf result Ending.Sink)
         (record { outside = outside.old; sink = sink.old }) (record { outside = outside.new; sink = sink.new }) }
-    ensures drawn { outside.new.moments ≤ outside.old.moments + 2 ^ 79 }
+    ensures drawn { (each : ℕ) → TakesAtMost (grid_of store.old.cat) each → outside.new.moments ≤ outside.old.moments + 2 ^ 14 * each }
 {
     names_complete();
     pre_ends();

@@ -17,6 +17,7 @@ ghost use Rattle.grid_model.specs.declared.marks.Mark.{Mark};
 ghost use Rattle.grid_model.specs.declared.queries.Query.{Query};
 ghost use Rattle.grid_model.specs.Writable.{is_word};
 ghost use Rattle.grid_deed.specs.Held.{IsHeld};
+ghost use Rattle.size_laws.specs.Within.{TakesAtMost};
 ghost use Rattle.chain_core.specs.Seen.{rules_of};
 ghost use Rattle.point_laws.specs.Works.{query};
 ghost use Rattle.run_laws.specs.Passes.{AreReady, CallsPass, Seen};
@@ -65,7 +66,7 @@ pub(crate) fn show_for<D: Disk, K: Sink, A: Ambient, P: Plugin>(
     requires keepable { IsKeepable command × AreKeepable command [] }
     requires slots { store.old.cat.stores ≡ vec_len outside.old.stores }
     requires checked { first_fault (rules_faults (map rule_of rules.now.rules)) ≡ None }
-    requires ready { AreReady D.disk P.plugin K.sink (2 ^ 65 + draws_by after) (record { outside = outside.old; sink = sink.old }) }
+    requires ready { AreReady D.disk P.plugin K.sink (2 ^ 65 + draws_by (2 ^ 65) after) (record { outside = outside.old; sink = sink.old }) }
     ensures executes { (source : SourceState) (at : State) (request : Request) (before : Cat) (x : Command) (from : Seen D A P K) (taken : List Mark)
         (q : Or Query) (p : Option Point) → IsAsked at request before x → ReadsQuery text.now q → DoesSo at request (user_name store.old.cat command.user) (query q) →
         RunsAfter at request (rules_of rules.now) after p →
@@ -81,7 +82,7 @@ pub(crate) fn show_for<D: Disk, K: Sink, A: Ambient, P: Plugin>(
     ensures idle { after ≡ None → HasNothing store.old command → (outside.new.main ≡ outside.old.main) × (outside.new.stores ≡ outside.old.stores) }
     // Without them what runs out is not the numbers of vault files.
     ensures vaults { (place : ℕ) → after ≡ None → IsErrOf result (Ending.Worn Wear.Vaults place) → ⊥ }
-    ensures drawn { outside.new.moments ≤ outside.old.moments + (2 ^ 65 + draws_by after) }
+    ensures drawn { (each : ℕ) → TakesAtMost (grid_of store.old.cat) each → outside.new.moments ≤ outside.old.moments + (each + draws_by each after) }
 {
     work_ends();
     works_end_by_rows();

@@ -1,5 +1,5 @@
 //! A request that is begun: with the rules of its point, or without.
-ghost use Rattle.std.specs.Prelude.{◌≡◌, ℕ, ◌+◌, ◌^◌, ◌≤◌, [], Err, IsErrOf, IsTrue, None, false, map, vec_len};
+ghost use Rattle.std.specs.Prelude.{◌≡◌, ℕ, ◌+◌, ◌^◌, ◌≤◌, [], Err, IsErrOf, IsTrue, None, false, map, vec_len, ◌*◌};
 ghost use Rattle.grid_outside.specs.Source.{SourceState};
 ghost use Rattle.grid_model.specs.Applying.{is_user};
 ghost use Rattle.grid_model.specs.Checks.{first_fault, rules_faults};
@@ -9,6 +9,7 @@ ghost use Rattle.grid_model.specs.RowGrids.{grid_of, user_name};
 ghost use Rattle.grid_model.specs.Runs.{Request};
 ghost use Rattle.grid_model.specs.Sessions.{State};
 ghost use Rattle.grid_deed.specs.Held.{IsHeld};
+ghost use Rattle.size_laws.specs.Within.{TakesAtMost};
 ghost use Rattle.chain_core.specs.Rest.{steps_begun, took_stop};
 ghost use Rattle.chain_core.specs.Seen.{rules_of};
 ghost use Rattle.point_laws.specs.Works.{Work};
@@ -70,7 +71,7 @@ pub(crate) fn begin<D: Disk, K: Sink, A: Ambient, P: Plugin>(
     // Without rules the numbers of vault files run out only in an operation that makes files.
     ensures files { (count place : ℕ) → rules_of rules.now ≡ [] → result ≡ Err (Ending.Worn Wear.Vaults place) →
         MayMakeFile count verb.now body.now }
-    ensures drawn { outside.new.moments ≤ outside.old.moments + 2 ^ 79 }
+    ensures drawn { (each : ℕ) → TakesAtMost (grid_of store.old.cat) each → outside.new.moments ≤ outside.old.moments + 2 ^ 14 * each }
 {
     names_complete();
     pre_ends();

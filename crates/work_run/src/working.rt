@@ -14,6 +14,7 @@ ghost use Rattle.grid_model.specs.declared.refusal.Refusal.{Refusal as RefusalOf
 ghost use Rattle.grid_deed.specs.Held.{IsHeld};
 ghost use Rattle.row_run.specs.Verbs.{HasGoodWords, WorksBy};
 ghost use Rattle.grid_headline.specs.Numbers.{last_vault};
+ghost use Rattle.size_laws.specs.Within.{TakesAtMost};
 ghost use Rattle.run_laws.specs.Around.{around};
 ghost use Rattle.run_laws.specs.Ends.{MakesFile};
 ghost use Rattle.run_laws.specs.Passes.{AreReady, CallsPass};
@@ -88,7 +89,7 @@ pub(crate) fn work<D: Disk, K: Sink, A: Ambient, P: Plugin>(
         IfOk result (λ ran. store.old.cat.numbers.next_vault ≤ last_vault) }
     ensures passes { CallsPass D.disk P.plugin K.sink (IsErrOf result Ending.Disk) (IsErrOf result Ending.Sink)
         (record { outside = outside.old; sink = sink.old }) (record { outside = outside.new; sink = sink.new }) }
-    ensures drawn { outside.new.moments ≤ outside.old.moments + 2 ^ 65 }
+    ensures drawn { (each : ℕ) → TakesAtMost (grid_of store.old.cat) each → outside.new.moments ≤ outside.old.moments + each }
 {
     are_short(command);
     dispatch(alloc, store, outside, sink, command, verb, body)
@@ -130,7 +131,7 @@ fn dispatch<D: Disk, K: Sink, A: Ambient, P: Plugin>(
         IfOk result (λ ran. store.old.cat.numbers.next_vault ≤ last_vault) }
     ensures passes { CallsPass D.disk P.plugin K.sink (IsErrOf result Ending.Disk) (IsErrOf result Ending.Sink)
         (record { outside = outside.old; sink = sink.old }) (record { outside = outside.new; sink = sink.new }) }
-    ensures drawn { outside.new.moments ≤ outside.old.moments + 2 ^ 65 }
+    ensures drawn { (each : ℕ) → TakesAtMost (grid_of store.old.cat) each → outside.new.moments ≤ outside.old.moments + each }
 {
     if changes_rows(verb) {
         return change_rows(alloc, store, outside, sink, command, verb);

@@ -1,4 +1,4 @@
-use Rattle.std.proofs.Common.{Err, length, refl, sym, ap, ◌∙◌, subst}
+use Rattle.std.proofs.Common.{Err, length, refl, sym, ap, ◌∙◌, subst, arith}
 use Rattle.std.specs.Prelude.{⊤, Result, IsErrOf}
 use Rattle.grid_outside.specs.declared.outside.Wear.TheVariants as wear
 use Rattle.grid_model.specs.Working.{running}
@@ -116,3 +116,17 @@ returns-clause-number g c = where_ok c.put_found.result (c.spent_vaults.ensures.
 
 pub returns-in-Err-Refused-clause-number : goal.returns-in-Err-Refused-clause-number
 returns-in-Err-Refused-clause-number g c = c.spent_vaults.ensures.left c.in-None.is
+
+-- ---- how many moments it takes
+
+pub returns-in-Some-clause-drawn : goal.returns-in-Some-clause-drawn
+returns-in-Some-clause-drawn g c each most = omega arith
+
+pub returns-in-Err-Refused-clause-drawn : goal.returns-in-Err-Refused-clause-drawn
+returns-in-Err-Refused-clause-drawn g c each most = omega arith
+
+pub returns-in-Err-Memory-clause-drawn : goal.returns-in-Err-Memory-clause-drawn
+returns-in-Err-Memory-clause-drawn g c each most = omega arith
+
+pub returns-clause-drawn : goal.returns-clause-drawn
+returns-clause-drawn g c each most = c.put_found.ensures.drawn each most

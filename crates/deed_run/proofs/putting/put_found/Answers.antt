@@ -15,9 +15,12 @@ use Rattle.grid_deed.proofs.Keeping.{made_more}
 use Rattle.run_laws.proofs.OneMark.{gave_untold}
 use Rattle.service_run.specs.declared.ending.Ending.{Ending}
 use Rattle.service_run.specs.declared.ending.Ending.TheVariants as ending
+use Rattle.size_laws.specs.Within.{TakesAtMost}
+use Rattle.service_run.proofs.FewMoments.{ran_within}
 use Rattle.service_run.proofs.Passing.{passes_none, passes_as}
 use Rattle.service_run.proofs.DeedSteps.{grid_before, looks_same}
 use Rattle.service_run.proofs.StillSteps.{step_still}
+use Rattle.deed_run.proofs.SmallFiles.{put_takes}
 use Rattle.deed_run.proofs.PutSteps.{plan_as, put_step}
 use Rattle.deed_run.proofs.putting.put_found.Goals as goal
 
@@ -132,6 +135,7 @@ returns-clause-step g c source kept d held row_is =
     put_step g.D.Disk.disk ambient g.P.Plugin.plugin g.K.Sink.sink source o n c.now-now.new.self c.args.sink.now c.write_marked.new.sink kept rows x call undo
     c.requires.user s1 s.cat (put_row (grid_of s1.cat) (user_name s1.cat x.user) path resource mode body) _ count_is (omega (arith, c.requires.slots, o.stores.ok.0))
     c.word-word.result c.now-now.result body c.in-Ok-put_plan.plan w c.in-Ok-put_plan.ensures.leaves
+    (ran_within s1.cat cat (user_name s1.cat x.user) (put path resource mode body) w.of (grid_before cat x call undo s1.cat s.cat) w.row_is c.word-word.result c.now-now.result [])
     (ambient c.word-word.new.self) c.word-word.ensures (subst T (sym write.ambient) c.now-now.ensures) write.passes.frame.stores
     d (subst N (sym s.cat) (ap (λ (grid : Grid). put_row grid (user_name cat x.user) path resource mode body) (grid_before cat x call undo s1.cat s.cat) ∙ row_is))
     c.write_marked.result c.write_marked.new.command c.write_marked.new.store (write.marked kept s.held p) (write.whole kept s.held)
@@ -142,3 +146,27 @@ returns-clause-passes g c =
 
 pub returns-clause-untouched : goal.returns-clause-untouched
 returns-clause-untouched g c place is = absurd (c.write_marked.ensures.left place is)
+
+-- ---- how many moments it takes
+
+pub returns-in_default-clause-drawn : goal.returns-in_default-clause-drawn
+returns-in_default-clause-drawn g c each most = omega arith
+
+pub returns-in_default-put_plan-clause-drawn : goal.returns-in_default-put_plan-clause-drawn
+returns-in_default-put_plan-clause-drawn g c each most = omega arith
+
+pub returns-clause-drawn : goal.returns-clause-drawn
+returns-clause-drawn g c each most =
+    let x = c.args.command.now in
+    let cat = c.args.store.now.cat in
+    let path = c.args.path.now in
+    let resource = c.args.resource.now in
+    let mode = c.args.mode in
+    let body = c.args.body.now in
+    let s = c.in-Ok.ensures c.requires.held.0 c.requires.held.1 in
+    let s1 = c.announce_put.new.store in
+    let T : Grid → Type 0 = λ grid. TakesAtMost grid each in
+    let takes = put_takes s1.cat (made_more c.requires.held.0 s1.cat s1.staged s.held.made s.held.staged) (user_name s1.cat x.user) path resource mode body
+    c.word-word.result c.now-now.result c.in-Ok-put_plan.plan c.in-Ok-put_plan.ensures.plans c.in-Ok-put_plan.ensures.leaves c.write_marked.ensures.few each
+    (subst T (sym (grid_before cat x (running (put path resource mode body)) c.args.undo.now s1.cat s.cat)) most) in
+    omega (arith, c.write_marked.ensures.drawn, takes)

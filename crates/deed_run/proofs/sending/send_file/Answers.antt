@@ -146,3 +146,17 @@ returns-clause-passes g c =
     let r : Result (Result ⊤ Failure) Ending = Ok c.sent_ran.result in
     passes_sent g.D.Disk.disk g.P.Plugin.plugin g.K.Sink.sink (IsErrOf r ending.Disk) (IsErrOf r ending.Sink) c.args.file.now.slot o n c.args.sink.now c.send.new.sink (λ e. cc) refl refl c.send.ensures.drawn_from
     c.send.ensures.any_moment c.send.ensures.last c.send.ensures.sink_last (goes_between o.moments n.moments Grows (g.K.Sink.sink c.args.sink.now) (g.K.Sink.sink c.send.new.sink) c.in-Ok.ensures.sent.holds.lines.puts.span) (λ e. absurd (cc))
+
+-- ---- how many moments it takes
+
+pub returns-in-Err-Sink-clause-few : goal.returns-in-Err-Sink-clause-few
+returns-in-Err-Sink-clause-few g c = c.send.ensures.drawn
+
+pub returns-in-Err-Memory-clause-few : goal.returns-in-Err-Memory-clause-few
+returns-in-Err-Memory-clause-few g c = c.send.ensures.drawn
+
+pub returns-in_default-clause-few : goal.returns-in_default-clause-few
+returns-in_default-clause-few g c = c.send.ensures.drawn
+
+pub returns-clause-few : goal.returns-clause-few
+returns-clause-few g c = c.send.ensures.drawn

@@ -51,7 +51,7 @@ returns-clause-passes g c =
     (λ is. (let same : ending.Disk ≡ ending.Memory = c.chksum.ensures.errors ending.Disk is in cc)) (λ is. (let same : ending.Sink ≡ ending.Memory = c.chksum.ensures.errors ending.Sink is in cc)) c.chksum.ensures.passes
 
 pub returns-clause-drawn : goal.returns-clause-drawn
-returns-clause-drawn g c = omega (arith, c.chksum.ensures.drawn)
+returns-clause-drawn g c each most = omega (arith, c.chksum.ensures.drawn)
 
 -- ---- it is refused
 
@@ -78,3 +78,9 @@ returns-in-Err-Memory-clause-step g c source kept held =
 
 pub returns-in-Err-Memory-clause-passes : goal.returns-in-Err-Memory-clause-passes
 returns-in-Err-Memory-clause-passes g c = passes_none g.D.Disk.disk g.P.Plugin.plugin g.K.Sink.sink _ _ c.args.outside.now c.args.outside.now.ambient c.args.sink.now (λ e. cc) (λ e. cc)
+
+pub returns-in-Err-Refused-clause-drawn : goal.returns-in-Err-Refused-clause-drawn
+returns-in-Err-Refused-clause-drawn g c each most = omega arith
+
+pub returns-in-Err-Memory-clause-drawn : goal.returns-in-Err-Memory-clause-drawn
+returns-in-Err-Memory-clause-drawn g c each most = omega arith

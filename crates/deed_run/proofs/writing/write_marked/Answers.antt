@@ -61,3 +61,23 @@ returns-clause-marked g c kept held p =
       };
       leaves = it.leaves;
     }
+
+-- ---- how many moments it takes
+
+pub returns-in-Err-clause-drawn : goal.returns-in-Err-clause-drawn
+returns-in-Err-clause-drawn g c = c.in-Err.ensures.drawn
+
+pub returns-in-Err-clause-few : goal.returns-in-Err-clause-few
+returns-in-Err-clause-few g c = c.few_writes.ensures
+
+pub returns-in_default-clause-drawn : goal.returns-in_default-clause-drawn
+returns-in_default-clause-drawn g c = c.in-Ok.ensures.drawn
+
+pub returns-in_default-clause-few : goal.returns-in_default-clause-few
+returns-in_default-clause-few g c = c.few_writes.ensures
+
+pub returns-clause-drawn : goal.returns-clause-drawn
+returns-clause-drawn g c = c.in-Ok.ensures.drawn
+
+pub returns-clause-few : goal.returns-clause-few
+returns-clause-few g c = c.few_writes.ensures

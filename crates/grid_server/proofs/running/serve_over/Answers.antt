@@ -1,4 +1,4 @@
-use Rattle.std.proofs.Common.{◌≡◌, IsTrue, inl, inr, Err, refl, sym, ap, ◌∙◌, subst}
+use Rattle.std.proofs.Common.{◌≡◌, IsTrue, inl, inr, Err, refl, sym, ap, ◌∙◌, subst, arith}
 use Rattle.std.specs.Prelude.{vec_len}
 use Rattle.grid_model.specs.Applying.{apply_all}
 use Rattle.grid_model.specs.Rows.{Cat}
@@ -61,7 +61,8 @@ returns-in-Ok-open_run-clause-serve g c = λ main spare end begin order looked s
     (record { outside = c.args.outside.now; source = c.args.source.now; sink = c.args.sink.now }) main spare) cat end
     (opens_now (record { disk = g.D.Disk.disk; source = g.S.Source.source; sink = g.K.Sink.sink; ambient = g.A.Ambient.ambient; plugin = g.P.Plugin.plugin })
     (record { outside = c.args.outside.now; source = c.args.source.now; sink = c.args.sink.now }) main spare cat begin order looked spare_looked
-    (record { outside = c.open_run.new.outside; source = c.args.source.now; sink = c.open_run.new.sink }) c.open_run.new.store.cat rules opened.0 opened.1) its
+    (record { outside = c.open_run.new.outside; source = c.args.source.now; sink = c.open_run.new.sink }) c.open_run.new.store.cat rules opened.0
+    (λ within. omega (arith, c.in-Ok-open_run.ensures.few within)) opened.1) its
 
 pub returns-in-Ok-open_run-clause-worn : goal.returns-in-Ok-open_run-clause-worn
 returns-in-Ok-open_run-clause-worn g c = λ stores none. elim ((c.in-Ok-open_run.ensures.no_room none).0.1) [ inl e ↦ absurd (cc e) | inr e ↦ absurd (cc e) ]
@@ -90,6 +91,7 @@ returns-in-Err-clause-serve g c = λ main spare end begin order looked spare_loo
     serves_not (record { disk = g.D.Disk.disk; source = g.S.Source.source; sink = g.K.Sink.sink; ambient = g.A.Ambient.ambient; plugin = g.P.Plugin.plugin })
     (record { outside = c.args.outside.now; source = c.args.source.now; sink = c.args.sink.now }) main spare cat begin order looked spare_looked
     (record { outside = c.open_run.new.outside; source = c.args.source.now; sink = c.open_run.new.sink }) c.in-Err.error end opens.0
+    (λ within. omega (arith, c.in-Err.ensures.few within))
     (ap run_end_of (sym c.unopened.ensures) ∙ its) (c.in-Err.ensures.stops c.in-Err.error refl) (λ d. c.in-Err.ensures.passes.frame.cause (ap Err d))
     (λ d. c.in-Err.ensures.passes.sink_cause (ap Err d))
 

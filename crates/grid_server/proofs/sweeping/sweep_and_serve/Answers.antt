@@ -45,7 +45,8 @@ returns-in-Ok-clause-serves g c = λ e found end opened its.
       sink_last = c.requires.ready.sink_last;
       stores_last = c.requires.ready.outside.stores_last;
     })
-    _ c.in-Ok.ensures.frame c.in-Ok.ensures.whole _ c.sweep_orphans.new.self.store.cat c.in-Ok.ensures.leaves c.requires.fits.pending e found opened
+    _ c.in-Ok.ensures.frame c.in-Ok.ensures.whole _ c.sweep_orphans.new.self.store.cat c.in-Ok.ensures.leaves c.in-Ok.ensures.drawn
+    c.requires.fits.pending e found opened
     c.sweep_orphans.new.self c.in-Ok.ensures.leaves.is_now c.in-Ok.ensures.stands c.requires.nobody c.requires.slots c.in-Ok.ensures.few
     (λ none. c.in-Ok.ensures.still none)) its
 
@@ -69,7 +70,8 @@ returns-in-Err-clause-serves g c = λ e found end opened its.
       sink_last = c.requires.ready.sink_last;
       stores_last = c.requires.ready.outside.stores_last;
     })
-    _ c.in-Err.ensures.frame c.in-Err.ensures.whole _ c.sweep_orphans.new.self.store.cat c.in-Err.ensures.leaves c.requires.fits.pending e found opened
+    _ c.in-Err.ensures.frame c.in-Err.ensures.whole _ c.sweep_orphans.new.self.store.cat c.in-Err.ensures.leaves c.in-Err.ensures.drawn
+    c.requires.fits.pending e found opened
     c.in-Err.ending end (ap run_end_of (sym c.status_of.ensures) ∙ its) (λ d. c.in-Err.ensures.frame.cause (ap Err d)) (λ d. c.in-Err.ensures.not_sink (ap Err d))
     (λ what place is told. worn_swept (g.D.Disk.disk c.args.outside.now.main) (g.D.Disk.disk c.sweep_orphans.new.outside.main) what place (c.in-Err.ensures.worn what place (ap Err is)) told)
     (λ place is. not_vaults (c.in-Err.ensures.worn wear.Vaults place (ap Err is)).0)

@@ -2,12 +2,13 @@ use Rattle.std.proofs.Common.{Ok, Err, sym, ap, ◌∙◌, subst}
 use Rattle.std.specs.Prelude.{IsTrue}
 use Rattle.grid_model.specs.Applying.{IsMade, is_user}
 use Rattle.grid_model.specs.Doing.{do_operation}
-use Rattle.grid_model.specs.RowGrids.{user_name}
+use Rattle.grid_model.specs.RowGrids.{grid_of, user_name}
 use Rattle.grid_model.specs.Rows.{Cat}
 use Rattle.grid_model.specs.declared.plans.PlanError.TheVariants as error
 use Rattle.grid_model.specs.declared.refusal.Failure.TheVariants as failure
 use Rattle.grid_journal.specs.Journal.{AreSpelled}
 use Rattle.grid_deed.proofs.Keeping.{made_more}
+use Rattle.size_laws.proofs.SmallRows.{operations_keep_within}
 use Rattle.service_run.proofs.ChangeSteps.{changes_cut, fails_as}
 use Rattle.row_run.proofs.Planned.{leads_on, makes_grid, planned_as, quiet_changes, refused_makes_none, refuses}
 use Rattle.row_run.proofs.changing.change_rows.Goals as goal
@@ -67,6 +68,7 @@ returns-in-Ok-clause-step g c source kept op call undo held verb =
     let name = user_name cat x.user in
     let p = planned_as cat c.tables.result.now c.tables.ensures x.user c.args.verb.now op c.plan.result (Ok c.in-Ok.deltas) c.in-Ok.is c.plan.ensures verb in
     c.change_if_any.ensures.step source kept p.after call undo (do_operation call name op) held (leads_on cat name op c.in-Ok.deltas p) (makes_grid call name op cat c.in-Ok.deltas p)
+    (λ within. (operations_keep_within (grid_of cat) name op within).0 (grid_of p.after) p.row_is)
 
 pub returns-in-Ok-clause-refused : goal.returns-in-Ok-clause-refused
 returns-in-Ok-clause-refused g c op r verb is =

@@ -14,6 +14,7 @@ use Rattle.rule_run.proofs.Settings.{is_setting}
 use Rattle.chain_core.specs.Seen.{rules_of}
 use Rattle.rule_cond.specs.Scopes.{env_of}
 use Rattle.rule_run.proofs.executing.execute.Goals as goal
+use Rattle.size_laws.specs.Within.{few, many}
 
 -- ---- the call
 
@@ -75,7 +76,10 @@ returns-in-Err-clause-passes g c =
     (record { outside = c.run_alone.new.outside; sink = c.run_alone.new.sink }) c.in-Err.ensures.passes
 
 pub returns-in-Err-clause-drawn : goal.returns-in-Err-clause-drawn
-returns-in-Err-clause-drawn g c = omega (arith, c.run_alone.ensures.drawn)
+returns-in-Err-clause-drawn g c = omega (arith, c.run_alone.ensures.drawn (2 ^ 65) many)
+
+pub returns-in-Err-clause-few : goal.returns-in-Err-clause-few
+returns-in-Err-clause-few g c within = omega (arith, c.run_alone.ensures.drawn (2 ^ 20) (few within))
 
 -- ---- it was run to its end
 
@@ -92,7 +96,7 @@ pub finish-requires-clause-ready : goal.finish-requires-clause-ready
 finish-requires-clause-ready g c =
     ready_after g.D.Disk.disk g.P.Plugin.plugin g.K.Sink.sink _ _ (record { outside = c.args.outside.now; sink = c.args.sink.now })
     (record { outside = c.run_alone.new.outside; sink = c.run_alone.new.sink }) (2 ^ 78 + 2 ^ 10) 5 c.run_alone.ensures.passes c.requires.ready
-    (omega (arith, c.run_alone.ensures.drawn))
+    (omega (arith, c.run_alone.ensures.drawn (2 ^ 65) many))
 
 pub returns-clause-executes : goal.returns-clause-executes
 returns-clause-executes g c source at request vs asked values calls makes does =
@@ -136,4 +140,7 @@ returns-clause-passes g c =
     c.finish.ensures.passes
 
 pub returns-clause-drawn : goal.returns-clause-drawn
-returns-clause-drawn g c = omega (arith, c.run_alone.ensures.drawn, c.finish.ensures.drawn)
+returns-clause-drawn g c = omega (arith, c.run_alone.ensures.drawn (2 ^ 65) many, c.finish.ensures.drawn)
+
+pub returns-clause-few : goal.returns-clause-few
+returns-clause-few g c within = omega (arith, c.run_alone.ensures.drawn (2 ^ 20) (few within), c.finish.ensures.drawn)

@@ -90,10 +90,10 @@ returns-clause-passes g c =
     c.run_rule-ran.new.frames (ran g c c.requires.values.0 c.requires.values.1)
 
 pub returns-clause-drawn : goal.returns-clause-drawn
-returns-clause-drawn g c =
+returns-clause-drawn g c each most =
     omega (
       arith,
       draws g.D.Disk.disk g.A.Ambient.ambient g.P.Plugin.plugin g.K.Sink.sink (rules_of c.args.rules.now) (env_of c.args.env.now)
           (alone_from (rules_of c.args.rules.now) (env_of c.args.env.now) c.args.call c.requires.values.0) (entry g c) (last g c) c.ended_by.result
-          c.run_rule-ran.new.frames (ran g c c.requires.values.0 c.requires.values.1),
+          c.run_rule-ran.new.frames (ran g c c.requires.values.0 c.requires.values.1) each most,
     )

@@ -4,7 +4,7 @@ use Rattle.chain_core.specs.Seen.{rules_of}
 use Rattle.rule_cond.specs.Scopes.{env_of}
 use Rattle.rule_run.specs.Calls.{MayGoOn, Spot}
 use Rattle.rule_run.specs.Running.{point_from}
-use Rattle.rule_run.proofs.RunMade.{Ran, draws, holds, keeps, may_begin, passes, ran_to, shows}
+use Rattle.rule_run.proofs.RunMade.{stays, Ran, draws, holds, keeps, may_begin, passes, ran_to, shows}
 use Rattle.rule_run.proofs.Spots.{begins_at, ends_at, place_at, spot, spot_of}
 use Rattle.rule_run.proofs.running.run_point.Goals as goal
 use Rattle.rule_run.proofs.running.run_point.Goals.{After-ended_by}
@@ -86,5 +86,11 @@ returns-clause-passes g c =
 pub returns-clause-drawn : goal.returns-clause-drawn
 returns-clause-drawn g c =
     draws g.D.Disk.disk g.A.Ambient.ambient g.P.Plugin.plugin g.K.Sink.sink (rules_of c.args.rules.now) (env_of c.args.env.now)
+    (point_from (rules_of c.args.rules.now) (env_of c.args.env.now) c.args.name c.args.frames.now) (entry g c) (last g c) c.ended_by.result
+    c.run_point-ran.new.frames (ran g c)
+
+pub returns-clause-within : goal.returns-clause-within
+returns-clause-within g c =
+    stays g.D.Disk.disk g.A.Ambient.ambient g.P.Plugin.plugin g.K.Sink.sink (rules_of c.args.rules.now) (env_of c.args.env.now)
     (point_from (rules_of c.args.rules.now) (env_of c.args.env.now) c.args.name c.args.frames.now) (entry g c) (last g c) c.ended_by.result
     c.run_point-ran.new.frames (ran g c)

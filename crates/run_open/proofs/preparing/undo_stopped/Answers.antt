@@ -1,4 +1,4 @@
-use Rattle.std.proofs.Common.{◌≡◌, ◌≤◌, ℕ, ◌+◌, ◌^◌, [], ◌++◌, length, Option, Some, Ok, Err, IsTrue, refl, sym, ap, ◌∙◌, subst, arith}
+use Rattle.std.proofs.Common.{◌≡◌, ◌≤◌, ℕ, ◌+◌, ◌^◌, [], ◌++◌, length, Option, Some, Ok, Err, IsTrue, refl, sym, ap, ◌∙◌, subst, arith, List, ◌*◌}
 use Rattle.grid_outside.specs.Device.{Between}
 use Rattle.grid_outside.specs.Sink.{AddsPart, SinkState}
 use Rattle.grid_model.specs.Names.{Text}
@@ -18,6 +18,10 @@ use Rattle.run_open.proofs.Passing.{passes-as, passes-told, ready-after}
 use Rattle.run_open.proofs.Undones.{opens-at, prepared-at, stops_so}
 use Rattle.run_open.proofs.Ways.{disk_by, no_source, sink_by, stops_as}
 use Rattle.run_open.proofs.preparing.undo_stopped.Goals as goal
+use Rattle.grid_headline.specs.Moments.{IsWithinLimits, undo_count}
+use Rattle.grid_model.specs.Bounds.{most_steps}
+use Rattle.size_laws.specs.Within.{few}
+use Rattle.grid_model.specs.declared.calls.Call.{Call}
 
 -- the text that is told first
 front_is : (c : Cat) (p : Pending) → c.pending ≡ Some p → joined_texts (report_front (Some p) []) ≡ front_of c
@@ -149,3 +153,23 @@ returns-in-Err-rest_of-clause-passes g c =
 
 pub same-undo : goal.same-undo
 same-undo g c = refl
+
+-- ---- few moments
+
+few_left : (c : Cat) (p : Pending) (undo : List Call) → c.pending ≡ Some p → undo ≡ p.undo → IsWithinLimits c → length undo ≤ most_steps
+few_left c p undo is same within = omega (arith, ap undo_count is, ap length same, within.undo)
+
+pub returns-in-Err-undo_all-clause-few : goal.returns-in-Err-undo_all-clause-few
+returns-in-Err-undo_all-clause-few g c within =
+    let s = c.requires.stopped in
+    omega (arith, c.tell.ensures.drawn, c.undo_all.ensures.drawn (2 ^ 20) (few within.grid), few_left c.args.store.now.cat s.0 c.args.undo s.1 s.3 within)
+
+pub returns-in-Ok-rest_of-clause-few : goal.returns-in-Ok-rest_of-clause-few
+returns-in-Ok-rest_of-clause-few g c within =
+    let s = c.requires.stopped in
+    omega (arith, c.tell.ensures.drawn, c.undo_all.ensures.drawn (2 ^ 20) (few within.grid), few_left c.args.store.now.cat s.0 c.args.undo s.1 s.3 within)
+
+pub returns-in-Err-rest_of-clause-few : goal.returns-in-Err-rest_of-clause-few
+returns-in-Err-rest_of-clause-few g c within =
+    let s = c.requires.stopped in
+    omega (arith, c.tell.ensures.drawn, c.undo_all.ensures.drawn (2 ^ 20) (few within.grid), few_left c.args.store.now.cat s.0 c.args.undo s.1 s.3 within)

@@ -8,6 +8,7 @@ use Rattle.grid_model.specs.Rows.{Cat}
 use Rattle.grid_model.specs.Grid.{Grid}
 use Rattle.grid_model.specs.RowGrids.{grid_of, user_name}
 use Rattle.grid_model.specs.Operations.Replicas.{copy_row}
+use Rattle.grid_model.specs.Operations.Table.{copy as copy_of}
 use Rattle.grid_model.specs.Doing.{take_mark}
 use Rattle.grid_model.specs.declared.refusal.Failure.{Failure}
 use Rattle.grid_deed.proofs.Keeping.{made_more}
@@ -15,11 +16,13 @@ use Rattle.plan_object.specs.CopyPlans.{MayCopy}
 use Rattle.plan_object.specs.ReplPlans.{CopiesFile}
 use Rattle.run_laws.proofs.Draws.{gave-none}
 use Rattle.run_laws.proofs.OneMark.{gave_untold}
+use Rattle.size_laws.specs.Within.{TakesAtMost}
 use Rattle.service_run.specs.declared.ending.Ending.{Ending}
 use Rattle.service_run.specs.declared.ending.Ending.TheVariants as ending
 use Rattle.service_run.specs.Commands.{noted_in}
 use Rattle.service_run.proofs.Passing.{passes_none, passes_as}
 use Rattle.service_run.proofs.DeedSteps.{copy_named, copy_plan_as, grid_before, looks_same, marked_step}
+use Rattle.service_run.proofs.FewMoments.{copy_takes, ran_within}
 use Rattle.service_run.proofs.SameRows.{may_copy_pending}
 use Rattle.service_run.proofs.StillSteps.{step_still, still_same}
 use Rattle.service_run.proofs.copying_objects.copy_object.Goals as goal
@@ -164,12 +167,45 @@ returns-clause-step g c source kept from d held finds row_is =
     marked_step g.D.Disk.disk ambient g.P.Plugin.plugin g.K.Sink.sink source o n c.now-now.new.self c.args.sink.now c.copy_marked.new.sink kept rows x call undo
     c.requires.user s1 s.cat (copy_row (grid_of s1.cat) name from to resource) file (copy_named cat name from to resource file finds) finds.within _ count_is (omega (arith, c.requires.slots, o.stores.ok.0))
     c.word-word.result c.now-now.result c.in-Ok-copy_plan.plan w c.in-Ok-copy_plan.ensures.leaves
+    (ran_within s1.cat cat name (copy_of from to resource) w.of (grid_before cat x call undo s1.cat s.cat) w.row_is c.word-word.result c.now-now.result [])
     (ambient c.word-word.new.self) c.word-word.ensures (subst T (sym copy.ambient) c.now-now.ensures) c.requires.ready.outside.stores_last copy.passes.frame.stores
     d (ap (λ (grid : Grid). copy_row grid name from to resource) (grid_before cat x call undo s1.cat s.cat) ∙ row_is) c.copy_marked.result c.copy_marked.new.command c.copy_marked.new.store (copy.marked kept s.held p) (copy.whole kept s.held)
 
 pub returns-clause-passes : goal.returns-clause-passes
 returns-clause-passes g c =
     passes_as g.D.Disk.disk g.P.Plugin.plugin g.K.Sink.sink _ _ _ _ c.args.outside.now c.copy_marked.new.outside c.now-now.new.self c.args.sink.now c.copy_marked.new.sink (λ e. e) (λ e. e) (λ e. e) c.copy_marked.ensures.passes
+
+-- ---- how many moments it takes
+
+pub returns-in-Some-clause-drawn : goal.returns-in-Some-clause-drawn
+returns-in-Some-clause-drawn g c each most = omega arith
+
+pub returns-in_default-clause-drawn : goal.returns-in_default-clause-drawn
+returns-in_default-clause-drawn g c each most = omega arith
+
+pub returns-in_default-copy_plan-clause-drawn : goal.returns-in_default-copy_plan-clause-drawn
+returns-in_default-copy_plan-clause-drawn g c each most = omega arith
+
+pub returns-clause-drawn : goal.returns-clause-drawn
+returns-clause-drawn g c each most =
+    let x = c.args.command.now in
+    let cat = c.args.store.now.cat in
+    let to = c.args.to.now in
+    let resource = c.args.resource.now in
+    let file = c.args.file.now in
+    let call = c.args.call.now in
+    let undo = c.args.undo.now in
+    let from = c.requires.may.0 in
+    let s = c.in-Ok.ensures c.requires.held.0 c.requires.held.1 in
+    let s1 = c.announce.new.store in
+    let M : Cat → Type 0 = λ e. MayCopy e (user_name e x.user) from to resource file in
+    let may = subst M (sym s.cat) (may_copy_pending cat (noted_in x call undo) (user_name cat x.user) from to resource file c.requires.may.1) in
+    let w = c.in-Ok-copy_plan.ensures.plans from may in
+    let T : Grid → Type 0 = λ grid. TakesAtMost grid each in
+    let takes = copy_takes s1.cat (made_more c.requires.held.0 s1.cat s1.staged s.held.made s.held.staged) (user_name s1.cat x.user) (copy_of from to resource)
+    c.word-word.result c.now-now.result file c.in-Ok-copy_plan.plan w c.in-Ok-copy_plan.ensures.leaves c.copy_marked.ensures.few each
+    (subst T (sym (grid_before cat x call undo s1.cat s.cat)) most) in
+    omega (arith, c.copy_marked.ensures.drawn, takes)
 
 pub returns-clause-untouched : goal.returns-clause-untouched
 returns-clause-untouched g c place is = absurd (c.copy_marked.ensures.left place is)

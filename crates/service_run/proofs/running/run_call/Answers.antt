@@ -1,4 +1,4 @@
-use Rattle.std.proofs.Common.{◌≡◌, Ok, Err, sym, ap, ◌∙◌, subst}
+use Rattle.std.proofs.Common.{◌≡◌, Ok, Err, sym, ap, ◌∙◌, subst, arith}
 use Rattle.std.specs.Prelude.{IsTrue}
 use Rattle.grid_model.specs.Applying.{IsMade, is_user}
 use Rattle.grid_model.specs.Doing.{do_call}
@@ -11,6 +11,7 @@ use Rattle.plan_service.specs.declared.plans.ServicePlan.TheVariants as plan
 use Rattle.service_run.specs.declared.ending.Ending.TheVariants as ending
 use Rattle.service_run.proofs.CallSteps.{leads_planned, planned_as, ready_still, step_doing}
 use Rattle.service_run.proofs.ChangeSteps.{changes_cut, fails_as}
+use Rattle.service_run.proofs.FewMoments.{call_within}
 use Rattle.service_run.proofs.Passing.{passes_as, passes_none}
 use Rattle.service_run.proofs.running.run_call.Goals as goal
 
@@ -70,6 +71,7 @@ pub returns-in-Ok-Changes-clause-step : goal.returns-in-Ok-Changes-clause-step
 returns-in-Ok-Changes-clause-step g c source kept held =
     let m = planned_as c.args.store.now.cat c.tables.result.now c.tables.ensures c.args.command.now.user c.args.call.now c.plan_call.result (Ok (plan.Changes c.in-Ok-Changes.deltas)) (c.in-Ok-Changes.is ∙ ap Ok c.in-Ok-Changes.field-0-is) c.plan_call.ensures in
     c.change.ensures.step source kept m.after c.args.call.now c.args.undo.now (do_call (user_name c.args.store.now.cat c.args.command.now.user) c.args.call.now) held (leads_planned c.args.store.now.cat (do_call (user_name c.args.store.now.cat c.args.command.now.user) c.args.call.now) c.in-Ok-Changes.deltas m) m.does
+    (call_within c.args.store.now.cat m.after (user_name c.args.store.now.cat c.args.command.now.user) c.args.call.now m.does)
 
 pub returns-in-Ok-Changes-clause-passes : goal.returns-in-Ok-Changes-clause-passes
 returns-in-Ok-Changes-clause-passes g c =
@@ -101,3 +103,21 @@ returns-in-Ok-Copy-clause-step g c source kept held =
 
 pub returns-in-Ok-Copy-clause-passes : goal.returns-in-Ok-Copy-clause-passes
 returns-in-Ok-Copy-clause-passes g c = c.copy_object.ensures.passes
+
+pub returns-in-Err-Memory-clause-drawn : goal.returns-in-Err-Memory-clause-drawn
+returns-in-Err-Memory-clause-drawn g c each most = omega arith
+
+pub returns-in-Err-Failed-clause-drawn : goal.returns-in-Err-Failed-clause-drawn
+returns-in-Err-Failed-clause-drawn g c each most = omega arith
+
+pub returns-in-Ok-Changes-clause-drawn : goal.returns-in-Ok-Changes-clause-drawn
+returns-in-Ok-Changes-clause-drawn g c each most = omega arith
+
+pub returns-in-Ok-Chksum-clause-drawn : goal.returns-in-Ok-Chksum-clause-drawn
+returns-in-Ok-Chksum-clause-drawn g c each most = omega (arith, c.chksum.ensures.drawn)
+
+pub returns-in-Ok-Repl-clause-drawn : goal.returns-in-Ok-Repl-clause-drawn
+returns-in-Ok-Repl-clause-drawn g c each most = c.repl.ensures.drawn each most
+
+pub returns-in-Ok-Copy-clause-drawn : goal.returns-in-Ok-Copy-clause-drawn
+returns-in-Ok-Copy-clause-drawn g c each most = c.copy_object.ensures.drawn each most

@@ -36,3 +36,17 @@ returns-in-Err-pass_over-clause-ends g c source kept held = ran_out c.in-Ok-Err.
 
 pub returns-in-Err-clause-ends : goal.returns-in-Err-clause-ends
 returns-in-Err-clause-ends g c source kept held = cut (c.in-Err.ensures.step source kept held)
+
+-- ---- how many moments it takes
+
+pub returns-in-Ok-Ok-clause-drawn : goal.returns-in-Ok-Ok-clause-drawn
+returns-in-Ok-Ok-clause-drawn g c each most = c.in-Ok-Ok.ensures.drawn each most
+
+pub returns-in-Ok-clause-drawn : goal.returns-in-Ok-clause-drawn
+returns-in-Ok-clause-drawn g c each most = c.in-Ok-Err.ensures.drawn each most
+
+pub returns-in-Err-pass_over-clause-drawn : goal.returns-in-Err-pass_over-clause-drawn
+returns-in-Err-pass_over-clause-drawn g c each most = c.in-Ok-Err.ensures.drawn each most
+
+pub returns-in-Err-clause-drawn : goal.returns-in-Err-clause-drawn
+returns-in-Err-clause-drawn g c each most = c.in-Err.ensures.drawn each most

@@ -1,11 +1,14 @@
-use Rattle.std.proofs.Common.{◌-◌, ◌++◌, ◌^◌, [], length, take, refl, ap, subst, arith}
+use Rattle.std.proofs.Common.{◌-◌, ◌*◌, ◌++◌, ◌^◌, [], length, take, refl, ap, subst, arith}
+use Rattle.grid_model.specs.RowGrids.{grid_of}
 use Rattle.grid_journal.specs.Journal.{IsSpelledPending}
 use Rattle.plan_service.proofs.AddedWords.{adds_words}
 use Rattle.service_run.specs.declared.command.Command.{Command}
+use Rattle.size_laws.specs.Within.{many}
+use Rattle.size_laws.proofs.Moments.{takes_where}
 use Rattle.call_laws.proofs.Joined.{passes_then}
 use Rattle.call_laws.proofs.Keepable.{args_words, noted_kept, words_kept}
 use Rattle.undo_run.specs.Undoing.{stopped_command}
-use Rattle.undo_run.proofs.Loop.{amid_left, amid_start, keepable_after, keepable_start, last_fits, last_split, no_source, none_left, one_shorter}
+use Rattle.undo_run.proofs.Loop.{amid_left, amid_start, keepable_after, keepable_start, last_fits, last_split, no_source, none_left, one_drawn, one_shorter}
 use Rattle.undo_run.proofs.Loop.{passes_done, passes_err, ready_now, round_cut, round_done, undoes_all, user_now}
 use Rattle.undo_run.proofs.Results.{undoes_amid}
 use Rattle.undo_run.proofs.undoing.undo_all.Goals as goal
@@ -33,7 +36,7 @@ loop-call-init g c =
       keepable = keepable_start c.args.store.now.cat.pending c.requires.stopped.0 c.args.command.now c.args.undo c.requires.stopped.1 c.requires.stopped.2
           c.requires.stopped.3
           c.pending_is_spelled.ensures;
-      drawn = omega arith;
+      drawn = λ each most. omega arith;
       none = λ is. (is, refl, refl, refl, refl);
     }
 
@@ -83,7 +86,7 @@ undo_one-requires-clause-ready g c =
     c.args.store.now.cat c.requires.stopped.0
     (record { outside = c.loop-call.outside; sink = c.loop-call.sink }) left c.loop-call.command c.loop-call.store amid.0 amid.1 (2 ^ 120) (2 ^ 65)
     c.requires.ready
-    (omega (arith, some, c.loop-call.invariant.drawn, c.requires.ready.outside.room, c.if-as_slice.false, ap length c.as_slice.ensures))
+    (omega (arith, some, c.loop-call.invariant.drawn (2 ^ 65) many, c.requires.ready.outside.room, c.if-as_slice.false, ap length c.as_slice.ensures))
 
 pub returns-in-Err-clause-undoes : goal.returns-in-Err-clause-undoes
 returns-in-Err-clause-undoes g c source p rules has rules_are =
@@ -134,7 +137,10 @@ loop-call-preserved g c =
           c.loop-call.invariant.keepable
           runs.left runs.ran runs.step.ends.marks runs.over runs.step.ends.marks_are runs.step.ends.spelled
           (ap (λ (x : Command). x.passed) runs.step.ends.rest) runs.shown;
-      drawn = omega (arith, some, ap length c.drop_last.ensures, c.loop-call.invariant.drawn, c.in-Ok.ensures.drawn);
+      drawn = λ each most.
+          one_drawn c.args.outside.now.moments c.loop-call.outside.moments c.undo_one.new.outside.moments (length c.args.undo * each) each
+          (length left) (length cs) (length c.drop_last.new.calls) some (ap length c.drop_last.ensures) (c.loop-call.invariant.drawn each most)
+          (c.in-Ok.ensures.drawn each (takes_where (grid_of c.args.store.now.cat) (grid_of c.loop-call.store.cat) each first.beside.within most));
       none = λ is. absurd (omega (arith, some, ap length (c.loop-call.invariant.none is).0));
     }
 
@@ -153,3 +159,30 @@ returns-clause-passes g c =
     c.args.store.now.cat c.requires.stopped.0
     (record { outside = c.loop-call.outside; sink = c.loop-call.sink }) c.loop-call.left c.loop-call.command c.loop-call.store amid.0 amid.1 _ _ (λ e. cc)
     (λ e. cc)
+
+-- ---- how many moments they take
+
+pub returns-then-as_slice-clause-drawn : goal.returns-then-as_slice-clause-drawn
+returns-then-as_slice-clause-drawn g c each most = omega arith
+
+pub returns-in-Err-clause-drawn : goal.returns-in-Err-clause-drawn
+returns-in-Err-clause-drawn g c each most =
+    let left = c.loop-call.left in
+    let cs = take (length left - 1) left in
+    let split = last_split left c.as_slice-in-loop-call.result.now c.in-Some.call.now c.as_slice-in-loop-call.ensures c.in-Some.ensures.value in
+    let some = one_shorter left cs c.in-Some.call.now split in
+    let first = (c.loop-call.invariant.amid no_source c.requires.stopped.0 c.requires.stopped.1).1.amid in
+    let drawn = one_drawn c.args.outside.now.moments c.loop-call.outside.moments c.undo_one.new.outside.moments (length c.args.undo * each) each
+    (length left) (length cs) (length cs) some refl (c.loop-call.invariant.drawn each most)
+    (c.in-Err.ensures.drawn each (takes_where (grid_of c.args.store.now.cat) (grid_of c.loop-call.store.cat) each first.beside.within most)) in
+    omega (arith, drawn)
+
+pub returns-in-Err-clause-bounded : goal.returns-in-Err-clause-bounded
+returns-in-Err-clause-bounded g c =
+    omega (arith, returns-in-Err-clause-drawn g c (2 ^ 65) many, c.if-as_slice.false, ap length c.as_slice.ensures)
+
+pub returns-clause-drawn : goal.returns-clause-drawn
+returns-clause-drawn g c each most = omega (arith, c.loop-call.invariant.drawn each most)
+
+pub returns-clause-bounded : goal.returns-clause-bounded
+returns-clause-bounded g c = omega (arith, c.loop-call.invariant.drawn (2 ^ 65) many, c.if-as_slice.false, ap length c.as_slice.ensures)

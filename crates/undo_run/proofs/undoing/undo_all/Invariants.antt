@@ -1,7 +1,9 @@
-use Rattle.std.proofs.Common.{◌≡◌, ◌+◌, ◌*◌, ◌^◌, ◌≤◌, List, [], Some, length}
+use Rattle.std.proofs.Common.{◌≡◌, ℕ, ◌+◌, ◌*◌, ◌≤◌, List, [], Some, length}
 use Rattle.grid_outside.specs.Source.{SourceState}
+use Rattle.grid_model.specs.RowGrids.{grid_of}
 use Rattle.grid_model.specs.declared.deltas.Pending.{Pending}
 use Rattle.grid_model.specs.declared.marks.Mark.{Mark}
+use Rattle.size_laws.specs.Within.{TakesAtMost}
 use Rattle.call_laws.specs.OneCall.{AreKeepable}
 use Rattle.undo_run.proofs.Undoings.{AreAmid}
 use Rattle.undo_run.proofs.undoing.undo_all.Given as goal
@@ -12,7 +14,7 @@ invariant-loop-call g l = record {
       × AreAmid g.D.Disk.disk g.A.Ambient.ambient g.P.Plugin.plugin g.K.Sink.sink source (record { outside = l.fn.outside; sink = l.fn.sink }) l.fn.store.cat p
       (record { outside = l.outside; sink = l.sink }) l.left l.command l.store taken;
   keepable : AreKeepable l.command l.left;
-  drawn : l.outside.moments + 2 ^ 65 * length l.left ≤ l.fn.outside.moments + 2 ^ 65 * length l.fn.undo;
+  drawn : (each : ℕ) → TakesAtMost (grid_of l.fn.store.cat) each → l.outside.moments + length l.left * each ≤ l.fn.outside.moments + length l.fn.undo * each;
   none : l.fn.undo ≡ [] → (l.left ≡ []) × (l.store ≡ l.fn.store) × (l.outside ≡ l.fn.outside) × (l.sink ≡ l.fn.sink) × (l.command ≡ l.fn.command);
 }
 

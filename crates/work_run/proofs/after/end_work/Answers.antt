@@ -15,6 +15,7 @@ use Rattle.work_run.specs.Pointed.{point_end, rows_told}
 use Rattle.work_run.proofs.Ends.{tells_more}
 use Rattle.work_run.proofs.Points.{post_cut, post_ended, post_ended_well, post_waits_with}
 use Rattle.work_run.proofs.after.end_work.Goals as goal
+use Rattle.size_laws.specs.Within.{many}
 
 -- ---- the rules
 
@@ -67,7 +68,7 @@ returns-in-Err-clause-passes g c =
     (record { outside = c.run_point.new.outside; sink = c.run_point.new.sink }) c.in-Err.ensures.passes
 
 pub returns-in-Err-clause-drawn : goal.returns-in-Err-clause-drawn
-returns-in-Err-clause-drawn g c = omega (arith, c.run_point.ensures.drawn)
+returns-in-Err-clause-drawn g c each most = omega (arith, c.run_point.ensures.drawn each most)
 
 -- ---- they failed
 
@@ -84,7 +85,7 @@ pub conclude-requires-clause-ready : goal.conclude-requires-clause-ready
 conclude-requires-clause-ready g c =
     ready_after g.D.Disk.disk g.P.Plugin.plugin g.K.Sink.sink _ _ (record { outside = c.args.outside.now; sink = c.args.sink.now })
     (record { outside = c.run_point.new.outside; sink = c.run_point.new.sink }) (c.args.after.left * 2 ^ 65 + 5) 5 c.run_point.ensures.passes c.requires.ready
-    (omega (arith, c.run_point.ensures.drawn))
+    (omega (arith, c.run_point.ensures.drawn (2 ^ 65) many))
 
 pub returns-in-Some-clause-executes : goal.returns-in-Some-clause-executes
 returns-in-Some-clause-executes g c source at request before x from taken user w p text_of sent asked does_so asked_so its amid tells behind number =
@@ -119,7 +120,7 @@ returns-in-Some-clause-passes g c =
     c.conclude.ensures.passes
 
 pub returns-in-Some-clause-drawn : goal.returns-in-Some-clause-drawn
-returns-in-Some-clause-drawn g c = omega (arith, c.run_point.ensures.drawn, c.conclude.ensures.drawn)
+returns-in-Some-clause-drawn g c each most = omega (arith, c.run_point.ensures.drawn each most, c.conclude.ensures.drawn)
 
 -- ---- they held
 
@@ -136,7 +137,7 @@ pub conclude-requires-in-None-clause-ready : goal.conclude-requires-in-None-clau
 conclude-requires-in-None-clause-ready g c =
     ready_after g.D.Disk.disk g.P.Plugin.plugin g.K.Sink.sink _ _ (record { outside = c.args.outside.now; sink = c.args.sink.now })
     (record { outside = c.run_point.new.outside; sink = c.run_point.new.sink }) (c.args.after.left * 2 ^ 65 + 5) 5 c.run_point.ensures.passes c.requires.ready
-    (omega (arith, c.run_point.ensures.drawn))
+    (omega (arith, c.run_point.ensures.drawn (2 ^ 65) many))
 
 pub returns-in-None-clause-executes : goal.returns-in-None-clause-executes
 returns-in-None-clause-executes g c source at request before x from taken user w p text_of sent asked does_so asked_so its amid tells behind number =
@@ -165,4 +166,4 @@ returns-in-None-clause-passes g c =
     c.conclude-in-None.ensures.passes
 
 pub returns-in-None-clause-drawn : goal.returns-in-None-clause-drawn
-returns-in-None-clause-drawn g c = omega (arith, c.run_point.ensures.drawn, c.conclude-in-None.ensures.drawn)
+returns-in-None-clause-drawn g c each most = omega (arith, c.run_point.ensures.drawn each most, c.conclude-in-None.ensures.drawn)

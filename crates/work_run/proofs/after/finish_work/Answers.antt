@@ -1,4 +1,4 @@
-use Rattle.std.proofs.Common.{sym, ap, ◌∙◌, subst, arith}
+use Rattle.std.proofs.Common.{sym, ap, ◌∙◌, subst, arith, ◌^◌}
 use Rattle.grid_model.specs.RowGrids.{user_name}
 use Rattle.chain_core.specs.Seen.{rules_of}
 use Rattle.run_laws.specs.Passes.{AreReady}
@@ -36,7 +36,7 @@ end_work-requires-clause-name g c = subst (λ a. AreFor a (user_name c.args.stor
 
 pub end_work-requires-clause-ready : goal.end_work-requires-clause-ready
 end_work-requires-clause-ready g c =
-    subst (λ a. AreReady g.D.Disk.disk g.P.Plugin.plugin g.K.Sink.sink (draws_by a) (record { outside = c.args.outside.now; sink = c.args.sink.now })) c.in-Some.is c.requires.ready
+    subst (λ a. AreReady g.D.Disk.disk g.P.Plugin.plugin g.K.Sink.sink (draws_by (2 ^ 65) a) (record { outside = c.args.outside.now; sink = c.args.sink.now })) c.in-Some.is c.requires.ready
 
 pub returns-in-Some-clause-executes : goal.returns-in-Some-clause-executes
 returns-in-Some-clause-executes g c source at request before x from taken user w p text_of sent asked does_so asked_so runs amid tells behind nothing number =
@@ -57,7 +57,7 @@ pub returns-in-Some-clause-idle : goal.returns-in-Some-clause-idle
 returns-in-Some-clause-idle g c none nothing = absurd (let both = sym c.in-Some.is ∙ none in cc both)
 
 pub returns-in-Some-clause-drawn : goal.returns-in-Some-clause-drawn
-returns-in-Some-clause-drawn g c = omega (arith, c.end_work.ensures.drawn, ap draws_by c.in-Some.is)
+returns-in-Some-clause-drawn g c each most = omega (arith, c.end_work.ensures.drawn each most, ap (draws_by each) c.in-Some.is)
 
 -- ---- there are none
 
@@ -72,7 +72,7 @@ conclude-requires-clause-rows g c = c.requires.rows
 
 pub conclude-requires-clause-ready : goal.conclude-requires-clause-ready
 conclude-requires-clause-ready g c =
-    subst (λ a. AreReady g.D.Disk.disk g.P.Plugin.plugin g.K.Sink.sink (draws_by a) (record { outside = c.args.outside.now; sink = c.args.sink.now })) c.in-None.is c.requires.ready
+    subst (λ a. AreReady g.D.Disk.disk g.P.Plugin.plugin g.K.Sink.sink (draws_by (2 ^ 65) a) (record { outside = c.args.outside.now; sink = c.args.sink.now })) c.in-None.is c.requires.ready
 
 pub returns-in-None-clause-executes : goal.returns-in-None-clause-executes
 returns-in-None-clause-executes g c source at request before x from taken user w p text_of sent asked does_so asked_so runs amid tells behind nothing number =
@@ -95,4 +95,4 @@ pub returns-in-None-clause-idle : goal.returns-in-None-clause-idle
 returns-in-None-clause-idle g c none nothing = (c.conclude.ensures.idle nothing, c.conclude.ensures.stores)
 
 pub returns-in-None-clause-drawn : goal.returns-in-None-clause-drawn
-returns-in-None-clause-drawn g c = omega (arith, c.conclude.ensures.drawn, ap draws_by c.in-None.is)
+returns-in-None-clause-drawn g c each most = omega (arith, c.conclude.ensures.drawn, ap (draws_by each) c.in-None.is)

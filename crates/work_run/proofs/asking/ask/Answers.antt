@@ -1,4 +1,4 @@
-use Rattle.std.proofs.Common.{◌^◌, refl, sym, ◌∙◌, subst}
+use Rattle.std.proofs.Common.{◌^◌, refl, sym, ◌∙◌, subst, ◌+◌, arith}
 use Rattle.grid_model.specs.Names.{Text}
 use Rattle.grid_model.specs.QueryOrders.{ReadsQuery}
 use Rattle.grid_model.specs.RowGrids.{user_name}
@@ -8,6 +8,7 @@ use Rattle.rule_run.proofs.Passing.{passes_none}
 use Rattle.work_run.proofs.Begun.{cut_first}
 use Rattle.work_run.proofs.Deeds.{query_so}
 use Rattle.work_run.proofs.asking.ask.Goals as goal
+use Rattle.size_laws.specs.Within.{few, many}
 
 -- ---- there was no memory for its text
 
@@ -77,4 +78,7 @@ pub returns-clause-files : goal.returns-clause-files
 returns-clause-files g c place none is = c.begin.ensures.files 0 place none is
 
 pub returns-clause-drawn : goal.returns-clause-drawn
-returns-clause-drawn g c = c.begin.ensures.drawn
+returns-clause-drawn g c = omega (arith, c.begin.ensures.drawn (2 ^ 65) many)
+
+pub returns-clause-few : goal.returns-clause-few
+returns-clause-few g c within = omega (arith, c.begin.ensures.drawn (2 ^ 20) (few within))

@@ -16,6 +16,9 @@ use Rattle.work_run.proofs.Cut.{marks_are}
 use Rattle.work_run.proofs.Deeds.{asked_so, not_done_before}
 use Rattle.work_run.proofs.Points.{pre_cut, pre_ended, pre_goes, pre_off, pre_waits_with}
 use Rattle.work_run.proofs.before.run_before.Goals as goal
+use Rattle.size_laws.proofs.Moments.{takes_some, takes_where}
+use Rattle.grid_model.specs.RowGrids.{grid_of}
+use Rattle.size_laws.specs.Within.{many}
 
 -- ---- the rules
 
@@ -76,7 +79,7 @@ returns-in-Err-clause-passes g c =
     (record { outside = c.run_point.new.outside; sink = c.run_point.new.sink }) c.in-Err.ensures.passes
 
 pub returns-in-Err-clause-drawn : goal.returns-in-Err-clause-drawn
-returns-in-Err-clause-drawn g c = omega (arith, c.run_point.ensures.drawn)
+returns-in-Err-clause-drawn g c each most = omega (arith, c.run_point.ensures.drawn each most)
 
 -- ---- they failed
 
@@ -93,7 +96,7 @@ pub conclude-requires-clause-ready : goal.conclude-requires-clause-ready
 conclude-requires-clause-ready g c =
     ready_after g.D.Disk.disk g.P.Plugin.plugin g.K.Sink.sink _ _ (record { outside = c.args.outside.now; sink = c.args.sink.now })
     (record { outside = c.run_point.new.outside; sink = c.run_point.new.sink }) (2 ^ 79) 5 c.run_point.ensures.passes c.requires.ready
-    (omega (arith, c.run_point.ensures.drawn))
+    (omega (arith, c.run_point.ensures.drawn (2 ^ 65) many))
 
 pub returns-in-Some-clause-executes : goal.returns-in-Some-clause-executes
 returns-in-Some-clause-executes g c source at request w p asked works does_so rules_is rules_called has behind makes =
@@ -128,7 +131,7 @@ returns-in-Some-clause-passes g c =
     c.conclude.ensures.passes
 
 pub returns-in-Some-clause-drawn : goal.returns-in-Some-clause-drawn
-returns-in-Some-clause-drawn g c = omega (arith, c.run_point.ensures.drawn, c.conclude.ensures.drawn)
+returns-in-Some-clause-drawn g c each most = omega (arith, c.run_point.ensures.drawn each most, c.conclude.ensures.drawn, takes_some (grid_of c.args.store.now.cat) each most)
 
 -- ---- they held
 
@@ -168,7 +171,7 @@ pub do_work-requires-clause-ready : goal.do_work-requires-clause-ready
 do_work-requires-clause-ready g c =
     ready_after g.D.Disk.disk g.P.Plugin.plugin g.K.Sink.sink _ _ (record { outside = c.args.outside.now; sink = c.args.sink.now })
     (record { outside = c.run_point.new.outside; sink = c.run_point.new.sink }) (2 ^ 79) (2 ^ 65 + (c.run_point.new.left * 2 ^ 65 + 5))
-    c.run_point.ensures.passes c.requires.ready (omega (arith, c.run_point.ensures.drawn))
+    c.run_point.ensures.passes c.requires.ready (omega (arith, c.run_point.ensures.drawn (2 ^ 65) many))
 
 pub returns-in-None-clause-executes : goal.returns-in-None-clause-executes
 returns-in-None-clause-executes g c source at request w p asked works does_so rules_is rules_called has behind makes =
@@ -214,4 +217,10 @@ returns-in-None-clause-passes g c =
     c.do_work.ensures.passes
 
 pub returns-in-None-clause-drawn : goal.returns-in-None-clause-drawn
-returns-in-None-clause-drawn g c = omega (arith, c.run_point.ensures.drawn, c.do_work.ensures.drawn)
+returns-in-None-clause-drawn g c each most =
+    omega (
+      arith,
+      c.run_point.ensures.drawn each most,
+      c.do_work.ensures.drawn each (takes_where (grid_of c.args.store.now.cat) (grid_of c.run_point.new.store.cat) each c.in-Ok.ensures.within most),
+      takes_some (grid_of c.args.store.now.cat) each most,
+    )

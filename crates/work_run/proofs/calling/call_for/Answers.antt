@@ -29,6 +29,9 @@ use Rattle.work_run.proofs.Nothing.{leaves_call, same_nothing}
 use Rattle.work_run.proofs.VaultNeeds.{draws_five, error_as}
 use Rattle.work_run.proofs.Answered.{step_as}
 use Rattle.work_run.proofs.calling.call_for.Goals as goal
+use Rattle.size_laws.proofs.Moments.{takes_where}
+use Rattle.size_laws.specs.Within.{many}
+use Rattle.work_run.proofs.Next.{no_source}
 
 pub op_words-requires-clause-made : goal.op_words-requires-clause-made
 op_words-requires-clause-made g c =
@@ -77,7 +80,7 @@ work-requires-clause-call g c = c.requires.call
 pub work-requires-clause-ready : goal.work-requires-clause-ready
 work-requires-clause-ready g c =
     ready_less g.D.Disk.disk g.P.Plugin.plugin g.K.Sink.sink (record { outside = c.args.outside.now; sink = c.args.sink.now })
-    (2 ^ 65 + draws_by c.args.after) (2 ^ 65) (omega arith) c.requires.ready
+    (2 ^ 65 + draws_by (2 ^ 65) c.args.after) (2 ^ 65) (omega arith) c.requires.ready
 
 -- ---- it was done
 
@@ -116,8 +119,8 @@ finish_work-requires-clause-checked g c = c.requires.checked
 pub finish_work-requires-clause-ready : goal.finish_work-requires-clause-ready
 finish_work-requires-clause-ready g c =
     ready_after g.D.Disk.disk g.P.Plugin.plugin g.K.Sink.sink _ _ (record { outside = c.args.outside.now; sink = c.args.sink.now })
-    (record { outside = c.work.new.outside; sink = c.work.new.sink }) (2 ^ 65 + draws_by c.args.after) (draws_by c.args.after)
-    c.work.ensures.passes c.requires.ready (omega (arith, c.work.ensures.drawn))
+    (record { outside = c.work.new.outside; sink = c.work.new.sink }) (2 ^ 65 + draws_by (2 ^ 65) c.args.after) (draws_by (2 ^ 65) c.args.after)
+    c.work.ensures.passes c.requires.ready (omega (arith, c.work.ensures.drawn (2 ^ 65) many))
 
 pub returns-in-Ok-Ok-clause-executes : goal.returns-in-Ok-Ok-clause-executes
 returns-in-Ok-Ok-clause-executes g c source at request before x from taken op p asked works does_so after amid behind begins makes =
@@ -167,7 +170,14 @@ returns-in-Ok-Ok-clause-passes g c =
     (record { outside = c.work.new.outside; sink = c.work.new.sink }) (λ f. cc f) (λ e. e) (λ e. e) c.in-Ok-Ok.ensures.passes) c.finish_work.ensures.passes
 
 pub returns-in-Ok-Ok-clause-drawn : goal.returns-in-Ok-Ok-clause-drawn
-returns-in-Ok-Ok-clause-drawn g c = omega (arith, c.work.ensures.drawn, c.finish_work.ensures.drawn)
+returns-in-Ok-Ok-clause-drawn g c each most =
+    let step = step_as c.in-Ok-Ok.field-0 (Ok tt) c.in-Ok-Ok.field-0-is
+    (c.in-Ok-Ok.ensures.step no_source c.requires.held.0 c.requires.verb.0 c.requires.held.1 c.requires.verb.1) in
+    omega (
+      arith,
+      c.work.ensures.drawn each most,
+      c.finish_work.ensures.drawn each (takes_where (grid_of c.args.store.now.cat) (grid_of c.work.new.store.cat) each step.ends.beside.within most),
+    )
 
 -- ---- it failed
 
@@ -183,8 +193,8 @@ conclude-requires-clause-rows g c = c.no_rows-rows-in-Ok-Err.ensures.words
 pub conclude-requires-clause-ready : goal.conclude-requires-clause-ready
 conclude-requires-clause-ready g c =
     ready_after g.D.Disk.disk g.P.Plugin.plugin g.K.Sink.sink _ _ (record { outside = c.args.outside.now; sink = c.args.sink.now })
-    (record { outside = c.work.new.outside; sink = c.work.new.sink }) (2 ^ 65 + draws_by c.args.after) 5 c.work.ensures.passes c.requires.ready
-    (omega (arith, c.work.ensures.drawn, draws_five c.args.after))
+    (record { outside = c.work.new.outside; sink = c.work.new.sink }) (2 ^ 65 + draws_by (2 ^ 65) c.args.after) 5 c.work.ensures.passes c.requires.ready
+    (omega (arith, c.work.ensures.drawn (2 ^ 65) many, draws_five (2 ^ 65) c.args.after))
 
 pub returns-in-Ok-Err-clause-executes : goal.returns-in-Ok-Err-clause-executes
 returns-in-Ok-Err-clause-executes g c source at request before x from taken op p asked works does_so after amid behind begins makes =
@@ -230,7 +240,7 @@ returns-in-Ok-Err-clause-passes g c =
     (record { outside = c.work.new.outside; sink = c.work.new.sink }) (λ f. cc f) (λ e. e) (λ e. e) c.in-Ok-Err.ensures.passes) c.conclude.ensures.passes
 
 pub returns-in-Ok-Err-clause-drawn : goal.returns-in-Ok-Err-clause-drawn
-returns-in-Ok-Err-clause-drawn g c = omega (arith, c.work.ensures.drawn, c.conclude.ensures.drawn, draws_five c.args.after)
+returns-in-Ok-Err-clause-drawn g c each most = omega (arith, c.work.ensures.drawn each most, c.conclude.ensures.drawn, draws_five each c.args.after)
 
 -- ---- it was cut short
 
@@ -249,7 +259,7 @@ returns-in-Err-work-clause-passes g c =
     (record { outside = c.work.new.outside; sink = c.work.new.sink }) c.in-Err-work.ensures.passes
 
 pub returns-in-Err-work-clause-drawn : goal.returns-in-Err-work-clause-drawn
-returns-in-Err-work-clause-drawn g c = omega (arith, c.work.ensures.drawn)
+returns-in-Err-work-clause-drawn g c each most = omega (arith, c.work.ensures.drawn each most)
 
 pub returns-in-Err-work-clause-files : goal.returns-in-Err-work-clause-files
 returns-in-Err-work-clause-files g c op count place works none is =

@@ -1,6 +1,6 @@
 use Rattle.std.proofs.Common.{◌^◌, refl, sym, ap, ◌∙◌, length, subst, arith}
 use Rattle.std.specs.Option.{option_copied}
-use Rattle.grid_model.specs.RowGrids.{user_name}
+use Rattle.grid_model.specs.RowGrids.{user_name, grid_of}
 use Rattle.point_laws.specs.Works.{operation}
 use Rattle.service_run.specs.Commands.{place_by}
 use Rattle.service_run.specs.declared.command.Command.{Command}
@@ -16,8 +16,10 @@ use Rattle.work_run.proofs.Cut.{short_executes}
 use Rattle.work_run.proofs.Fetching.{waits_op, waits_request}
 use Rattle.work_run.proofs.VaultNeeds.{error_as}
 use Rattle.work_run.proofs.GetSlots.{slot_small}
-use Rattle.work_run.proofs.SentNext.{fetched_so, marked_so, name_so, next_so, none_worn, place_same, sends_same, stores_so}
+use Rattle.work_run.proofs.SentNext.{fetched_so, marked_so, name_so, next_so, none_worn, place_same, sends_same, stores_so, within_so}
 use Rattle.work_run.proofs.getting.fetch.Goals as goal
+use Rattle.work_run.proofs.Drawn.{draws_sent}
+use Rattle.size_laws.proofs.Moments.{takes_some}
 
 -- ---- it is noted
 
@@ -108,7 +110,13 @@ returns-in-Ok-clause-passes g c =
     (record { outside = c.note_get.new.outside; sink = c.note_get.new.sink }) (λ f. cc f) (λ e. e) (λ e. e) c.in-Ok.ensures.passes) c.send_file.ensures.passes
 
 pub returns-in-Ok-clause-drawn : goal.returns-in-Ok-clause-drawn
-returns-in-Ok-clause-drawn g c = omega (arith, c.note_get.ensures.drawn, c.send_file.ensures.drawn)
+returns-in-Ok-clause-drawn g c each most =
+    draws_sent c.args.store.now.cat _ _ _ c.args.file.now c.requires.file each most c.args.outside.now.moments c.note_get.new.outside.moments c.send_file.new.outside.moments c.note_get.ensures.drawn
+    c.send_file.ensures.drawn c.send_file.ensures.few
+
+pub returns-in-Ok-clause-within : goal.returns-in-Ok-clause-within
+returns-in-Ok-clause-within g c =
+    within_so c.args.store.now c.note_get.new.store c.in-Ok.ensures.rows c.send_file.result
 
 -- ---- it was cut short before it was sent
 
@@ -135,4 +143,7 @@ returns-in-Err-clause-passes g c =
     passes_err g.D.Disk.disk g.P.Plugin.plugin g.K.Sink.sink c.in-Err.ending (record { outside = c.args.outside.now; sink = c.args.sink.now }) (record { outside = c.note_get.new.outside; sink = c.note_get.new.sink }) c.in-Err.ensures.passes
 
 pub returns-in-Err-clause-drawn : goal.returns-in-Err-clause-drawn
-returns-in-Err-clause-drawn g c = omega (arith, c.note_get.ensures.drawn)
+returns-in-Err-clause-drawn g c each most = omega (arith, c.note_get.ensures.drawn, takes_some (grid_of c.args.store.now.cat) each most)
+
+pub returns-in-Err-clause-within : goal.returns-in-Err-clause-within
+returns-in-Err-clause-within g c = tt

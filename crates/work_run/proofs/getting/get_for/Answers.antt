@@ -28,6 +28,8 @@ use Rattle.work_run.proofs.Nothing.{leaves_marked, leaves_still}
 use Rattle.work_run.proofs.RefusedGets.{got_refused, refused_end}
 use Rattle.work_run.proofs.VaultNeeds.{draws_five, error_as, memory_disk, memory_sink, memory_vaults}
 use Rattle.work_run.proofs.getting.get_for.Goals as goal
+use Rattle.size_laws.proofs.Moments.{takes_where}
+use Rattle.size_laws.specs.Within.{many}
 
 pub plan_get-requires-clause-made : goal.plan_get-requires-clause-made
 plan_get-requires-clause-made g c =
@@ -51,7 +53,7 @@ conclude-requires-clause-rows g c = c.no_rows-rows.ensures.words
 
 pub conclude-requires-clause-ready : goal.conclude-requires-clause-ready
 conclude-requires-clause-ready g c =
-    ready_less g.D.Disk.disk g.P.Plugin.plugin g.K.Sink.sink (record { outside = c.args.outside.now; sink = c.args.sink.now }) (2 ^ 65 + draws_by c.args.after) 5 (omega arith) c.requires.ready
+    ready_less g.D.Disk.disk g.P.Plugin.plugin g.K.Sink.sink (record { outside = c.args.outside.now; sink = c.args.sink.now }) (2 ^ 65 + draws_by (2 ^ 65) c.args.after) 5 (omega arith) c.requires.ready
 
 pub returns-in-Err-clause-executes : goal.returns-in-Err-clause-executes
 returns-in-Err-clause-executes g c source at request before x from taken p asked does_so after amid behind begins makes =
@@ -78,7 +80,7 @@ pub returns-in-Err-clause-vaults : goal.returns-in-Err-clause-vaults
 returns-in-Err-clause-vaults g c place none is = c.conclude.ensures.vaults place is
 
 pub returns-in-Err-clause-drawn : goal.returns-in-Err-clause-drawn
-returns-in-Err-clause-drawn g c = omega (arith, c.conclude.ensures.drawn)
+returns-in-Err-clause-drawn g c each most = omega (arith, c.conclude.ensures.drawn, draws_five each c.args.after)
 
 -- ---- there was no memory for its words
 
@@ -99,7 +101,7 @@ pub returns-in-Err-one_number-clause-vaults : goal.returns-in-Err-one_number-cla
 returns-in-Err-one_number-clause-vaults g c place none is = memory_vaults place is
 
 pub returns-in-Err-one_number-clause-drawn : goal.returns-in-Err-one_number-clause-drawn
-returns-in-Err-one_number-clause-drawn g c = omega arith
+returns-in-Err-one_number-clause-drawn g c each most = omega arith
 
 -- ---- the file
 
@@ -124,7 +126,7 @@ fetch-requires-clause-file g c =
 
 pub fetch-requires-clause-ready : goal.fetch-requires-clause-ready
 fetch-requires-clause-ready g c =
-    ready_less g.D.Disk.disk g.P.Plugin.plugin g.K.Sink.sink (record { outside = c.args.outside.now; sink = c.args.sink.now }) (2 ^ 65 + draws_by c.args.after) (2 ^ 65) (omega arith) c.requires.ready
+    ready_less g.D.Disk.disk g.P.Plugin.plugin g.K.Sink.sink (record { outside = c.args.outside.now; sink = c.args.sink.now }) (2 ^ 65 + draws_by (2 ^ 65) c.args.after) (2 ^ 65) (omega arith) c.requires.ready
 
 -- ---- it was sent
 
@@ -162,8 +164,8 @@ finish_work-requires-clause-checked g c = c.requires.checked
 
 pub finish_work-requires-clause-ready : goal.finish_work-requires-clause-ready
 finish_work-requires-clause-ready g c =
-    ready_after g.D.Disk.disk g.P.Plugin.plugin g.K.Sink.sink _ _ (record { outside = c.args.outside.now; sink = c.args.sink.now }) (record { outside = c.fetch.new.outside; sink = c.fetch.new.sink }) (2 ^ 65 + draws_by c.args.after) (draws_by c.args.after) c.fetch.ensures.passes
-    c.requires.ready (omega (arith, c.fetch.ensures.drawn))
+    ready_after g.D.Disk.disk g.P.Plugin.plugin g.K.Sink.sink _ _ (record { outside = c.args.outside.now; sink = c.args.sink.now }) (record { outside = c.fetch.new.outside; sink = c.fetch.new.sink }) (2 ^ 65 + draws_by (2 ^ 65) c.args.after) (draws_by (2 ^ 65) c.args.after) c.fetch.ensures.passes
+    c.requires.ready (omega (arith, c.fetch.ensures.drawn (2 ^ 65) many))
 
 pub returns-in-Ok-Ok-clause-executes : goal.returns-in-Ok-Ok-clause-executes
 returns-in-Ok-Ok-clause-executes g c source at request before x from taken p asked does_so after amid behind begins makes =
@@ -199,7 +201,12 @@ pub returns-in-Ok-Ok-clause-vaults : goal.returns-in-Ok-Ok-clause-vaults
 returns-in-Ok-Ok-clause-vaults g c place none is = c.finish_work.ensures.vaults place none is
 
 pub returns-in-Ok-Ok-clause-drawn : goal.returns-in-Ok-Ok-clause-drawn
-returns-in-Ok-Ok-clause-drawn g c = omega (arith, c.fetch.ensures.drawn, c.finish_work.ensures.drawn)
+returns-in-Ok-Ok-clause-drawn g c each most =
+    omega (
+      arith,
+      c.fetch.ensures.drawn each most,
+      c.finish_work.ensures.drawn each (takes_where (grid_of c.args.store.now.cat) (grid_of c.fetch.new.store.cat) each c.in-Ok-Ok.ensures.within most),
+    )
 
 -- ---- it was refused by its mark
 
@@ -214,8 +221,8 @@ conclude-requires-in-Ok-Err-clause-rows g c = c.no_rows-rows-in-Ok-Err.ensures.w
 
 pub conclude-requires-in-Ok-Err-clause-ready : goal.conclude-requires-in-Ok-Err-clause-ready
 conclude-requires-in-Ok-Err-clause-ready g c =
-    ready_after g.D.Disk.disk g.P.Plugin.plugin g.K.Sink.sink _ _ (record { outside = c.args.outside.now; sink = c.args.sink.now }) (record { outside = c.fetch.new.outside; sink = c.fetch.new.sink }) (2 ^ 65 + draws_by c.args.after) 5 c.fetch.ensures.passes c.requires.ready
-    (omega (arith, c.fetch.ensures.drawn, draws_five c.args.after))
+    ready_after g.D.Disk.disk g.P.Plugin.plugin g.K.Sink.sink _ _ (record { outside = c.args.outside.now; sink = c.args.sink.now }) (record { outside = c.fetch.new.outside; sink = c.fetch.new.sink }) (2 ^ 65 + draws_by (2 ^ 65) c.args.after) 5 c.fetch.ensures.passes c.requires.ready
+    (omega (arith, c.fetch.ensures.drawn (2 ^ 65) many, draws_five (2 ^ 65) c.args.after))
 
 pub returns-in-Ok-Err-clause-executes : goal.returns-in-Ok-Err-clause-executes
 returns-in-Ok-Err-clause-executes g c source at request before x from taken p asked does_so after amid behind begins makes =
@@ -249,7 +256,7 @@ pub returns-in-Ok-Err-clause-vaults : goal.returns-in-Ok-Err-clause-vaults
 returns-in-Ok-Err-clause-vaults g c place none is = c.conclude-in-Ok-Err.ensures.vaults place is
 
 pub returns-in-Ok-Err-clause-drawn : goal.returns-in-Ok-Err-clause-drawn
-returns-in-Ok-Err-clause-drawn g c = omega (arith, c.fetch.ensures.drawn, c.conclude-in-Ok-Err.ensures.drawn, draws_five c.args.after)
+returns-in-Ok-Err-clause-drawn g c each most = omega (arith, c.fetch.ensures.drawn each most, c.conclude-in-Ok-Err.ensures.drawn, draws_five each c.args.after)
 
 -- ---- it was cut short
 
@@ -273,4 +280,4 @@ returns-in-Err-fetch-clause-vaults g c place none is =
     c.in-Err-fetch.ensures.vaults place (error_as c.in-Err-fetch.ending (ending.Worn wear.Vaults place) is)
 
 pub returns-in-Err-fetch-clause-drawn : goal.returns-in-Err-fetch-clause-drawn
-returns-in-Err-fetch-clause-drawn g c = omega (arith, c.fetch.ensures.drawn)
+returns-in-Err-fetch-clause-drawn g c each most = omega (arith, c.fetch.ensures.drawn each most)

@@ -2,6 +2,8 @@ use Rattle.point_laws.specs.Works.{operation}
 use Rattle.grid_model.specs.RowGrids.{grid_of, user_name}
 use Rattle.work_run.proofs.Deeds.{has_work, idle_of, makes_of}
 use Rattle.work_run.proofs.operating.operate.Goals as goal
+use Rattle.size_laws.specs.Within.{few, many}
+use Rattle.std.proofs.Common.{◌+◌, ◌^◌, arith}
 
 pub begin-requires-clause-held : goal.begin-requires-clause-held
 begin-requires-clause-held g c = c.requires.held
@@ -55,4 +57,7 @@ pub returns-clause-files : goal.returns-clause-files
 returns-clause-files g c op count place works none is = makes_of count c.args.verb.now c.args.body.now op works (c.begin.ensures.files count place none is)
 
 pub returns-clause-drawn : goal.returns-clause-drawn
-returns-clause-drawn g c = c.begin.ensures.drawn
+returns-clause-drawn g c = omega (arith, c.begin.ensures.drawn (2 ^ 65) many)
+
+pub returns-clause-few : goal.returns-clause-few
+returns-clause-few g c within = omega (arith, c.begin.ensures.drawn (2 ^ 20) (few within))

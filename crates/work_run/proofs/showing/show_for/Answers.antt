@@ -18,6 +18,7 @@ use Rattle.work_run.proofs.Deeds.{query_so}
 use Rattle.work_run.proofs.Nothing.{leaves_still}
 use Rattle.work_run.proofs.Shown.{shown_refused, shown_rows}
 use Rattle.work_run.proofs.showing.show_for.Goals as goal
+use Rattle.size_laws.proofs.Moments.{takes_some}
 
 pub asked_rows-requires-clause-sound : goal.asked_rows-requires-clause-sound
 asked_rows-requires-clause-sound g c = c.requires.held.1.sound
@@ -48,7 +49,7 @@ pub returns-in-Err-clause-vaults : goal.returns-in-Err-clause-vaults
 returns-in-Err-clause-vaults g c place none is = absurd (cc is)
 
 pub returns-in-Err-clause-drawn : goal.returns-in-Err-clause-drawn
-returns-in-Err-clause-drawn g c = omega arith
+returns-in-Err-clause-drawn g c each most = omega arith
 
 -- ---- it has rows
 
@@ -78,7 +79,7 @@ finish_work-requires-clause-rows g c = subst AreWords c.in-Rows.is c.in-Ok.ensur
 
 pub finish_work-requires-clause-ready : goal.finish_work-requires-clause-ready
 finish_work-requires-clause-ready g c =
-    ready_less g.D.Disk.disk g.P.Plugin.plugin g.K.Sink.sink (record { outside = c.args.outside.now; sink = c.args.sink.now }) (2 ^ 65 + draws_by c.args.after) (draws_by c.args.after) (omega arith) c.requires.ready
+    ready_less g.D.Disk.disk g.P.Plugin.plugin g.K.Sink.sink (record { outside = c.args.outside.now; sink = c.args.sink.now }) (2 ^ 65 + draws_by (2 ^ 65) c.args.after) (draws_by (2 ^ 65) c.args.after) (omega arith) c.requires.ready
 
 pub returns-in-Rows-clause-executes : goal.returns-in-Rows-clause-executes
 returns-in-Rows-clause-executes g c source at request before x from taken q p asked reads does_so after amid behind begins makes =
@@ -102,7 +103,7 @@ pub returns-in-Rows-clause-vaults : goal.returns-in-Rows-clause-vaults
 returns-in-Rows-clause-vaults g c place none is = c.finish_work.ensures.vaults place none is
 
 pub returns-in-Rows-clause-drawn : goal.returns-in-Rows-clause-drawn
-returns-in-Rows-clause-drawn g c = omega (arith, c.finish_work.ensures.drawn)
+returns-in-Rows-clause-drawn g c each most = omega (arith, c.finish_work.ensures.drawn each most)
 
 -- ---- it is none
 
@@ -117,7 +118,7 @@ conclude-requires-clause-rows g c = c.no_rows-rows.ensures.words
 
 pub conclude-requires-clause-ready : goal.conclude-requires-clause-ready
 conclude-requires-clause-ready g c =
-    ready_less g.D.Disk.disk g.P.Plugin.plugin g.K.Sink.sink (record { outside = c.args.outside.now; sink = c.args.sink.now }) (2 ^ 65 + draws_by c.args.after) 5 (omega arith) c.requires.ready
+    ready_less g.D.Disk.disk g.P.Plugin.plugin g.K.Sink.sink (record { outside = c.args.outside.now; sink = c.args.sink.now }) (2 ^ 65 + draws_by (2 ^ 65) c.args.after) 5 (omega arith) c.requires.ready
 
 pub returns-in-Refused-clause-executes : goal.returns-in-Refused-clause-executes
 returns-in-Refused-clause-executes g c source at request before x from taken q p asked reads does_so after amid behind begins makes =
@@ -142,4 +143,4 @@ pub returns-in-Refused-clause-vaults : goal.returns-in-Refused-clause-vaults
 returns-in-Refused-clause-vaults g c place none is = c.conclude.ensures.vaults place is
 
 pub returns-in-Refused-clause-drawn : goal.returns-in-Refused-clause-drawn
-returns-in-Refused-clause-drawn g c = omega (arith, c.conclude.ensures.drawn)
+returns-in-Refused-clause-drawn g c each most = omega (arith, c.conclude.ensures.drawn, takes_some (grid_of c.args.store.now.cat) each most)

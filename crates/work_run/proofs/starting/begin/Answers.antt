@@ -1,5 +1,5 @@
 use Rattle.std.proofs.Common.{◌+◌, ◌^◌, [], None, refl, sym, ◌∙◌, arith}
-use Rattle.grid_model.specs.RowGrids.{user_name}
+use Rattle.grid_model.specs.RowGrids.{user_name, grid_of}
 use Rattle.chain_core.specs.Seen.{rules_of}
 use Rattle.rule_run.proofs.Ended.{amid_first, keepable_first, ready_less}
 use Rattle.rule_run.proofs.Passing.{passes_none}
@@ -7,6 +7,7 @@ use Rattle.work_run.proofs.Begun.{begins_alone, cut_first}
 use Rattle.work_run.proofs.Deeds.{asked_so}
 use Rattle.work_run.proofs.NoRules.{has_none}
 use Rattle.work_run.proofs.starting.begin.Goals as goal
+use Rattle.size_laws.proofs.Moments.{takes_some}
 
 -- ---- there was no memory for the names
 
@@ -141,4 +142,4 @@ pub returns-in-None-clause-files : goal.returns-in-None-clause-files
 returns-in-None-clause-files g c count place none is = c.do_work.ensures.files count place refl is
 
 pub returns-in-None-clause-drawn : goal.returns-in-None-clause-drawn
-returns-in-None-clause-drawn g c = omega (arith, c.do_work.ensures.drawn)
+returns-in-None-clause-drawn g c each most = omega (arith, c.do_work.ensures.drawn each most, takes_some (grid_of c.args.store.now.cat) each most)

@@ -435,6 +435,7 @@ returns g c =
       dry = λ place is. inr (λ source request asks. w.dry place is source request (its request asks));
       idle = λ request asks calls. w.idle request (its request asks) calls;
       drawn = w.drawn;
+      in_few = w.in_few;
     }
 
 pub returns-in-Sweep-clause-call : goal.returns-in-Sweep-clause-call
@@ -495,3 +496,9 @@ pub returns-in-Sweep-clause-few : goal.returns-in-Sweep-clause-few
 returns-in-Sweep-clause-few g c = λ source request asks.
     let its = verb_asks (state_of c.args.self.now) c.args.asked c.args.body request c.in-Ok.request verb.Sweep c.in-Ok.is c.in-Sweep.is asks in
     c.sweep.ensures.few source request (its.1 ∙ ap (λ (o : Order). Ok (c.in-Ok.request.session, o)) its.2.1)
+
+pub returns-in-Query-clause-in_few : goal.returns-in-Query-clause-in_few
+returns-in-Query-clause-in_few g c = c.query.ensures.in_few
+
+pub returns-in-Exec-clause-in_few : goal.returns-in-Exec-clause-in_few
+returns-in-Exec-clause-in_few g c = c.exec.ensures.in_few

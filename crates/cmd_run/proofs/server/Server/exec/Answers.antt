@@ -101,3 +101,6 @@ returns-clause-remembers g c =
     remembers_none c.args.line c.args.self.now.store.cat c.args.outside.now.moments (g.D.Disk.disk main) (g.D.Disk.disk main)
     (still_remembers g.D.Disk.disk main main c.args.self.now.store c.args.outside.now.moments refl c.requires.ready.outside.main_last c.requires.fits.held
     c.requires.fits.pending)
+
+pub returns-in-Ok-clause-in_few : goal.returns-in-Ok-clause-in_few
+returns-in-Ok-clause-in_few g c = c.exec_call.ensures.in_few

@@ -1,4 +1,4 @@
-use Rattle.std.proofs.Common.{◌≡◌, ap, inl, refl, sym, subst, ◌∙◌, Ok, IsTrue}
+use Rattle.std.proofs.Common.{◌≡◌, ap, inl, refl, sym, subst, ◌∙◌, Ok, IsTrue, arith}
 use Rattle.std.specs.Prelude.{IsErrOf}
 use Rattle.grid_outside.specs.Source.{SourceState}
 use Rattle.grid_model.specs.Applying.{is_user}
@@ -100,3 +100,6 @@ returns-clause-passes g c =
     (passes_ended g.D.Disk.disk g.P.Plugin.plugin g.K.Sink.sink (record { outside = c.args.outside.now; sink = c.args.sink.now })
     (record { outside = c.execute-ran.new.outside; sink = c.execute-ran.new.sink })
     c.execute-ran.result c.execute-ran.ensures.passes)
+
+pub returns-clause-in_few : goal.returns-clause-in_few
+returns-clause-in_few g c within = omega (arith, c.execute-ran.ensures.few within)

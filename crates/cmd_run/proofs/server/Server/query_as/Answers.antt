@@ -1,4 +1,4 @@
-use Rattle.std.proofs.Common.{ap, refl, sym, subst, IsTrue}
+use Rattle.std.proofs.Common.{ap, refl, sym, subst, IsTrue, arith}
 use Rattle.std.specs.Prelude.{IsErrOf}
 use Rattle.grid_outside.specs.Source.{SourceState}
 use Rattle.grid_model.specs.Applying.{is_user}
@@ -101,3 +101,6 @@ returns-clause-passes g c =
 
 pub returns-clause-idle : goal.returns-clause-idle
 returns-clause-idle g c = λ request asks calls. c.ask-ran.ensures.idle calls.1
+
+pub returns-clause-in_few : goal.returns-clause-in_few
+returns-clause-in_few g c within = omega (arith, c.ask-ran.ensures.few within)

@@ -127,3 +127,6 @@ returns-clause-idle g c = λ request asks.
     c.work_as.ensures.idle request
     (is_work_of (state_of c.args.self.now) c.args.session c.args.verb.now c.args.body.now request c.requires.other asks
     (sym c.is_built.ensures ∙ c.if-not-is_built.false) small)
+
+pub returns-clause-in_few : goal.returns-clause-in_few
+returns-clause-in_few g c = c.work_as.ensures.in_few

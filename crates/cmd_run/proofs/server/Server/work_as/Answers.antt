@@ -1,4 +1,4 @@
-use Rattle.std.proofs.Common.{◌≡◌, ap, refl, sym, subst, Err, IsTrue}
+use Rattle.std.proofs.Common.{◌≡◌, ap, refl, sym, subst, Err, IsTrue, arith}
 use Rattle.std.specs.Prelude.{IsErrOf}
 use Rattle.grid_outside.specs.Source.{SourceState}
 use Rattle.grid_model.specs.Applying.{is_user}
@@ -109,3 +109,6 @@ returns-clause-idle g c = λ request asks calls refused.
     let its = refused_by_row s c.args.session c.args.user c.requires.logged_in c.args.verb.now c.args.body.now calls.1 request asks refused in
     let R : Command → Type 0 = λ x. row (grid_of s.store.cat) (user_name s.store.cat x.user) asks.op ≡ Err its.0 in
     c.operate-ran.ensures.idle asks.op its.0 asks.by_verb calls.1 (subst R (sym c.begin-command.ensures.is) its.1)
+
+pub returns-clause-in_few : goal.returns-clause-in_few
+returns-clause-in_few g c within = omega (arith, c.operate-ran.ensures.few within)

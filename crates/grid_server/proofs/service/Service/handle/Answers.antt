@@ -12,6 +12,7 @@ returns-clause-commands g c = (
     whole = c.command-answered.ensures.whole;
     call = c.command-answered.ensures.call;
     remembers = c.command-answered.ensures.remembers;
+    moments = c.command-answered.ensures.in_few;
     few = c.command-answered.ensures.few source;
   },
   c.command-answered.ensures.dry,

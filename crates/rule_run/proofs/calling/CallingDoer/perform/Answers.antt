@@ -61,7 +61,7 @@ returns-clause-goes g c from calls w =
     let b = spot c.run_call.new.outside c.run_call.new.sink c.run_call.new.store c.run_call.new.command (c.args.self.now.left - 1) in (
       more calls a _ refl w.0
           (called_performed g.D.Disk.disk g.A.Ambient.ambient g.P.Plugin.plugin g.K.Sink.sink a b c.args.call.now c.args.undo.now c.run_call.ensures.drawn
-          (one_less c.args.self.now.left c.if-self-eq0.false) c.run_call.result c.run_call.ensures.passes c.run_call.ensures.step),
+          (one_less c.args.self.now.left c.if-self-eq0.false) c.run_call.result c.requires.ready c.run_call.ensures.passes c.run_call.ensures.step),
       w.1,
       w.2,
       w.3,

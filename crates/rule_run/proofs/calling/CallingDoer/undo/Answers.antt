@@ -61,7 +61,7 @@ returns-clause-goes g c from calls w =
     let b = spot c.undo_one.new.outside c.undo_one.new.sink c.undo_one.new.store c.undo_one.new.command (c.args.self.now.left - 1) in (
       more calls a _ refl w.0
           (called_recovered g.D.Disk.disk g.A.Ambient.ambient g.P.Plugin.plugin g.K.Sink.sink a b c.args.call.now c.args.undo.now c.undo_one.ensures.drawn
-          (one_less c.args.self.now.left c.if-self-eq0.false) c.undo_one.result c.undo_one.ensures.passes c.undo_one.ensures.ends),
+          (one_less c.args.self.now.left c.if-self-eq0.false) c.undo_one.result c.requires.ready c.undo_one.ensures.passes c.undo_one.ensures.ends),
       w.1,
       w.2,
       w.3,

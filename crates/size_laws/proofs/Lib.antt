@@ -1,0 +1,10 @@
+pub mod Allowed
+pub mod Ending
+pub mod Moments
+pub mod SmallCalls
+pub mod SmallMaps
+pub mod SmallObjects
+pub mod SmallRequests
+pub mod SmallRows
+pub mod SmallRules
+pub mod SmallTables

@@ -1,0 +1,4 @@
+pub mod Laws
+pub mod Moments
+pub mod Requests
+pub mod Within
