@@ -6,9 +6,11 @@ mod IndexKeys
 mod GroupLists
 mod Indexes
 mod Locating
+mod EntryValues
 mod Runs
 mod Searching
 mod SharedValues
+mod TextOrders
 mod Trees
 mod VaultNumbers
 mod WaysUp

@@ -146,6 +146,17 @@ module _ (rows : List ReplicaRow) (sorted : IsStrictlySortedBy replica_cmp rows)
       none true e = absurd (by_row (find (λ r. is_replica object number r) rows) refl found e)
       none false e = refl
 
+  -- a number that no replica has
+  pub no_vault : (object number n : ℕ) → holds vaults n ≡ false → false ≡ list_any (λ o. (o.vault == n) && not (is_replica object number o)) rows
+  no_vault object number n free = none (list_any (λ o. (o.vault == n) && not (is_replica object number o)) rows) refl
+    where
+      none : (b : Bool) → list_any (λ o. (o.vault == n) && not (is_replica object number o)) rows ≡ b → false ≡ b
+      none true e =
+          let other = in_from_any (λ (o : ReplicaRow). (o.vault == n) && not (is_replica object number o)) rows e in
+          let here : holds vaults n ≡ true = has_vault rows vaults was n ∙ any_from_in (λ o. o.vault == n) rows other.0 other.1 (first_so _ _ other.2) in
+          absurd (cc)
+      none false e = refl
+
   pub other_vault : (object number n : ℕ) → ((own : ℕ) → Some own ≡ option_map (λ r. r.vault) (find (λ r. is_replica object number r) rows) → own ≡ n → ⊥)
       → holds vaults n ≡ list_any (λ o. (o.vault == n) && not (is_replica object number o)) rows
   other_vault object number n apart =

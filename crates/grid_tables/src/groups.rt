@@ -9,6 +9,7 @@ ghost use Rattle.grid_tables.specs.GroupLists.{group_id_cmp, list_of_group, IsPu
 ghost use Rattle.grid_tables.specs.Places.{passes};
 
 use crate::grouped::{GroupId, GroupKey, Grouped, InOneGroup, ONE_GROUP};
+use crate::recent::get_recent;
 use crate::row::{Numbered, OfItem};
 use crate::table::Table;
 use grid_model::ItemKind;
@@ -68,7 +69,7 @@ impl<T: Grouped> Groups<T> {
         ensures fits { IfSome result (λ row. IsTrue (T.fits row.now)) }
         ensures alone { (test : T → Bool) → list_any (λ r. Q.is_key_of key r && test r) self.now ≡ passes test (option_copied result) }
     {
-        match self.lists.get(&key.row_group()) {
+        match get_recent(&self.lists, &key.row_group()) {
             Some(rows) => rows.get(key),
             None => None,
         }
@@ -125,7 +126,7 @@ impl<T: OfItem> Groups<T> {
     pub(crate) fn of_item(&self, kind: ItemKind, id: u64) -> &[T]
         ensures { result.now ≡ filter (λ r. T.is_of r kind id) self.now }
     {
-        match self.lists.get(&T::item_group(kind, id)) {
+        match get_recent(&self.lists, &T::item_group(kind, id)) {
             Some(rows) => rows.of_item(kind, id),
             None => &[],
         }

@@ -7,6 +7,7 @@ ghost use Rattle.std.specs.Map.{lookup};
 ghost use Rattle.std.specs.Ordering.{nat_cmp};
 ghost use Rattle.grid_model.specs.Rows.{IsTable, with_row};
 
+use crate::recent::get_recent;
 use crate::row::{Numbered, Row};
 use std::alloc::{AllocError, Global};
 use std::collections::BTreeMap;
@@ -54,7 +55,7 @@ impl<T: Numbered> Keyed<T> {
         ensures row { option_copied result ≡ find (λ r. T.number r == id) self.now }
         ensures fits { IfSome result (λ row. IsTrue (T.fits row.now)) }
     {
-        self.rows.get(&id)
+        get_recent(&self.rows, &id)
     }
 
     /// An id from 1 on that no row has, above all ids; none where 2^64 - 1 is one.

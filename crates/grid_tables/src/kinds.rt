@@ -5,6 +5,7 @@ ghost use Rattle.std.specs.Ordering.{ordering_then};
 ghost use Rattle.grid_model.specs.Rows.{item_number};
 ghost use Rattle.grid_tables.specs.Items.{order_of_item};
 
+use crate::texts::text_order;
 use grid_model::{ItemKind, Level, ResourceKind, Text, UserKind, check_name};
 use std::cmp::Ordering;
 
@@ -94,7 +95,7 @@ pub(crate) fn then_text(order: Ordering, one: &Text, other: &Text) -> Ordering
 {
     match order {
         Ordering::Less => Ordering::Less,
-        Ordering::Equal => one.cmp(other),
+        Ordering::Equal => text_order(one.as_slice(), other.as_slice()),
         Ordering::Greater => Ordering::Greater,
     }
 }

@@ -1,4 +1,4 @@
-ghost use Rattle.std.specs.Prelude.{◌≡◌, ◌==◌, ◌&&◌, ℕ, Bool, false, [], find, filter, not, option_map, OnOk, OnErr};
+ghost use Rattle.std.specs.Prelude.{◌≡◌, ◌==◌, ◌&&◌, ℕ, Bool, false, [], find, filter, not, option_map, IfOk, OnOk, OnErr};
 ghost use Rattle.std.proofs.Common.{refl};
 ghost use Rattle.std.specs.List.{list_any};
 ghost use Rattle.std.specs.Ordering.{nat_cmp};
@@ -123,14 +123,18 @@ impl Replicas {
         ensures { result ≡ list_any (λ o. (o.vault == row.now.vault) && not (is_replica row.now.object row.now.number o)) self.now }
     {
         self.rows.in_order();
+        let known = self.vaults.has(row.vault);
+        if !known {
+            return false;
+        }
         match vault_of(&self.rows, row.object, row.number) {
             Some(own) => {
                 if own == row.vault {
                     return false;
                 }
-                self.vaults.has(row.vault)
+                true
             }
-            None => self.vaults.has(row.vault),
+            None => true,
         }
     }
 
@@ -143,9 +147,8 @@ impl Replicas {
     {
         self.rows.in_order();
         let vault = row.vault;
-        let known = self.vaults.has(vault);
         let before = vault_of(&self.rows, row.object, row.number);
-        put_vault(&mut self.vaults, vault)?;
+        let known = put_vault(&mut self.vaults, vault)?;
         match self.rows.put(row) {
             Ok(()) => {
                 drop_other(&mut self.vaults, before, vault);
@@ -175,13 +178,14 @@ impl Replicas {
     }
 }
 
-// Puts a vault number. Fails for want of memory alone, and then nothing is put.
-fn put_vault(vaults: &mut Keyed<Vault>, vault: u64) -> Result<(), AllocError>
+// Puts a vault number, and answers whether it was there. Fails for want of memory alone, and then nothing is put.
+fn put_vault(vaults: &mut Keyed<Vault>, vault: u64) -> Result<bool, AllocError>
     ensures put { OnOk result (vaults.new ≡ with_row ⟦<Vault as Row>⟧.row_cmp vaults.old (record { vault = vault })) }
+    ensures known { IfOk result (λ known. known ≡ list_any (λ v. v.vault == vault) vaults.old) }
     ensures failed { OnErr result (vaults.new ≡ vaults.old) }
 {
     match vaults.put(Vault { vault }) {
-        Ok(_) => Ok(()),
+        Ok(old) => Ok(old.is_some()),
         Err(_) => Err(AllocError),
     }
 }

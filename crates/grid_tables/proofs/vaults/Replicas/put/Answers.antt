@@ -15,12 +15,12 @@ invariant_of-self-in-Ok c =
     subst (λ (l : List ReplicaRow). IsVaults l c.drop_other.new.vaults) (sym c.in-Ok.ensures.put)
     (vaults_put c.self.inside.rows c.in_order.ensures.ordered c.self.inside.vaults c.self.invariant row c.vault_of-before.result c.drop_other.new.vaults free c.vault_of-before.ensures
     (λ n. c.drop_other.ensures n ∙ ap (λ b. b && not (is_left c.vault_of-before.result row.vault n))
-    (ap (λ (l : List Vault). holds l n) c.in_ok-put_vault.ensures.put ∙ holds_put c.self.inside.vaults (record { vault = row.vault }) n)))
+    (ap (λ (l : List Vault). holds l n) c.in_ok-known.ensures.put ∙ holds_put c.self.inside.vaults (record { vault = row.vault }) n)))
 
 pub invariant_of-self-in-Err : goal.invariant_of-self-in-Err
 invariant_of-self-in-Err c =
     subst (λ (l : List ReplicaRow). IsVaults l c.drop_where.new.vaults) (sym c.in-Err.ensures.failed)
     (vaults_moved c.self.inside.rows c.self.inside.vaults c.drop_where.new.vaults
-    (undone c.self.inside.vaults c.put_vault.new.vaults c.drop_where.new.vaults c.args.row.vault c.has-known.result c.has-known.ensures
-    (λ n. ap (λ (l : List Vault). holds l n) c.in_ok-put_vault.ensures.put ∙ holds_put c.self.inside.vaults (record { vault = c.args.row.vault }) n)
+    (undone c.self.inside.vaults c.put_vault.new.vaults c.drop_where.new.vaults c.args.row.vault c.in_ok-known.known c.in_ok-known.ensures.known
+    (λ n. ap (λ (l : List Vault). holds l n) c.in_ok-known.ensures.put ∙ holds_put c.self.inside.vaults (record { vault = c.args.row.vault }) n)
     c.drop_where.ensures) c.self.invariant)
