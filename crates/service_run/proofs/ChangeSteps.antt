@@ -56,8 +56,8 @@ module _ {D A P : Type 0} (disk : D → DiskState) (ambient : A → AmbientState
   changes_cut after = ends_so after (Err ending.Memory) tt
 
   -- changes of rows were staged
-  pub changes_made : (user : IsTrue (is_user rows.cat x.user)) (end : Cat) (deltas : List Delta) → LeadOn rows.cat deltas end → MakesGridOf rows.cat end does → (IsWithin (grid_of rows.cat) → IsWithin (grid_of end)) → (after : Journal)
-      → IsStaged kept end (disk o.main) after
+  pub changes_made : (user : IsTrue (is_user rows.cat x.user)) (end : Cat) (deltas : List Delta) → LeadOn rows.cat deltas end → MakesGridOf rows.cat end does
+      → (IsWithin (grid_of rows.cat) → IsWithin (grid_of end)) → (after : Journal) → IsStaged kept end (disk o.main) after
       → IsStep at at kept rows x call undo x after does (Ok (Ok tt))
   changes_made user end deltas led makes within after staged =
       let E : Cat → Type 0 = λ c. LeadOn rows.cat deltas c × MakesGridOf rows.cat c does × (IsWithin (grid_of rows.cat) → IsWithin (grid_of c)) in

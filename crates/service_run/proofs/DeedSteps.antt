@@ -320,7 +320,8 @@ module _ {D A P K : Type 0} (disk : D → DiskState) (ambient : A → AmbientSta
 
   beside_mid : KeepsBeside rows.cat mid 1
   beside_mid =
-      beside_since rows.cat x call undo s1.cat announced (length plan.files) mid w.makes.drawn_first users_mid user w.makes.is_plan.begins.named few_mid (λ within. subst IsWithin (sym grid_mid) within)
+      beside_since rows.cat x call undo s1.cat announced (length plan.files) mid w.makes.drawn_first users_mid user
+      w.makes.is_plan.begins.named few_mid (λ within. subst IsWithin (sym grid_mid) within)
 
   pending_mid : mid.pending ≡ Some (noted_in x call undo)
   pending_mid = pending_since rows.cat x call undo s1.cat announced (length plan.files) mid w.makes.drawn_first users_mid

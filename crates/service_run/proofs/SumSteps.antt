@@ -185,7 +185,8 @@ module _ {D A P : Type 0} (disk : D → DiskState) (ambient : A → AmbientState
 
     beside : KeepsBeside rows.cat after.cat 1
     beside = beside_more rows.cat after.cat 0 1 (omega arith) (beside_led rows.cat after.cat led.deltas leads
-        (λ within. subst IsWithin (sym grid_is) (ran_within rows.cat rows.cat (user_name rows.cat x.user) (chksum path) may.of refl may.row_is word now bad within)))
+        (λ within. subst IsWithin (sym grid_is)
+        (ran_within rows.cat rows.cat (user_name rows.cat x.user) (chksum path) may.of refl may.row_is word now bad within)))
 
     held_after : IsHeld kept (disk n.main) after
     held_after = led.staged.held

@@ -31,8 +31,8 @@ use std::alloc::Global;
 /// still to tell is told then.
 ///
 /// The answer is how the call came out. An error ends the command: `Memory` may come at any time, `Disk` and `Sink` where one of them
-/// failed, and `Worn` where the numbers of vault files or the room behind the log have run out. Draws at most 2^65 moments, and at most 2^20 where the
-/// grid is within its limits.
+/// failed, and `Worn` where the numbers of vault files or the room behind the log have run out. Draws at most 2^65 moments, and at most
+/// 2^20 where the grid is within its limits.
 pub fn run_call<D: Disk, K: Sink, A: Ambient, P: Plugin>(
     alloc: Global,
     store: &mut Store,

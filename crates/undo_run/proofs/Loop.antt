@@ -61,7 +61,8 @@ pub one_shorter : {X : Type 0} (xs ys : List X) (x : X) → xs ≡ ys ++ x ∷ [
 one_shorter xs ys x is = omega (arith, ap length is, length-append ys (x ∷ []))
 
 -- with one recovery fewer left, what those before it and it took is no more than for all
-pub one_drawn : (old at new all each left before now : ℕ) → left ≡ before + 1 → now ≡ before → at + left * each ≤ old + all → new ≤ at + each → new + now * each ≤ old + all
+pub one_drawn : (old at new all each left before now : ℕ) → left ≡ before + 1 → now ≡ before → at + left * each ≤ old + all
+    → new ≤ at + each → new + now * each ≤ old + all
 one_drawn old at new all each left before now one same drawn this =
     let turn : left * each ≡ before * each + each = omega (arith, ap (λ n. n * each) one, add-mul before 1 each) in
     omega (arith, turn, ap (λ n. n * each) same, drawn, this)

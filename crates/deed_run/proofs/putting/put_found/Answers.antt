@@ -135,7 +135,8 @@ returns-clause-step g c source kept d held row_is =
     put_step g.D.Disk.disk ambient g.P.Plugin.plugin g.K.Sink.sink source o n c.now-now.new.self c.args.sink.now c.write_marked.new.sink kept rows x call undo
     c.requires.user s1 s.cat (put_row (grid_of s1.cat) (user_name s1.cat x.user) path resource mode body) _ count_is (omega (arith, c.requires.slots, o.stores.ok.0))
     c.word-word.result c.now-now.result body c.in-Ok-put_plan.plan w c.in-Ok-put_plan.ensures.leaves
-    (ran_within s1.cat cat (user_name s1.cat x.user) (put path resource mode body) w.of (grid_before cat x call undo s1.cat s.cat) w.row_is c.word-word.result c.now-now.result [])
+    (ran_within s1.cat cat (user_name s1.cat x.user) (put path resource mode body) w.of (grid_before cat x call undo s1.cat s.cat)
+    w.row_is c.word-word.result c.now-now.result [])
     (ambient c.word-word.new.self) c.word-word.ensures (subst T (sym write.ambient) c.now-now.ensures) write.passes.frame.stores
     d (subst N (sym s.cat) (ap (λ (grid : Grid). put_row grid (user_name cat x.user) path resource mode body) (grid_before cat x call undo s1.cat s.cat) ∙ row_is))
     c.write_marked.result c.write_marked.new.command c.write_marked.new.store (write.marked kept s.held p) (write.whole kept s.held)
