@@ -46,11 +46,15 @@ use rule_keep::kept_rules;
 use run_open::{OpenError, open_run};
 use sess::Sessions;
 use std::alloc::{AllocError, Global};
+use std::mem::forget;
 
 /// Does what the words of the program ask for.
 ///
 /// `init <zone> <admin>` begins a grid on two empty disks, and `serve` answers the requests of the source over the
 /// catalogue on the main disk. Any other words are `Usage`. At most 2^48 + 1 bytes of the source are taken.
+///
+/// The program ends with a run, so the memory of the catalogue is not given back: that would take as long as a good part of
+/// its opening.
 pub fn run<D: Disk, S: Source, K: Sink, A: Ambient, P: Plugin>(
     alloc: Global,
     words: &[Text],
@@ -242,7 +246,7 @@ fn serve<D: Disk, S: Source, K: Sink, A: Ambient, P: Plugin>(
     }
 }
 
-// Answers the requests of the source over a catalogue that was read.
+// Answers the requests of the source over a catalogue that was read, whose memory goes with the program.
 fn serve_over<D: Disk, S: Source, K: Sink, A: Ambient, P: Plugin>(
     alloc: Global,
     store: Store,
@@ -285,12 +289,15 @@ fn serve_over<D: Disk, S: Source, K: Sink, A: Ambient, P: Plugin>(
     let kept = rows.stores();
     let given = outside.stores.len() as u8;
     if kept != given {
+        forget(store);
         return refuse_stores(alloc, &mut outside.moments, sink, kept, given);
     }
     let Ok(rules) = base_of(alloc, rows) else {
+        forget(store);
         return Status::Memory;
     };
     let Ok(sessions) = Sessions::new(alloc) else {
+        forget(store);
         return Status::Memory;
     };
     let mut store = store;
@@ -306,7 +313,10 @@ fn serve_over<D: Disk, S: Source, K: Sink, A: Ambient, P: Plugin>(
             source,
             sink,
         ),
-        Err(error) => unopened(error),
+        Err(error) => {
+            forget(store);
+            unopened(error)
+        }
     }
 }
 

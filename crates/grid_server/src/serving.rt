@@ -17,6 +17,7 @@ use crate::service::Service;
 use cmd_run::Server;
 use grid_outside::{Ambient, Disk, Outside, Plugin, Sink, Source, Wear};
 use std::alloc::Global;
+use std::mem::forget;
 
 /// Answers the requests of the source over a catalogue for which a run was begun, in order, until the input ends or
 /// something fails. `DiskFault`, `SourceFault` and `SinkFault` come only where that device failed.
@@ -54,7 +55,11 @@ pub(crate) fn serve_all<D: Disk, S: Source, K: Sink, A: Ambient, P: Plugin>(
     'requests: loop {
         match service.turn(alloc, outside, source, sink) {
             None => {}
-            Some(status) => return status,
+            Some(status) => {
+                // What it takes of memory goes with the program.
+                forget(service);
+                return status;
+            }
         }
     }
 }

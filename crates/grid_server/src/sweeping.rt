@@ -20,6 +20,7 @@ use crate::serving::serve_all;
 use cmd_run::Server;
 use grid_outside::{Ambient, Disk, Outside, Plugin, Sink, Source, Wear};
 use std::alloc::Global;
+use std::mem::forget;
 
 /// Removes the files that no replica has over a catalogue that was opened for a run, and then answers the requests of the
 /// source, until the input ends or something fails. `DiskFault`, `SourceFault` and `SinkFault` come only where that device
@@ -56,6 +57,10 @@ pub(crate) fn sweep_and_serve<D: Disk, S: Source, K: Sink, A: Ambient, P: Plugin
     let mut server = server;
     match server.sweep_orphans(alloc, outside) {
         Ok(()) => serve_all(alloc, server, outside, source, sink),
-        Err(ending) => status_of(ending),
+        Err(ending) => {
+            // What it takes of memory goes with the program.
+            forget(server);
+            status_of(ending)
+        }
     }
 }
