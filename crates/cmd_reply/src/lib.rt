@@ -7,8 +7,6 @@ mod marks;
 mod parts;
 mod refusals;
 mod report;
-#[cfg(test)]
-mod tests;
 mod writing;
 
 pub use marks::mark_line;

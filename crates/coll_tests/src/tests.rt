@@ -1,4 +1,5 @@
 mod listings;
+mod owning;
 mod plans;
 mod services;
 mod start;

@@ -17,8 +17,6 @@ mod refusal;
 mod replies;
 mod requests;
 mod rules;
-#[cfg(test)]
-mod tests;
 mod text;
 mod texts;
 

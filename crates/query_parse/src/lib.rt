@@ -24,6 +24,3 @@ pub use laws::{
     same_query_of_same_tokens,
 };
 pub use query::read_query;
-
-#[cfg(test)]
-mod tests;

@@ -11,8 +11,6 @@ pub mod lists;
 pub mod names;
 pub mod numbers;
 pub mod signed;
-#[cfg(test)]
-mod tests;
 pub mod words;
 
 pub use error::ReplyError;

@@ -15,8 +15,6 @@ mod lines;
 mod mark_fields;
 mod parts;
 mod reading;
-#[cfg(test)]
-mod tests;
 mod word_fields;
 
 pub use laws::written_replies_are_spelled;

@@ -4,8 +4,6 @@
 mod line;
 mod quoting;
 mod reading;
-#[cfg(test)]
-mod tests;
 
 pub use line::{WordError, words};
 pub use quoting::{is_bare, push_word, quote};

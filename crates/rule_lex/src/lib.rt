@@ -21,6 +21,3 @@ pub use error::LexError;
 pub use laws::{one_list_of_tokens, one_place_of_refusal, tokens_in_order};
 pub use lexer::lex;
 pub use token::{Symbol, Token, Tokens, Value};
-
-#[cfg(test)]
-mod tests;

@@ -12,6 +12,3 @@ mod search;
 pub use laws::{one_star, plain_patterns, two_patterns};
 pub use like::{like_sql, like_star};
 pub use piece::Piece;
-
-#[cfg(test)]
-mod tests;

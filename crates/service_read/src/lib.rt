@@ -6,8 +6,6 @@ mod error;
 mod names;
 mod reading;
 mod services;
-#[cfg(test)]
-mod tests;
 mod words;
 
 pub use reading::read_service;

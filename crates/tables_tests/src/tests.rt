@@ -1,14 +1,14 @@
+mod answers;
 mod changes;
 mod draws;
-mod keys;
-mod lookups;
+mod lines;
 mod owning;
 mod plain;
 mod plain_marks;
 mod plain_tree;
 mod random;
-mod refusals;
 mod rows;
+mod script;
 mod seen;
 mod steps;
 mod without_memory;

@@ -2,13 +2,15 @@
 
 ghost use Rattle.grid_model.specs.Applying.{IsMade};
 
-use super::start::{change, fill, user_of};
+use super::owning::{Part, try_part};
+use super::start::{change, user_of};
 use grid_model::{
     CollectionRow, Delta, EntryRow, ItemKind, Level, Path, PlanError, Rows, Text, UserKind, UserRow,
 };
 use grid_tables::{TableError, Tables};
 use plan_list::list_rows;
 use std::alloc::{AllocError, Global};
+use std::mem::forget;
 use std::process::Abort;
 use std::test::Fail;
 
@@ -76,7 +78,11 @@ fn listed(
     let user = user_of(rt, alloc, tables, name)?;
     let path = Path::parse(alloc, word.as_bytes())?;
     match list_rows(alloc, tables, user, &path) {
-        Ok(rows) => Ok(text_of(alloc, &rows)?),
+        Ok(rows) => {
+            let text = text_of(alloc, &rows);
+            forget(rows);
+            Ok(text?)
+        }
         Err(PlanError::Refused(refusal)) => {
             let text = format!(in alloc; "{refusal:?}")?;
             Ok(text.into_bytes())
@@ -85,7 +91,19 @@ fn listed(
     }
 }
 
-fn listings_are_as_wanted(rt: &impl Abort, alloc: Global, tables: &Tables) -> Result<(), Fail>
+/// What is listed of the small grid with more in it.
+pub(crate) fn listings_are_as_wanted(
+    rt: &impl Abort,
+    alloc: Global,
+    tables: &mut Tables,
+) -> Result<(), Fail>
+    requires { IsMade tables.old }
+{
+    add_more(alloc, tables)?;
+    are_listed(rt, alloc, tables)
+}
+
+fn are_listed(rt: &impl Abort, alloc: Global, tables: &Tables) -> Result<(), Fail>
     requires { IsMade tables.now }
 {
     for (name, word, wanted) in [
@@ -121,8 +139,5 @@ fn listings_are_as_wanted(rt: &impl Abort, alloc: Global, tables: &Tables) -> Re
 
 #[test]
 fn listings_of_a_small_grid(rt: HostRuntime) -> Result<(), Fail> {
-    let mut tables = Tables::empty(rt.alloc());
-    fill(rt.alloc(), &mut tables)?;
-    add_more(rt.alloc(), &mut tables)?;
-    listings_are_as_wanted(&rt, rt.alloc(), &tables)
+    try_part(&rt, rt.alloc(), Part::Listings)
 }

@@ -5,7 +5,8 @@ ghost use Rattle.grid_model.specs.Applying.{IsMade, is_user};
 ghost use Rattle.grid_model.specs.Names.{is_name};
 ghost use Rattle.std.specs.Prelude.{IsTrue};
 
-use super::start::{change, fill, user_of};
+use super::owning::{Part, try_part};
+use super::start::{change, user_of};
 use grid_model::{Deltas, Path, PlanError, Refusal, Text, UserKind, check_name};
 use grid_tables::{Kind, TableError, Tables};
 use plan_coll::{plan_mkdir, plan_mkgroup, plan_mkuser, plan_rmdir};
@@ -115,8 +116,8 @@ fn outcome(
     }
 }
 
-// In turn.
-fn steps_come_to_what_is_wanted(
+/// Does them in turn, over the small grid.
+pub(crate) fn steps_come_to_what_is_wanted(
     rt: &impl Abort,
     alloc: Global,
     tables: &mut Tables,
@@ -197,7 +198,5 @@ fn steps_come_to_what_is_wanted(
 
 #[test]
 fn users_with_homes_and_collections(rt: HostRuntime) -> Result<(), Fail> {
-    let mut tables = Tables::empty(rt.alloc());
-    fill(rt.alloc(), &mut tables)?;
-    steps_come_to_what_is_wanted(&rt, rt.alloc(), &mut tables)
+    try_part(&rt, rt.alloc(), Part::Plans)
 }

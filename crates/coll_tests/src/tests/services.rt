@@ -10,12 +10,14 @@ ghost use Rattle.plan_service.specs.ServicePlans.{PlansCall};
 ghost use Rattle.std.specs.List.{list_all};
 ghost use Rattle.std.specs.Prelude.{◌≡◌, IfOk, IsTrue};
 
+use super::owning::{Part, try_part};
 use super::plans::has_no_metadata;
-use super::start::{fill, user_of};
+use super::start::user_of;
 use grid_model::{Call, Delta, Deltas, Text, Texts};
 use grid_tables::{TableError, Tables};
 use plan_service::{ServiceError, ServicePlan, plan_call, words_are_added};
 use std::alloc::{AllocError, Global};
+use std::mem::forget;
 use std::process::Abort;
 use std::test::Fail;
 
@@ -116,7 +118,10 @@ fn call(rt: &impl Abort, alloc: Global, tables: &mut Tables, line: &str) -> Resu
             make_all(tables, deltas)?;
             Ok(())
         }
-        Ok(_) => Err(Fail::from("a deed")),
+        Ok(plan) => {
+            forget(plan);
+            Err(Fail::from("a deed"))
+        }
         Err(error) => Err(Fail::from(error)),
     }
 }
@@ -169,13 +174,21 @@ fn shown(rt: &impl Abort, alloc: Global, tables: &Tables, line: &str) -> Result<
     requires spelled { HasSpelledRows tables.now }
 {
     match planned(rt, alloc, tables, line)? {
-        Ok(plan) => Ok(plan_shown(alloc, &plan)?),
-        Err(error) => Ok(format!(in alloc; "{error:?}")?),
+        Ok(plan) => {
+            let text = plan_shown(alloc, &plan);
+            forget(plan);
+            Ok(text?)
+        }
+        Err(error) => {
+            let text = format!(in alloc; "{error:?}");
+            forget(error);
+            Ok(text?)
+        }
     }
 }
 
-// What each call comes to in the one grid.
-fn calls_come_to_what_is_wanted(
+/// What each call comes to in the one small grid.
+pub(crate) fn calls_come_to_what_is_wanted(
     rt: &impl Abort,
     alloc: Global,
     tables: &mut Tables,
@@ -300,7 +313,5 @@ NoObject { id: 1 }
 
 #[test]
 fn micro_services(rt: HostRuntime) -> Result<(), Fail> {
-    let mut tables = Tables::empty(rt.alloc());
-    fill(rt.alloc(), &mut tables)?;
-    calls_come_to_what_is_wanted(&rt, rt.alloc(), &mut tables)
+    try_part(&rt, rt.alloc(), Part::Services)
 }

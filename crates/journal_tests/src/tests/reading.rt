@@ -1,39 +1,29 @@
 // What main may hold, and where it shows that it is no catalogue.
-use super::{begun, fault_of, with_record};
-use grid_journal::{JournalError, Store};
-use grid_mem::MemDisk;
-use grid_model::{Side, Text};
-use grid_outside::Moments;
+use super::{begin_over, begun, fault_of, opened};
+use grid_journal::JournalError;
+use grid_model::Side;
 use std::alloc::Global;
 use std::process::Abort;
 use std::test::Fail;
 
-// What a store over a new grid tells.
-fn shows_a_new_grid(rt: &impl Abort, alloc: Global, store: &Store) -> Result<(), Fail> {
-    assert!(rt; store.is_sound());
-    assert_eq!(rt; store.staged().as_slice().len(), 0);
-    assert_eq!(rt; store.tables().stores(), 2);
-    let admin = Text::copy_of(alloc, b"rods")?;
-    assert_eq!(rt; store.tables().user_named(&admin), Some(1));
-    let leaf = Text::copy_of(alloc, b"d0")?;
-    assert_eq!(rt; store.tables().resource_named(&leaf), None);
-    Ok(())
-}
-
 #[test]
 fn a_new_grid_is_read(rt: HostRuntime) -> Result<(), Fail> {
     let alloc = rt.alloc();
-    let mut main = MemDisk::new(alloc, begun(alloc)?, Vec::new(alloc))?;
-    let mut spare = MemDisk::new(alloc, Vec::new(alloc), Vec::new(alloc))?;
-    let store = Store::open(alloc, &mut main, &mut spare)?;
-    assert_eq!(rt; main.calls().len(), 0);
-    assert_eq!(rt; spare.calls().len(), 0);
-    shows_a_new_grid(&rt, alloc, &store)
+    let told = opened(&rt, alloc, &begun(alloc)?)??;
+    assert_eq!(rt;
+        (told.main_calls, told.spare_calls, told.is_sound),
+        (0, 0, true)
+    );
+    assert_eq!(rt;
+        (told.staged, told.stores, told.admin, told.leaf),
+        (0, 2, Some(1), None)
+    );
+    Ok(())
 }
 
 // Main is refused at this place.
 fn refuses_at(rt: &impl Abort, alloc: Global, main: &[u8], at: u64) -> Result<(), Fail> {
-    assert_eq!(rt; fault_of(alloc, main)?, Some(at), "{main:?}");
+    assert_eq!(rt; fault_of(rt, alloc, main)?, Some(at), "{main:?}");
     Ok(())
 }
 
@@ -107,7 +97,7 @@ fn what_is_not_read_may_be_anything(rt: HostRuntime) -> Result<(), Fail> {
     }
     main.pop();
     main.extend_from_slice(&[7, 1, 1, 1])?;
-    assert_eq!(rt; fault_of(alloc, &main)?, None);
+    assert_eq!(rt; fault_of(&rt, alloc, &main)?, None);
     Ok(())
 }
 
@@ -119,14 +109,11 @@ fn refuses_to_begin(
     second: &[u8],
     wanted: JournalError,
 ) -> Result<(), Fail> {
-    let mut main = MemDisk::new(alloc, first.to_vec(alloc)?, Vec::new(alloc))?;
-    let mut spare = MemDisk::new(alloc, second.to_vec(alloc)?, Vec::new(alloc))?;
-    let mut moments = Moments::start();
-    let name = Text::copy_of(alloc, b"z")?;
-    let done = Store::init(alloc, &mut main, &mut spare, &mut moments, &name, &name, 1);
-    assert_eq!(rt; done, Err(wanted));
-    assert_eq!(rt; main.bytes(), first);
-    assert_eq!(rt; spare.bytes(), second);
+    let (done, main, spare) = begin_over(alloc, first, second)?;
+    assert_eq!(rt;
+        (done, main.as_slice(), spare.as_slice()),
+        (Err(wanted), first, second)
+    );
     Ok(())
 }
 

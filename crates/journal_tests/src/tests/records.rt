@@ -30,12 +30,12 @@ fn refuses_record(
     body: &[u8],
     place: usize,
 ) -> Result<(), Fail> {
-    let other = with_record(alloc, main, body)?;
     let fault = place_in(main, place);
-    assert_eq!(rt; fault_of(alloc, &other)?, Some(fault), "{body:?}");
-    let longer = with_record(alloc, main, &joined(alloc, RUN, body)?)?;
-    let fault = fault.saturating_add(25);
-    assert_eq!(rt; fault_of(alloc, &longer)?, Some(fault), "{body:?}");
+    let wanted = (Some(fault), Some(fault.saturating_add(25)));
+    let alone = fault_of(rt, alloc, &with_record(alloc, main, body)?)?;
+    let longer = joined(alloc, RUN, body)?;
+    let behind = fault_of(rt, alloc, &with_record(alloc, main, &longer)?)?;
+    assert_eq!(rt; (alone, behind), wanted, "{body:?}");
     Ok(())
 }
 
@@ -118,7 +118,7 @@ fn rules_are_taken_as_they_are_printed(rt: HostRuntime) -> Result<(), Fail> {
         b"\x10\0\0\0\0\0\0\0\x1Ca ( ) { b ( ) ; }\nb ( ) { }\n",
     ] {
         let longer = with_record(alloc, &main, body)?;
-        assert_eq!(rt; fault_of(alloc, &longer)?, None, "{body:?}");
+        assert_eq!(rt; fault_of(&rt, alloc, &longer)?, None, "{body:?}");
     }
     Ok(())
 }
@@ -147,10 +147,13 @@ fn other_texts_of_rules_are_refused_where_the_delta_begins(rt: HostRuntime) -> R
 fn records_without_a_fault_are_taken(rt: HostRuntime) -> Result<(), Fail> {
     let alloc = rt.alloc();
     // No deltas at all are a record.
-    let main = with_record(alloc, &begun(alloc)?, b"")?;
-    assert_eq!(rt; fault_of(alloc, &main)?, None);
-    let main = with_record(alloc, &main, RUN)?;
-    assert_eq!(rt; fault_of(alloc, &main)?, None);
+    let first = with_record(alloc, &begun(alloc)?, b"")?;
+    let second = with_record(alloc, &first, RUN)?;
+    let faults = (
+        fault_of(&rt, alloc, &first)?,
+        fault_of(&rt, alloc, &second)?,
+    );
+    assert_eq!(rt; faults, (None, None));
     Ok(())
 }
 
@@ -162,10 +165,10 @@ fn the_first_fault_is_told(rt: HostRuntime) -> Result<(), Fail> {
     let first = with_record(alloc, &main, b"\x15")?;
     let both = with_record(alloc, &first, b"\0")?;
     let place = place_in(&main, 0);
-    assert_eq!(rt; fault_of(alloc, &both)?, Some(place));
     // A log that does not end is told before any record.
     let end = both.len().saturating_sub(1);
     let cut = &both.as_slice()[..end];
-    assert_eq!(rt; fault_of(alloc, cut)?, Some(end as u64));
+    let faults = (fault_of(&rt, alloc, &both)?, fault_of(&rt, alloc, cut)?);
+    assert_eq!(rt; faults, (Some(place), Some(end as u64)));
     Ok(())
 }

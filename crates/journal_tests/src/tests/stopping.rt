@@ -1,8 +1,12 @@
 // What a stop within a commit may leave of main, made from the disk's own record of its calls.
-use super::changing::commits;
+ghost use Rattle.std.specs.Prelude.{◌≡◌, IsTrue};
+ghost use Rattle.grid_mem.specs.MemDisk.{disk_of};
+
+use super::changing::over_store;
 use super::{begun, run_on};
-use grid_mem::{DiskDeed, MemDisk};
+use grid_mem::{Call, DiskDeed, MemDisk};
 use std::alloc::{AllocError, Global};
+use std::mem::forget;
 use std::process::Abort;
 use std::test::Fail;
 
@@ -26,7 +30,7 @@ fn with_bytes(alloc: Global, held: &[u8], at: usize, bytes: &[u8]) -> Result<Vec
 
 // The image has one of two runs.
 fn has_run(rt: &impl Abort, alloc: Global, image: &[u8], runs: (u64, u64)) -> Result<(), Fail> {
-    let run = run_on(alloc, image)?;
+    let run = run_on(rt, alloc, image)?;
     assert!(rt; run == runs.0 || run == runs.1, "run {run}");
     Ok(())
 }
@@ -83,17 +87,37 @@ fn images_of(
     }
 }
 
+// Opens what a stop within each of these calls may leave of main, which held these bytes at first, and these in the end.
+fn images_of_all(
+    rt: &impl Abort,
+    alloc: Global,
+    first: &[u8],
+    calls: &[Call<DiskDeed>],
+    last: &[u8],
+) -> Result<(), Fail> {
+    let mut held = first.to_vec(alloc)?;
+    for (call, runs) in calls.iter().zip(RUNS) {
+        held = images_of(rt, alloc, &held, &call.deed, runs)?;
+    }
+    assert_eq!(rt; (calls.len(), held.as_slice()), (RUNS.len(), last));
+    Ok(())
+}
+
+// Commits over main, which holds these bytes, and opens what a stop may leave of it.
+fn stops(rt: &impl Abort, alloc: Global, first: &[u8], main: &mut MemDisk) -> Result<(), Fail>
+    requires tells { IsTrue (disk_of main.old).tells }
+    requires last { (disk_of main.old).last ≡ 0 }
+{
+    over_store(rt, alloc, main, Some(0))??;
+    images_of_all(rt, alloc, first, main.calls(), main.bytes())
+}
+
 #[test]
 fn a_stop_leaves_the_one_catalogue_or_the_other(rt: HostRuntime) -> Result<(), Fail> {
     let alloc = rt.alloc();
-    let mut held = begun(alloc)?;
-    let mut main = MemDisk::new(alloc, held.as_slice().to_vec(alloc)?, Vec::new(alloc))?;
-    let done = commits(&rt, alloc, &mut main)?;
-    assert_eq!(rt; done, Ok(()));
-    assert_eq!(rt; main.calls().len(), RUNS.len());
-    for (call, runs) in main.calls().iter().zip(RUNS) {
-        held = images_of(&rt, alloc, &held, &call.deed, runs)?;
-    }
-    assert_eq!(rt; held.as_slice(), main.bytes());
-    Ok(())
+    let first = begun(alloc)?;
+    let mut main = MemDisk::new(alloc, first.as_slice().to_vec(alloc)?, Vec::new(alloc))?;
+    let result = stops(&rt, alloc, &first, &mut main);
+    forget(main);
+    result
 }

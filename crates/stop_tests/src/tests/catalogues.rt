@@ -7,6 +7,7 @@ use grid_journal::Store;
 use grid_mem::{MemDisk, MemFiles};
 use grid_tables::Tables;
 use std::alloc::Global;
+use std::mem::forget;
 use std::process::Abort;
 use std::test::Fail;
 
@@ -22,7 +23,6 @@ pub(crate) struct Kept {
     pub(crate) rows: Vec<u8>,
 }
 
-// It stands apart since each way out of a function that owns a store is dear to prove.
 fn kept_by(
     rt: &impl Abort,
     alloc: Global,
@@ -57,15 +57,40 @@ pub(crate) struct Seen {
     pub(crate) kept: Kept,
 }
 
+fn kept_over(
+    rt: &impl Abort,
+    alloc: Global,
+    main: &mut MemDisk,
+    spare: &mut MemDisk,
+    left: &Left,
+) -> Result<Kept, Fail> {
+    let store = Store::open(alloc, main, spare)?;
+    let kept = kept_by(rt, alloc, store.tables(), &left.stores);
+    forget(store);
+    kept
+}
+
+fn kept_on(rt: &impl Abort, alloc: Global, main: &mut MemDisk, left: &Left) -> Result<Kept, Fail> {
+    let mut spare = MemDisk::new(alloc, Vec::new(alloc), Vec::new(alloc))?;
+    let kept = kept_over(rt, alloc, main, &mut spare, left);
+    forget(spare);
+    kept
+}
+
 fn kept_in(rt: &impl Abort, alloc: Global, left: &Left) -> Result<Kept, Fail> {
     let mut main = MemDisk::new(alloc, left.main.clone()?, Vec::new(alloc))?;
-    let mut spare = MemDisk::new(alloc, Vec::new(alloc), Vec::new(alloc))?;
-    let store = Store::open(alloc, &mut main, &mut spare)?;
-    kept_by(rt, alloc, store.tables(), &left.stores)
+    let kept = kept_on(rt, alloc, &mut main, left);
+    forget(main);
+    kept
 }
 
 // Reads the catalogue that a stop left, by which the files of the stores are whole.
 pub(crate) fn see(rt: &impl Abort, alloc: Global, left: Left) -> Result<Seen, Fail> {
-    let kept = kept_in(rt, alloc, &left)?;
-    Ok(Seen { left, kept })
+    match kept_in(rt, alloc, &left) {
+        Ok(kept) => Ok(Seen { left, kept }),
+        Err(error) => {
+            forget(left);
+            Err(error)
+        }
+    }
 }

@@ -1,9 +1,10 @@
 // What the session leaves that is not stopped, after each of its requests.
-use super::catalogues::see;
-use super::images::left_behind;
-use super::serving::{Left, serve};
+use super::catalogues::{Seen, see};
+use super::images::serve_on;
+use super::serving::{Left, told_over};
 use super::session::{LISTS, count, replies, requests};
 use std::alloc::Global;
+use std::mem::forget;
 use std::process::Abort;
 use std::test::Fail;
 
@@ -15,21 +16,32 @@ pub(crate) struct Front {
     pub(crate) listed: Vec<u8>,
 }
 
+fn front_seen(rt: &impl Abort, alloc: Global, seen: &Seen, told: usize) -> Result<Front, Fail> {
+    assert_eq!(rt; seen.kept.pending, 0);
+    let rows = seen.kept.rows.clone()?;
+    let listed = told_over(rt, alloc, &seen.left, LISTS)?;
+    Ok(Front { told, rows, listed })
+}
+
 // Serves the first so many requests over a new grid.
 fn front_of(rt: &impl Abort, alloc: Global, new: &Left, count: usize) -> Result<Front, Fail> {
-    let served = serve(rt, alloc, new, &requests(alloc, count)?)?;
+    let input = requests(alloc, count)?;
     let wanted = replies(alloc, count)?;
-    assert_eq!(rt; served.sink.bytes(), wanted.as_slice());
-    let seen = see(rt, alloc, left_behind(alloc, &served)?)?;
-    assert_eq!(rt; seen.kept.pending, 0);
-    let listed = serve(rt, alloc, &seen.left, LISTS)?;
-    let listed = listed.sink.bytes().to_vec(alloc)?;
-    let kept = seen.kept;
-    Ok(Front {
-        told: wanted.len(),
-        rows: kept.rows,
-        listed,
-    })
+    let seen = see(rt, alloc, serve_on(rt, alloc, new, &input, &wanted)?)?;
+    let front = front_seen(rt, alloc, &seen, wanted.len());
+    forget(seen);
+    front
+}
+
+// How many requests were answered whole, by how many bytes were told.
+pub(crate) fn count_answered(fronts: &[Front], told: usize) -> usize {
+    let mut count: usize = 0;
+    for front in fronts.iter().skip(1) {
+        if front.told <= told {
+            count = count.saturating_add(1);
+        }
+    }
+    count
 }
 
 // All fronts, that of no request first.

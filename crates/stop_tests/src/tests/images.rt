@@ -1,8 +1,11 @@
 // What a stop leaves, by the records of the devices: all calls that are over, as far as they are sure, and a part of the one
 // that is being made.
-use super::serving::{Left, Served, Watch};
+use super::serving::{Left, Served, Watch, begun, serve};
+use super::session::{replies, requests};
 use grid_mem::{Call, DiskDeed, MemFiles, StoreDeed, StoreRecord};
 use std::alloc::{AllocError, Global};
+use std::mem::forget;
+use std::process::Abort;
 use std::test::Fail;
 
 // How much is left of the call that a stop comes in, and of what is not sure yet: what main has not synced, and files that
@@ -40,19 +43,36 @@ pub(crate) fn count_calls(served: &Served) -> Result<usize, Fail> {
     Ok(count)
 }
 
-// What a stop in a run leaves.
-pub(crate) fn left_at(alloc: Global, served: &Served, stop: Stop) -> Result<Left, Fail> {
+// All stops of a run: in each way in each call, and behind the last one.
+pub(crate) fn stops_of(alloc: Global, served: &Served) -> Result<Vec<Stop>, Fail> {
+    let mut stops = Vec::new(alloc);
+    let end = count_calls(served)?.saturating_add(1);
+    for moment in 1..=end {
+        for way in WAYS {
+            stops.push(Stop {
+                moment: moment as u128,
+                way,
+            })?;
+        }
+    }
+    Ok(stops)
+}
+
+fn stores_at(alloc: Global, served: &Served, stop: Stop) -> Result<[MemFiles; 3], Fail> {
     let [first, second, third] = &served.stores;
-    let stores = [
+    Ok([
         files_at(alloc, first, stop)?,
         files_at(alloc, second, stop)?,
         files_at(alloc, third, stop)?,
-    ];
-    Ok(Left {
-        main: main_at(alloc, &served.start, served.main.calls(), stop)?,
-        stores,
-        told: told_at(alloc, served.sink.calls(), stop)?,
-    })
+    ])
+}
+
+// What a stop in a run leaves.
+pub(crate) fn left_at(alloc: Global, served: &Served, stop: Stop) -> Result<Left, Fail> {
+    let main = main_at(alloc, &served.start, served.main.calls(), stop)?;
+    let told = told_at(alloc, served.sink.calls(), stop)?;
+    let stores = stores_at(alloc, served, stop)?;
+    Ok(Left { main, stores, told })
 }
 
 // What a run leaves that was not stopped.
@@ -63,6 +83,31 @@ pub(crate) fn left_behind(alloc: Global, served: &Served) -> Result<Left, Fail> 
         way: Way::Before,
     };
     left_at(alloc, served, stop)
+}
+
+// Serves these requests over what was left, by which this is told, and answers what that leaves.
+pub(crate) fn serve_on(
+    rt: &impl Abort,
+    alloc: Global,
+    left: &Left,
+    input: &[u8],
+    told: &[u8],
+) -> Result<Left, Fail> {
+    let served = serve(rt, alloc, left, input)?;
+    assert_eq!(rt; served.sink.bytes(), told);
+    let behind = left_behind(alloc, &served);
+    forget(served);
+    behind
+}
+
+// A new grid with three leaves and the replication over them.
+pub(crate) fn with_leaves(rt: &impl Abort, alloc: Global) -> Result<Left, Fail> {
+    let input = requests(alloc, 8)?;
+    let told = replies(alloc, 8)?;
+    let new = begun(rt, alloc)?;
+    let left = serve_on(rt, alloc, &new, &input, &told);
+    forget(new);
+    left
 }
 
 // How many of these calls are over.
@@ -245,26 +290,52 @@ fn finished(alloc: Global, files: MemFiles) -> Result<MemFiles, AllocError> {
     Ok(MemFiles::new(sure))
 }
 
-// What a stop leaves of the files of a store.
-fn files_at(alloc: Global, watch: &Watch, stop: Stop) -> Result<MemFiles, Fail> {
-    let record = watch.try_borrow()?;
-    let mut image = StoreRecord::new(alloc, record.start.clone()?);
-    for call in &record.calls {
-        if call.moment < stop.moment {
-            image.calls.push(call.clone()?)?;
-        } else if call.moment == stop.moment {
-            if let Some(deed) = part_of_deed(alloc, &call.deed, stop.way)? {
-                image.calls.push(Call {
-                    moment: call.moment,
-                    deed,
-                    done: true,
-                })?;
-            }
+// Adds what a stop leaves of this call of a store to those before it.
+fn add_call(
+    alloc: Global,
+    call: &Call<StoreDeed>,
+    stop: Stop,
+    image: &mut StoreRecord,
+) -> Result<(), AllocError> {
+    if call.moment < stop.moment {
+        image.calls.push(call.clone()?)?;
+    } else if call.moment == stop.moment {
+        if let Some(deed) = part_of_deed(alloc, &call.deed, stop.way)? {
+            image.calls.push(Call {
+                moment: call.moment,
+                deed,
+                done: true,
+            })?;
         }
+    }
+    Ok(())
+}
+
+fn files_by(
+    alloc: Global,
+    calls: &[Call<StoreDeed>],
+    stop: Stop,
+    image: &mut StoreRecord,
+) -> Result<MemFiles, Fail> {
+    for call in calls {
+        add_call(alloc, call, stop, image)?;
     }
     let files = image.files(alloc)?;
     if stop.way == Way::Lost {
         return Ok(finished(alloc, files)?);
     }
     Ok(files)
+}
+
+fn files_in(alloc: Global, record: &StoreRecord, stop: Stop) -> Result<MemFiles, Fail> {
+    let mut image = StoreRecord::new(alloc, record.start.clone()?);
+    let files = files_by(alloc, &record.calls, stop, &mut image);
+    forget(image);
+    files
+}
+
+// What a stop leaves of the files of a store.
+fn files_at(alloc: Global, watch: &Watch, stop: Stop) -> Result<MemFiles, Fail> {
+    let record = watch.try_borrow()?;
+    files_in(alloc, &record, stop)
 }

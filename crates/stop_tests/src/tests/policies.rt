@@ -1,11 +1,13 @@
 // A session whose puts have rules behind them, and whose get has one before it, stopped at each moment: a command that is pending is
 // undone from what it told, and the others are done or not.
 use super::catalogues::{Kept, Seen, see};
-use super::images::{Stop, WAYS, count_calls, count_same, left_at, left_behind};
+use super::fronts::{Front, count_answered};
+use super::images::{Stop, count_same, left_at, serve_on, stops_of, with_leaves};
+use super::reopening::open_and_list;
 use super::reports::report_of;
-use super::serving::{Left, Served, begun, serve};
-use super::session::{replies, requests};
+use super::serving::{Left, Served, serve, told_over};
 use std::alloc::{AllocError, Global};
+use std::mem::forget;
 use std::process::Abort;
 use std::test::Fail;
 
@@ -95,56 +97,27 @@ fn first_replies(alloc: Global, count: usize) -> Result<Vec<u8>, AllocError> {
     Ok(told)
 }
 
-// Serves these requests over what was left, and answers what that leaves.
-fn serve_on(
-    rt: &impl Abort,
-    alloc: Global,
-    left: &Left,
-    input: &[u8],
-    told: &[u8],
-) -> Result<Left, Fail> {
-    let served = serve(rt, alloc, left, input)?;
-    assert_eq!(rt; served.sink.bytes(), told);
-    left_behind(alloc, &served)
-}
-
-// What is listed over what was left.
-fn listed_on(rt: &impl Abort, alloc: Global, left: &Left) -> Result<Vec<u8>, Fail> {
-    let served = serve(rt, alloc, left, LISTS)?;
-    Ok(served.sink.bytes().to_vec(alloc)?)
-}
-
-// A front of the session: how many bytes its replies have, and what is listed behind it.
-#[derive(Drop)]
-struct Front {
-    told: usize,
-    listed: Vec<u8>,
+// The front of the session behind so many requests, over a grid that was made. The rows are not looked at.
+fn front_of(rt: &impl Abort, alloc: Global, made: &Left, count: usize) -> Result<Front, Fail> {
+    let input = first_requests(alloc, count)?;
+    let told = first_replies(alloc, count)?;
+    let left = serve_on(rt, alloc, made, &input, &told)?;
+    let listed = told_over(rt, alloc, &left, LISTS);
+    forget(left);
+    Ok(Front {
+        told: told.len(),
+        rows: Vec::new(alloc),
+        listed: listed?,
+    })
 }
 
 // All fronts, that of no request first.
 fn fronts_of(rt: &impl Abort, alloc: Global, made: &Left) -> Result<Vec<Front>, Fail> {
     let mut fronts = Vec::new(alloc);
     for count in 0..=SESSION.len() {
-        let input = first_requests(alloc, count)?;
-        let told = first_replies(alloc, count)?;
-        let left = serve_on(rt, alloc, made, &input, &told)?;
-        fronts.push(Front {
-            told: told.len(),
-            listed: listed_on(rt, alloc, &left)?,
-        })?;
+        fronts.push(front_of(rt, alloc, made, count)?)?;
     }
     Ok(fronts)
-}
-
-// How many requests were answered whole, by how many bytes were told.
-fn count_answered(fronts: &[Front], told: usize) -> usize {
-    let mut count: usize = 0;
-    for front in fronts.iter().skip(1) {
-        if front.told <= told {
-            count = count.saturating_add(1);
-        }
-    }
-    count
 }
 
 // The lines of the recoveries that are refused where this is pending.
@@ -202,40 +175,33 @@ fn listed_behind<'a>(
     Ok((front.listed.as_slice(), front.listed.as_slice()))
 }
 
-// Opens what was left: this is told, nothing is pending then, and there are no files that no replica has. It answers the run, and what is
-// listed behind it.
 fn open(
     rt: &impl Abort,
     alloc: Global,
     seen: &Seen,
-    report: &[u8],
+    passed: &[u8],
 ) -> Result<(Served, Vec<u8>), Fail> {
-    let opened = serve(rt, alloc, &seen.left, b"")?;
-    assert_eq!(rt; opened.sink.bytes(), report);
-    let behind = see(rt, alloc, left_behind(alloc, &opened)?)?;
-    assert_eq!(rt; behind.kept.run, seen.kept.run.saturating_add(1));
-    assert_eq!(rt; behind.kept.pending, 0);
-    assert_eq!(rt; behind.kept.orphans, 0);
-    let listed = listed_on(rt, alloc, &behind.left)?;
-    Ok((opened, listed))
+    let report = report_of(alloc, &seen.kept, passed)?;
+    let run = seen.kept.run.saturating_add(1);
+    open_and_list(rt, alloc, &seen.left, &report, run, LISTS)
 }
 
-// All stops of a run: in each way in each call, and behind the last one.
-fn stops_of(alloc: Global, served: &Served) -> Result<Vec<Stop>, Fail> {
-    let mut stops = Vec::new(alloc);
-    let end = count_calls(served)?.saturating_add(1);
-    for moment in 1..=end {
-        for way in WAYS {
-            stops.push(Stop {
-                moment: moment as u128,
-                way,
-            })?;
-        }
-    }
-    Ok(stops)
+// Opens what a stop of the run that opened a grid leaves: what is pending then is reported once more, and the grid is the same.
+fn open_again(
+    rt: &impl Abort,
+    alloc: Global,
+    opened: &Served,
+    stop: Stop,
+    passed: &[u8],
+) -> Result<Vec<u8>, Fail> {
+    let seen = see(rt, alloc, left_at(alloc, opened, stop)?)?;
+    let again = open(rt, alloc, &seen, passed);
+    forget(seen);
+    let (served, listed) = again?;
+    forget(served);
+    Ok(listed)
 }
 
-// Stops the run that opened a grid at each moment: what is pending then is reported once more, and the grid is the same.
 fn stop_again(
     rt: &impl Abort,
     alloc: Global,
@@ -244,12 +210,32 @@ fn stop_again(
     listed: &[u8],
 ) -> Result<(), Fail> {
     for stop in stops_of(alloc, opened)? {
-        let seen = see(rt, alloc, left_at(alloc, opened, stop)?)?;
-        let report = report_of(alloc, &seen.kept, passed)?;
-        let (_, again) = open(rt, alloc, &seen, &report)?;
+        let again = open_again(rt, alloc, opened, stop, passed)?;
         assert_eq!(rt; again.as_slice(), listed, "{stop:?}");
     }
     Ok(())
+}
+
+fn stop_seen(
+    rt: &impl Abort,
+    alloc: Global,
+    fronts: &[Front],
+    seen: &Seen,
+    stop: Stop,
+    again: bool,
+) -> Result<(), Fail> {
+    let (one, other) = listed_behind(rt, alloc, fronts, seen)?;
+    let passed = passed_by(&seen.kept);
+    let (opened, listed) = open(rt, alloc, seen, passed)?;
+    let is_one = listed.as_slice() == one || listed.as_slice() == other;
+    assert!(rt; is_one, "{stop:?}");
+    let result = if again {
+        stop_again(rt, alloc, &opened, passed, &listed)
+    } else {
+        Ok(())
+    };
+    forget(opened);
+    result
 }
 
 // Opens what a stop leaves, and stops that too where it is asked. It answers the number of the command that was pending, or 0.
@@ -262,34 +248,48 @@ fn stop_at(
     again: bool,
 ) -> Result<u64, Fail> {
     let seen = see(rt, alloc, left_at(alloc, served, stop)?)?;
-    let (one, other) = listed_behind(rt, alloc, fronts, &seen)?;
-    let passed = passed_by(&seen.kept);
-    let report = report_of(alloc, &seen.kept, passed)?;
-    let (opened, listed) = open(rt, alloc, &seen, &report)?;
-    let is_one = listed.as_slice() == one || listed.as_slice() == other;
-    assert!(rt; is_one, "{stop:?}");
-    if again {
-        stop_again(rt, alloc, &opened, passed, &listed)?;
-    }
-    Ok(seen.kept.pending)
+    let result = stop_seen(rt, alloc, fronts, &seen, stop, again);
+    let pending = seen.kept.pending;
+    forget(seen);
+    result?;
+    Ok(pending)
 }
 
 // Stops the session in each way in each call, and behind the last one, and answers which commands were pending.
-fn stop_at_each(rt: &impl Abort, alloc: Global, again: bool) -> Result<Vec<u64>, Fail> {
-    let new = begun(rt, alloc)?;
-    let made = serve_on(rt, alloc, &new, &requests(alloc, 8)?, &replies(alloc, 8)?)?;
-    let fronts = fronts_of(rt, alloc, &made)?;
-    let last = fronts.last().ok_or("no front")?;
-    assert_eq!(rt; last.listed.as_slice(), IN_THE_END);
-    let served = serve(rt, alloc, &made, &first_requests(alloc, SESSION.len())?)?;
+fn stop_in(
+    rt: &impl Abort,
+    alloc: Global,
+    fronts: &[Front],
+    served: &Served,
+    again: bool,
+) -> Result<Vec<u64>, Fail> {
     let mut pending = Vec::new(alloc);
-    for stop in stops_of(alloc, &served)? {
-        let number = stop_at(rt, alloc, &fronts, &served, stop, again)?;
+    for stop in stops_of(alloc, served)? {
+        let number = stop_at(rt, alloc, fronts, served, stop, again)?;
         if number != 0 && !pending.contains(&number) {
             pending.push(number)?;
         }
     }
     Ok(pending)
+}
+
+fn stop_over(rt: &impl Abort, alloc: Global, made: &Left, again: bool) -> Result<Vec<u64>, Fail> {
+    let fronts = fronts_of(rt, alloc, made)?;
+    let last = fronts.last().ok_or("no front")?;
+    assert_eq!(rt; last.listed.as_slice(), IN_THE_END);
+    let input = first_requests(alloc, SESSION.len())?;
+    let served = serve(rt, alloc, made, &input)?;
+    let pending = stop_in(rt, alloc, &fronts, &served, again);
+    forget(served);
+    pending
+}
+
+// The same of a session over a new grid with leaves.
+fn stop_at_each(rt: &impl Abort, alloc: Global, again: bool) -> Result<Vec<u64>, Fail> {
+    let made = with_leaves(rt, alloc)?;
+    let pending = stop_over(rt, alloc, &made, again);
+    forget(made);
+    pending
 }
 
 #[test]

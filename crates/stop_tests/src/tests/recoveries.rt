@@ -1,11 +1,11 @@
 // Puts whose rules were stopped, in a step and in a recovery, and what the run tells and leaves that opens them.
-use super::catalogues::see;
-use super::images::{Stop, WAYS, Way, left_at, left_behind};
-use super::serving::{Left, Served, Watch, begun, serve, serve_failing};
-use super::session::{replies, requests};
+use super::catalogues::{Kept, Seen, see};
+use super::images::{Stop, WAYS, Way, left_at, left_behind, with_leaves};
+use super::serving::{Left, Served, Watch, serve, serve_failing};
 use super::undone::{IN_A_RECOVERY, IN_A_STEP, opens};
 use grid_mem::{DiskDeed, StoreDeed};
 use std::alloc::Global;
+use std::mem::forget;
 use std::process::Abort;
 use std::test::Fail;
 
@@ -34,25 +34,72 @@ fn create_behind(store: &Watch, before: usize) -> Result<u128, Fail> {
     Err("no create".into())
 }
 
-// What is left of a run over three leaves and the replication over them, where nothing is sure but what was synced and finished when a
-// store creates a file, behind so many of its own; this was told.
+// What is left of a run where nothing is sure but what was synced and finished when a store creates a file, behind so many of its own;
+// this was told.
+fn stopped_by(
+    rt: &impl Abort,
+    alloc: Global,
+    served: &Served,
+    (slot, before): (usize, usize),
+    told: &[u8],
+) -> Result<Left, Fail> {
+    let store = served.stores.get(slot).ok_or("no store")?;
+    let moment = create_behind(store, before)?;
+    let way = Way::Lost;
+    let left = left_at(alloc, served, Stop { moment, way })?;
+    assert_eq!(rt; left.told.as_slice(), told);
+    Ok(left)
+}
+
+// The same of a run over three leaves and the replication over them.
 fn stopped_in(
     rt: &impl Abort,
     alloc: Global,
     input: &[u8],
-    (slot, before): (usize, usize),
+    place: (usize, usize),
     told: &[u8],
 ) -> Result<Left, Fail> {
-    let new = begun(rt, alloc)?;
-    let making = serve(rt, alloc, &new, &requests(alloc, 8)?)?;
-    assert_eq!(rt; making.sink.bytes(), replies(alloc, 8)?.as_slice());
-    let served = serve(rt, alloc, &left_behind(alloc, &making)?, input)?;
-    let store = served.stores.get(slot).ok_or("no store")?;
-    let moment = create_behind(store, before)?;
-    let way = Way::Lost;
-    let left = left_at(alloc, &served, Stop { moment, way })?;
-    assert_eq!(rt; left.told.as_slice(), told);
-    Ok(left)
+    let made = with_leaves(rt, alloc)?;
+    let served = serve(rt, alloc, &made, input);
+    forget(made);
+    let served = served?;
+    let left = stopped_by(rt, alloc, &served, place, told);
+    forget(served);
+    left
+}
+
+// Opens what a stop at a moment of a run leaves in each way: this is told then, and this is listed.
+fn open_at(
+    rt: &impl Abort,
+    alloc: Global,
+    opened: &Served,
+    moment: u128,
+    report: &[u8],
+    listed: &[u8],
+) -> Result<(), Fail> {
+    for way in WAYS {
+        let left = left_at(alloc, opened, Stop { moment, way })?;
+        let again = opens(rt, alloc, &left, report, 3, listed);
+        forget(left);
+        forget(again?);
+    }
+    Ok(())
+}
+
+// In each way this was told.
+fn tell_at(
+    rt: &impl Abort,
+    alloc: Global,
+    opened: &Served,
+    moment: u128,
+    told: &[u8],
+) -> Result<(), Fail> {
+    for way in WAYS {
+        let left = left_at(alloc, opened, Stop { moment, way })?;
+        assert_eq!(rt; left.told.as_slice(), told);
+        forget(left);
+    }
+    Ok(())
 }
 
 // What is put is copied to d1 and then to d2; the second copy is stopped. The next rule of the name is never run.
@@ -78,16 +125,19 @@ const AFTER_A_STEP: &[u8] = b"stopped 2 3\n3 mark ran 0 1000\n3 mark ran 0 1000\
 #[test]
 fn the_steps_before_one_that_is_stopped_are_undone(rt: HostRuntime) -> Result<(), Fail> {
     let alloc = rt.alloc();
-    let listed = IN_A_STEP.listed;
     let left = stopped_in(&rt, alloc, COPIED_TWICE, (2, 0), TOLD_TWICE)?;
-    let opened = opens(&rt, alloc, &left, AFTER_A_STEP, 3, listed)?;
+    let opened = opens(&rt, alloc, &left, AFTER_A_STEP, 3, IN_A_STEP.listed);
+    forget(left);
+    let opened = opened?;
     // A second stop, where the run is begun.
-    let moment = first_write(&opened)?;
-    for way in WAYS {
-        let left = left_at(alloc, &opened, Stop { moment, way })?;
-        opens(&rt, alloc, &left, AFTER_A_STEP, 3, listed)?;
-    }
-    Ok(())
+    let result = stopped_where_begun(&rt, alloc, &opened);
+    forget(opened);
+    result
+}
+
+fn stopped_where_begun(rt: &impl Abort, alloc: Global, opened: &Served) -> Result<(), Fail> {
+    let moment = first_write(opened)?;
+    open_at(rt, alloc, opened, moment, AFTER_A_STEP, IN_A_STEP.listed)
 }
 
 const AFTER_A_RECOVERY: &[u8] =
@@ -96,23 +146,25 @@ const AFTER_A_RECOVERY: &[u8] =
 const AFTER_TWO: &[u8] =
     b"stopped 2 3\n3 mark ran 0 1000\n3 mark stop\n3 mark stop\n3 mark ran 0 1000\n3 err Stopped\n";
 
+const TOLD_AGAIN: &[u8] = b"stopped 2 3\n3 mark ran 0 1000\n3 mark stop\n";
+
+fn stopped_there_again(rt: &impl Abort, alloc: Global, opened: &Served) -> Result<(), Fail> {
+    let moment = create_behind(&opened.stores[1], 0)?;
+    tell_at(rt, alloc, opened, moment, TOLD_AGAIN)?;
+    open_at(rt, alloc, opened, moment, AFTER_TWO, IN_A_RECOVERY.listed)
+}
+
 #[test]
 fn a_recovery_that_is_stopped_is_run_again(rt: HostRuntime) -> Result<(), Fail> {
     let alloc = rt.alloc();
-    let listed = IN_A_RECOVERY.listed;
     let left = stopped_in(&rt, alloc, TAKEN_BACK, (1, 1), TOLD_ONCE)?;
-    let opened = opens(&rt, alloc, &left, AFTER_A_RECOVERY, 3, listed)?;
+    let opened = opens(&rt, alloc, &left, AFTER_A_RECOVERY, 3, IN_A_RECOVERY.listed);
+    forget(left);
+    let opened = opened?;
     // A second stop in the same place.
-    let moment = create_behind(&opened.stores[1], 0)?;
-    for way in WAYS {
-        let left = left_at(alloc, &opened, Stop { moment, way })?;
-        assert_eq!(rt;
-            left.told.as_slice(),
-            b"stopped 2 3\n3 mark ran 0 1000\n3 mark stop\n".as_slice()
-        );
-        opens(&rt, alloc, &left, AFTER_TWO, 3, listed)?;
-    }
-    Ok(())
+    let result = stopped_there_again(&rt, alloc, &opened);
+    forget(opened);
+    result
 }
 
 const REFUSED: &[u8] = b"stopped 2 3\n3 mark ran 0 1000\n3 mark stop\n3 mark fault 1 0\n\
@@ -122,17 +174,36 @@ const WITHOUT_ONE: &[u8] = b"1 ok\n\
 2 row D /tempZone/home/rods/o 0 r;d0 3 & sha2:ungWv48Bz+pBQUDeXa4iI7ADYaOWF3qctBD/YfIAFa0=\n\
 2 row D /tempZone/home/rods/o 2 r;d2 3 & sha2:ungWv48Bz+pBQUDeXa4iI7ADYaOWF3qctBD/YfIAFa0=\n2 ok\n3 ok\n";
 
+// The recovery is passed over, and there are the file that was trimmed and those of two tries.
+fn is_passed_over(rt: &impl Abort, alloc: Global, seen: &Seen) -> Result<(), Fail> {
+    let Kept {
+        run,
+        pending,
+        orphans,
+        ..
+    } = &seen.kept;
+    assert_eq!(rt; (*run, *pending, *orphans), (3, 0, 3));
+    let opened = opens(rt, alloc, &seen.left, b"", 4, WITHOUT_ONE)?;
+    forget(opened);
+    Ok(())
+}
+
+fn refused_over(rt: &impl Abort, alloc: Global, left: &Left) -> Result<Left, Fail> {
+    let opened = serve_failing(rt, alloc, left, b"")?;
+    assert_eq!(rt; opened.sink.bytes(), REFUSED);
+    let behind = left_behind(alloc, &opened);
+    forget(opened);
+    behind
+}
+
 #[test]
 fn a_recovery_that_a_store_refuses_is_passed_over(rt: HostRuntime) -> Result<(), Fail> {
     let alloc = rt.alloc();
     let left = stopped_in(&rt, alloc, TAKEN_BACK, (1, 1), TOLD_ONCE)?;
-    let opened = serve_failing(&rt, alloc, &left, b"")?;
-    assert_eq!(rt; opened.sink.bytes(), REFUSED);
-    let seen = see(&rt, alloc, left_behind(alloc, &opened)?)?;
-    assert_eq!(rt; seen.kept.run, 3);
-    assert_eq!(rt; seen.kept.pending, 0);
-    // The file that was trimmed, and those of two tries.
-    assert_eq!(rt; seen.kept.orphans, 3);
-    opens(&rt, alloc, &seen.left, b"", 4, WITHOUT_ONE)?;
-    Ok(())
+    let behind = refused_over(&rt, alloc, &left);
+    forget(left);
+    let seen = see(&rt, alloc, behind?)?;
+    let result = is_passed_over(&rt, alloc, &seen);
+    forget(seen);
+    result
 }

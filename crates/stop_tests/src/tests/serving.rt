@@ -10,6 +10,7 @@ use grid_outside::{Moments, Outside, Plugin, add_store};
 use grid_server::{Status, run};
 use std::alloc::{AllocError, Global};
 use std::cell::RefCell;
+use std::mem::forget;
 use std::process::Abort;
 use std::rc::Rc;
 use std::test::Fail;
@@ -100,20 +101,20 @@ fn run_over(
     Ok((status, sink))
 }
 
-// Runs these words over what was left, with an input of these bytes. The calls of these numbers of the second store fail.
-fn play(
+// How a run ended, and the devices that are looked at then.
+type Played = (Status, MemDisk, MemSink);
+
+// Runs these words over what was left, with an input of these bytes. The calls of the stores are recorded there, and those of these
+// numbers of the second one fail.
+fn play_watched(
     alloc: Global,
     words: &[&[u8]],
     left: &Left,
     input: &[u8],
     fails: &[u64],
-) -> Result<Served, AllocError> {
+    watches: &[Watch; 3],
+) -> Result<Played, AllocError> {
     let [first, second, third] = &left.stores;
-    let watches = [
-        watch_on(alloc, first)?,
-        watch_on(alloc, second)?,
-        watch_on(alloc, third)?,
-    ];
     let mut stores: Vec<Box<dyn Plugin>> = Vec::new(alloc);
     let store = store_on(alloc, first, &[], &watches[0])?;
     add_store(&mut stores, Box::new(alloc, store)?)?;
@@ -122,15 +123,57 @@ fn play(
     let store = store_on(alloc, third, &[], &watches[2])?;
     add_store(&mut stores, Box::new(alloc, store)?)?;
     let mut outside = outside_on(alloc, &left.main, stores)?;
-    let (status, sink) = run_over(alloc, words, &mut outside, input)?;
+    let played = run_over(alloc, words, &mut outside, input);
+    let Outside {
+        main,
+        spare,
+        stores,
+        ambient,
+        ..
+    } = outside;
+    forget((spare, stores, ambient));
+    match played {
+        Ok((status, sink)) => Ok((status, main, sink)),
+        Err(error) => {
+            forget(main);
+            Err(error)
+        }
+    }
+}
+
+fn watches_on(alloc: Global, left: &Left) -> Result<[Watch; 3], AllocError> {
+    let [first, second, third] = &left.stores;
+    Ok([
+        watch_on(alloc, first)?,
+        watch_on(alloc, second)?,
+        watch_on(alloc, third)?,
+    ])
+}
+
+// The same, with what it leaves to be looked at. To drop devices and what holds them is dear to prove: each function has one such
+// value at most, lends it, and hands it on or forgets it.
+fn play(
+    alloc: Global,
+    words: &[&[u8]],
+    left: &Left,
+    input: &[u8],
+    fails: &[u64],
+) -> Result<Served, AllocError> {
     let start = left.main.clone()?;
-    Ok(Served {
-        status,
-        start,
-        main: outside.main,
-        sink,
-        stores: watches,
-    })
+    let watches = watches_on(alloc, left)?;
+    match play_watched(alloc, words, left, input, fails, &watches) {
+        Ok((status, main, sink)) => Ok(Served {
+            status,
+            start,
+            main,
+            sink,
+            stores: watches,
+        }),
+        Err(error) => {
+            forget(watches);
+            Err(error)
+        }
+    }
 }
 
 // Serves these requests over what was left: all of them are read.
@@ -168,18 +211,46 @@ fn no_files(alloc: Global) -> MemFiles {
     MemFiles::new(Vec::new(alloc))
 }
 
-// A new grid with three stores.
-pub(crate) fn begun(rt: &impl Abort, alloc: Global) -> Result<Left, Fail> {
+fn play_new(alloc: Global) -> Result<Served, AllocError> {
     let nothing = Left {
         main: Vec::new(alloc),
         stores: [no_files(alloc), no_files(alloc), no_files(alloc)],
         told: Vec::new(alloc),
     };
-    let served = play(alloc, INIT, &nothing, b"", &[])?;
-    assert_eq!(rt; served.status, Status::Done);
-    assert_eq!(rt; served.sink.bytes(), b"ok\n".as_slice());
+    let played = play(alloc, INIT, &nothing, b"", &[]);
+    forget(nothing);
+    played
+}
+
+fn left_new(rt: &impl Abort, alloc: Global, served: &Served) -> Result<Left, Fail> {
+    assert_eq!(rt;
+        (served.status, served.sink.bytes()),
+        (Status::Done, b"ok\n".as_slice())
+    );
     Ok(Left {
         main: served.main.bytes().to_vec(alloc)?,
-        ..nothing
+        stores: [no_files(alloc), no_files(alloc), no_files(alloc)],
+        told: Vec::new(alloc),
     })
+}
+
+// A new grid with three stores.
+pub(crate) fn begun(rt: &impl Abort, alloc: Global) -> Result<Left, Fail> {
+    let served = play_new(alloc)?;
+    let left = left_new(rt, alloc, &served);
+    forget(served);
+    left
+}
+
+// What is told where these requests are served over what was left.
+pub(crate) fn told_over(
+    rt: &impl Abort,
+    alloc: Global,
+    left: &Left,
+    input: &[u8],
+) -> Result<Vec<u8>, Fail> {
+    let served = serve(rt, alloc, left, input)?;
+    let told = served.sink.bytes().to_vec(alloc);
+    forget(served);
+    Ok(told?)
 }

@@ -1,24 +1,14 @@
 // A session that is stopped at each moment: the grid is as after its first requests, with all whose replies were told.
 use super::catalogues::{Seen, see};
-use super::fronts::{Front, fronts_of};
-use super::images::{Stop, WAYS, count_calls, left_at};
+use super::fronts::{Front, count_answered, fronts_of};
+use super::images::{Stop, left_at, stops_of};
 use super::reopening::{open, stop_again};
-use super::serving::{Served, begun, serve};
+use super::serving::{Left, Served, begun, serve};
 use super::session::{WITH_FILES, count, requests};
 use std::alloc::Global;
+use std::mem::forget;
 use std::process::Abort;
 use std::test::Fail;
-
-// How many requests were answered whole, by how many bytes were told.
-fn count_answered(fronts: &[Front], told: usize) -> usize {
-    let mut count: usize = 0;
-    for front in fronts.iter().skip(1) {
-        if front.told <= told {
-            count = count.saturating_add(1);
-        }
-    }
-    count
-}
 
 // The front of the session that was left: all requests that were answered whole, and at most one more. A command that is pending
 // is the next one, one that makes files, and nothing of it is seen or was told.
@@ -34,17 +24,40 @@ fn front_left<'a>(
     let number = (answered as u64).saturating_add(1);
     let pending = seen.kept.pending;
     if pending != 0 {
-        assert_eq!(rt; pending, number, "{stop:?}");
-        assert!(rt; WITH_FILES.contains(&number), "{stop:?}");
-        assert_eq!(rt; told, front.told, "{stop:?}");
+        let makes_files = WITH_FILES.contains(&number);
+        assert_eq!(rt;
+            (pending, told, makes_files),
+            (number, front.told, true),
+            "{stop:?}"
+        );
     }
     if seen.kept.rows == front.rows {
         return Ok(front);
     }
-    assert_eq!(rt; pending, 0, "{stop:?}");
     let next = fronts.get(answered.saturating_add(1)).ok_or("no front")?;
-    assert!(rt; seen.kept.rows == next.rows, "{stop:?}");
+    let is_next = seen.kept.rows == next.rows;
+    assert_eq!(rt; (pending, is_next), (0, true), "{stop:?}");
     Ok(next)
+}
+
+fn stop_seen(
+    rt: &impl Abort,
+    alloc: Global,
+    fronts: &[Front],
+    seen: &Seen,
+    stop: Stop,
+    again: bool,
+) -> Result<u64, Fail> {
+    let front = front_left(rt, fronts, seen, stop)?;
+    let opened = open(rt, alloc, seen, front)?;
+    let result = if again {
+        stop_again(rt, alloc, &opened, front)
+    } else {
+        Ok(())
+    };
+    forget(opened);
+    result?;
+    Ok(seen.kept.pending)
 }
 
 // Opens what a stop leaves, and stops that too where it is asked. It answers the number of the command that was pending, or 0.
@@ -57,34 +70,44 @@ fn stop_at(
     again: bool,
 ) -> Result<u64, Fail> {
     let seen = see(rt, alloc, left_at(alloc, served, stop)?)?;
-    let front = front_left(rt, fronts, &seen, stop)?;
-    let opened = open(rt, alloc, &seen, front)?;
-    if again {
-        stop_again(rt, alloc, &opened, front)?;
-    }
-    Ok(seen.kept.pending)
+    let pending = stop_seen(rt, alloc, fronts, &seen, stop, again);
+    forget(seen);
+    pending
 }
 
 // Stops the session in each way in each call, and behind the last one, and answers which commands were pending.
-fn stop_at_each(rt: &impl Abort, alloc: Global, again: bool) -> Result<Vec<u64>, Fail> {
-    let new = begun(rt, alloc)?;
-    let fronts = fronts_of(rt, alloc, &new)?;
-    let served = serve(rt, alloc, &new, &requests(alloc, count())?)?;
-    let end = count_calls(&served)?.saturating_add(1);
+fn stop_in(
+    rt: &impl Abort,
+    alloc: Global,
+    fronts: &[Front],
+    served: &Served,
+    again: bool,
+) -> Result<Vec<u64>, Fail> {
     let mut pending = Vec::new(alloc);
-    for moment in 1..=end {
-        for way in WAYS {
-            let stop = Stop {
-                moment: moment as u128,
-                way,
-            };
-            let number = stop_at(rt, alloc, &fronts, &served, stop, again)?;
-            if number != 0 && !pending.contains(&number) {
-                pending.push(number)?;
-            }
+    for stop in stops_of(alloc, served)? {
+        let number = stop_at(rt, alloc, fronts, served, stop, again)?;
+        if number != 0 && !pending.contains(&number) {
+            pending.push(number)?;
         }
     }
     Ok(pending)
+}
+
+fn stop_over(rt: &impl Abort, alloc: Global, new: &Left, again: bool) -> Result<Vec<u64>, Fail> {
+    let fronts = fronts_of(rt, alloc, new)?;
+    let input = requests(alloc, count())?;
+    let served = serve(rt, alloc, new, &input)?;
+    let pending = stop_in(rt, alloc, &fronts, &served, again);
+    forget(served);
+    pending
+}
+
+// The same of a session over a new grid.
+fn stop_at_each(rt: &impl Abort, alloc: Global, again: bool) -> Result<Vec<u64>, Fail> {
+    let new = begun(rt, alloc)?;
+    let pending = stop_over(rt, alloc, &new, again);
+    forget(new);
+    pending
 }
 
 #[test]

@@ -1,10 +1,10 @@
 // Grids where a command with recoveries was stopped, and what a run leaves that opens them.
-use super::catalogues::see;
-use super::images::left_behind;
+use super::images::{serve_on, with_leaves};
 use super::pendings::{Service, Stopped, with_stopped};
-use super::serving::{Left, Served, begun, serve};
-use super::session::{replies, requests};
+use super::reopening::open_and_list;
+use super::serving::{Left, Served};
 use std::alloc::Global;
+use std::mem::forget;
 use std::process::Abort;
 use std::test::Fail;
 
@@ -96,30 +96,25 @@ pub(crate) const WITH_MORE: Undone = Undone {
 // Lists the objects and collections that there may be, and what is said of the first object.
 const LIST: &[u8] = b"0 login rods\n0 ls /tempZone/home/rods\n0 lsmeta -d /tempZone/home/rods/o\n";
 
-// Serves these requests over what was left, and answers what that leaves.
-fn serve_on(
-    rt: &impl Abort,
-    alloc: Global,
-    left: &Left,
-    input: &[u8],
-    told: &[u8],
-) -> Result<Left, Fail> {
-    let served = serve(rt, alloc, left, input)?;
-    assert_eq!(rt; served.sink.bytes(), told);
-    left_behind(alloc, &served)
-}
-
 // The grid as the stop leaves it, after two runs: the first one makes the leaves and the replication over them.
 pub(crate) fn stopped_grid(rt: &impl Abort, alloc: Global, undone: &Undone) -> Result<Left, Fail> {
-    let new = begun(rt, alloc)?;
-    let made = serve_on(rt, alloc, &new, &requests(alloc, 8)?, &replies(alloc, 8)?)?;
-    let left = serve_on(rt, alloc, &made, undone.requests, undone.replies)?;
-    let main = with_stopped(alloc, &left.main, undone.stopped)?;
-    Ok(Left { main, ..left })
+    let made = with_leaves(rt, alloc)?;
+    let left = serve_on(rt, alloc, &made, undone.requests, undone.replies);
+    forget(made);
+    let mut left = left?;
+    match with_stopped(alloc, &left.main, undone.stopped) {
+        Ok(main) => {
+            left.main = main;
+            Ok(left)
+        }
+        Err(error) => {
+            forget(left);
+            Err(error.into())
+        }
+    }
 }
 
-// Opens what was left, without requests: this is told, the run has this number, nothing is pending then, there are no files that no
-// replica has, and this is listed. It answers the run that opened it.
+// Opens what was left, by which this is told, the run has this number, and this is listed. It answers the run that opened it.
 pub(crate) fn opens(
     rt: &impl Abort,
     alloc: Global,
@@ -128,12 +123,7 @@ pub(crate) fn opens(
     run: u64,
     listed: &[u8],
 ) -> Result<Served, Fail> {
-    let opened = serve(rt, alloc, left, b"")?;
-    assert_eq!(rt; opened.sink.bytes(), report);
-    let behind = see(rt, alloc, left_behind(alloc, &opened)?)?;
-    assert_eq!(rt; behind.kept.run, run);
-    assert_eq!(rt; behind.kept.pending, 0);
-    assert_eq!(rt; behind.kept.orphans, 0);
-    serve_on(rt, alloc, &behind.left, LIST, listed)?;
+    let (opened, came) = open_and_list(rt, alloc, left, report, run, LIST)?;
+    assert_eq!(rt; came.as_slice(), listed);
     Ok(opened)
 }

@@ -7,17 +7,13 @@ use std::alloc::{AllocError, Global};
 /// How many texts there are.
 pub(crate) const TEXTS: u8 = 8;
 
+const TEXT: [&[u8]; 8] = [b"", b"a", b"b", b"c", b"ab", b"\xC3\xA9", b"a/b", b".."];
+
 /// A text by its number: five names, and before and behind them three that are none.
 pub(crate) fn text(number: u8) -> &'static [u8] {
-    match number {
-        0 => b"".as_slice(),
-        1 => b"a",
-        2 => b"b",
-        3 => b"c",
-        4 => b"ab",
-        5 => b"\xC3\xA9",
-        6 => b"a/b",
-        _ => b"..",
+    match TEXT.get(usize::from(number)) {
+        Some(text) => text,
+        None => b"..",
     }
 }
 
@@ -152,11 +148,11 @@ impl Change {
             }
             Change::NoReplica { object, number } => Ok(Delta::NoReplica { object, number }),
             Change::Triple(row) => {
-                let row = rows::triple(alloc, row.kind, row.id, text(row.value))?;
+                let row = rows::triple(alloc, row.kind, row.id, b"a", text(row.value), b"")?;
                 Ok(Delta::Triple(row))
             }
             Change::NoTriple(row) => {
-                let row = rows::triple(alloc, row.kind, row.id, text(row.value))?;
+                let row = rows::triple(alloc, row.kind, row.id, b"a", text(row.value), b"")?;
                 Ok(Delta::NoTriple(row))
             }
             Change::Entry(row) => Ok(Delta::Entry(row)),

@@ -80,7 +80,7 @@ impl Plain {
             Change::Zone { stores, .. } => self.stores = stores,
             Change::User(row) => self.users.push(row)?,
             Change::Member(row) => self.members.push(row)?,
-            Change::NoMember(row) => self.members.retain(|other| *other != row),
+            Change::NoMember(row) => self.drop_member(row),
             Change::Collection(row) => self.put_collection(row)?,
             Change::NoCollection(id) => self.drop_collection(id),
             Change::Object(row) => self.put_object(row)?,
@@ -94,7 +94,7 @@ impl Plain {
             Change::Resource(row) => self.put_resource(row)?,
             Change::Rules(text) => self.rules = text,
             Change::Orphan(row) => self.orphans.push(row)?,
-            Change::NoOrphan(vault) => self.orphans.retain(|row| row.vault != vault),
+            Change::NoOrphan(vault) => self.drop_orphan(vault),
             Change::Numbers(next_vault) => self.next_vault = next_vault,
             Change::Pending(user) => self.pending = Some(user),
             Change::NoPending => self.pending = None,
@@ -129,12 +129,30 @@ impl Plain {
         self.has_user(row.group, true) && self.has_user(row.user, false)
     }
 
-    pub(crate) fn is_in(&self, row: MemberRow) -> bool {
-        for other in &self.members {
+    fn place_of_member(&self, row: MemberRow) -> Option<usize> {
+        for (place, other) in self.members.iter().enumerate() {
             if *other == row {
-                return true;
+                return Some(place);
             }
         }
-        false
+        None
+    }
+
+    pub(crate) fn is_in(&self, row: MemberRow) -> bool {
+        self.place_of_member(row).is_some()
+    }
+
+    fn drop_member(&mut self, row: MemberRow) {
+        let place = self.place_of_member(row);
+        remove_at(&mut self.members, place);
+    }
+}
+
+/// Takes the row at a place away, if there is one. The last one is put there.
+pub(crate) fn remove_at<T: Copy>(rows: &mut Vec<T>, place: Option<usize>) {
+    if let Some(place) = place {
+        if place < rows.len() {
+            rows.swap_remove(place);
+        }
     }
 }

@@ -1,7 +1,7 @@
 //! What belongs to items: replicas, orphans, metadata and access of the plain rows.
 
 use super::changes::{Replica, Triple};
-use super::plain::Plain;
+use super::plain::{Plain, remove_at};
 use grid_model::{EntryRow, ItemKind, Level, OrphanRow};
 use std::alloc::AllocError;
 
@@ -48,17 +48,23 @@ impl Plain {
         false
     }
 
-    pub(crate) fn replica_at(&self, object: u64, number: u32) -> Option<Replica> {
-        for row in &self.replicas {
+    fn place_of_replica(&self, object: u64, number: u32) -> Option<usize> {
+        for (place, row) in self.replicas.iter().enumerate() {
             if row.object == object && row.number == number {
-                return Some(*row);
+                return Some(place);
             }
         }
         None
     }
 
+    pub(crate) fn replica_at(&self, object: u64, number: u32) -> Option<Replica> {
+        self.replicas
+            .get(self.place_of_replica(object, number)?)
+            .copied()
+    }
+
     pub(crate) fn has_replica(&self, object: u64, number: u32) -> bool {
-        self.replica_at(object, number).is_some()
+        self.place_of_replica(object, number).is_some()
     }
 
     // whether a replica but that of this object and number is in its way
@@ -93,21 +99,30 @@ impl Plain {
     }
 
     pub(crate) fn drop_replica(&mut self, object: u64, number: u32) {
-        self.replicas
-            .retain(|row| row.object != object || row.number != number);
+        let place = self.place_of_replica(object, number);
+        remove_at(&mut self.replicas, place);
     }
 
-    pub(crate) fn slot_of_orphan(&self, vault: u64) -> Option<u8> {
-        for row in &self.orphans {
+    fn place_of_orphan(&self, vault: u64) -> Option<usize> {
+        for (place, row) in self.orphans.iter().enumerate() {
             if row.vault == vault {
-                return Some(row.slot);
+                return Some(place);
             }
         }
         None
     }
 
+    pub(crate) fn slot_of_orphan(&self, vault: u64) -> Option<u8> {
+        Some(self.orphans.get(self.place_of_orphan(vault)?)?.slot)
+    }
+
+    pub(crate) fn drop_orphan(&mut self, vault: u64) {
+        let place = self.place_of_orphan(vault);
+        remove_at(&mut self.orphans, place);
+    }
+
     pub(crate) fn has_orphan(&self, vault: u64) -> bool {
-        self.slot_of_orphan(vault).is_some()
+        self.place_of_orphan(vault).is_some()
     }
 
     fn is_vault_of_replica(&self, vault: u64) -> bool {
@@ -125,32 +140,43 @@ impl Plain {
             && row.slot < self.stores
     }
 
-    pub(crate) fn has_triple(&self, row: Triple) -> bool {
-        for other in &self.triples {
+    fn place_of_triple(&self, row: Triple) -> Option<usize> {
+        for (place, other) in self.triples.iter().enumerate() {
             if other.kind == row.kind && other.id == row.id && other.value == row.value {
-                return true;
-            }
-        }
-        false
-    }
-
-    pub(crate) fn drop_triple(&mut self, row: Triple) {
-        self.triples.retain(|other| {
-            other.kind != row.kind || other.id != row.id || other.value != row.value
-        });
-    }
-
-    pub(crate) fn level_of(&self, kind: ItemKind, id: u64, user: u32) -> Option<Level> {
-        for row in &self.entries {
-            if row.kind == kind && row.id == id && row.user == user {
-                return Some(row.level);
+                return Some(place);
             }
         }
         None
     }
 
+    pub(crate) fn has_triple(&self, row: Triple) -> bool {
+        self.place_of_triple(row).is_some()
+    }
+
+    pub(crate) fn drop_triple(&mut self, row: Triple) {
+        let place = self.place_of_triple(row);
+        remove_at(&mut self.triples, place);
+    }
+
+    fn place_of_entry(&self, kind: ItemKind, id: u64, user: u32) -> Option<usize> {
+        for (place, row) in self.entries.iter().enumerate() {
+            if row.kind == kind && row.id == id && row.user == user {
+                return Some(place);
+            }
+        }
+        None
+    }
+
+    pub(crate) fn level_of(&self, kind: ItemKind, id: u64, user: u32) -> Option<Level> {
+        Some(
+            self.entries
+                .get(self.place_of_entry(kind, id, user)?)?
+                .level,
+        )
+    }
+
     pub(crate) fn has_entry(&self, kind: ItemKind, id: u64, user: u32) -> bool {
-        self.level_of(kind, id, user).is_some()
+        self.place_of_entry(kind, id, user).is_some()
     }
 
     pub(crate) fn entry_fits(&self, row: EntryRow) -> bool {
@@ -168,8 +194,7 @@ impl Plain {
     }
 
     pub(crate) fn drop_entry(&mut self, row: EntryRow) {
-        self.entries.retain(|other| {
-            other.kind != row.kind || other.id != row.id || other.user != row.user
-        });
+        let place = self.place_of_entry(row.kind, row.id, row.user);
+        remove_at(&mut self.entries, place);
     }
 }

@@ -1,7 +1,7 @@
 //! Collections, objects and resources of the plain rows.
 
 use super::changes::{Collection, Object, Resource, is_name};
-use super::plain::Plain;
+use super::plain::{Plain, remove_at};
 use grid_model::{ItemKind, ResourceKind};
 use std::alloc::AllocError;
 
@@ -9,31 +9,43 @@ use std::alloc::AllocError;
 const STEPS: u32 = 50;
 
 impl Plain {
-    pub(crate) fn collection(&self, id: u64) -> Option<Collection> {
-        for row in &self.collections {
+    fn place_of_collection(&self, id: u64) -> Option<usize> {
+        for (place, row) in self.collections.iter().enumerate() {
             if row.id == id {
-                return Some(*row);
+                return Some(place);
+            }
+        }
+        None
+    }
+
+    pub(crate) fn collection(&self, id: u64) -> Option<Collection> {
+        self.collections.get(self.place_of_collection(id)?).copied()
+    }
+
+    fn place_of_object(&self, id: u64) -> Option<usize> {
+        for (place, row) in self.objects.iter().enumerate() {
+            if row.id == id {
+                return Some(place);
             }
         }
         None
     }
 
     pub(crate) fn object(&self, id: u64) -> Option<Object> {
-        for row in &self.objects {
+        self.objects.get(self.place_of_object(id)?).copied()
+    }
+
+    fn place_of_resource(&self, id: u32) -> Option<usize> {
+        for (place, row) in self.resources.iter().enumerate() {
             if row.id == id {
-                return Some(*row);
+                return Some(place);
             }
         }
         None
     }
 
     pub(crate) fn resource(&self, id: u32) -> Option<Resource> {
-        for row in &self.resources {
-            if row.id == id {
-                return Some(*row);
-            }
-        }
-        None
+        self.resources.get(self.place_of_resource(id)?).copied()
     }
 
     // the item that has this name in a collection
@@ -89,7 +101,8 @@ impl Plain {
     }
 
     pub(crate) fn drop_collection(&mut self, id: u64) {
-        self.collections.retain(|row| row.id != id);
+        let place = self.place_of_collection(id);
+        remove_at(&mut self.collections, place);
     }
 
     fn holds_items(&self, id: u64) -> bool {
@@ -125,7 +138,8 @@ impl Plain {
     }
 
     pub(crate) fn drop_object(&mut self, id: u64) {
-        self.objects.retain(|row| row.id != id);
+        let place = self.place_of_object(id);
+        remove_at(&mut self.objects, place);
     }
 
     fn has_replicas(&self, id: u64) -> bool {
@@ -209,7 +223,8 @@ impl Plain {
     }
 
     pub(crate) fn put_resource(&mut self, row: Resource) -> Result<(), AllocError> {
-        self.resources.retain(|other| other.id != row.id);
+        let place = self.place_of_resource(row.id);
+        remove_at(&mut self.resources, place);
         self.resources.push(row)?;
         Ok(())
     }

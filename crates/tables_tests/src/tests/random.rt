@@ -1,34 +1,15 @@
 //! Random changes, done by the tables and by the plain rows.
 
 use super::changes::{Change, Collection};
-use super::draws::{Draws, IDS};
-use super::owning::{KINDS, Part, count, try_counted};
+use super::draws::{Draws, IDS, VAULTS};
+use super::owning::{KINDS, Part, are_done, count, try_part};
 use super::plain::Plain;
-use super::seen::Seen;
+use super::seen::show_the_same;
 use grid_tables::{TableError, Tables};
 use std::alloc::{AllocError, Global};
+use std::mem::forget;
 use std::process::Abort;
 use std::test::Fail;
-
-// they show the same
-fn show(
-    rt: &impl Abort,
-    alloc: Global,
-    tables: &Tables,
-    plain: &Plain,
-    cause: u8,
-) -> Result<(), AllocError> {
-    let mut shown = Seen::new(alloc, IDS);
-    shown.see_tables(tables)?;
-    let mut wanted = Seen::new(alloc, IDS);
-    wanted.see_plain(plain)?;
-    assert_eq!(rt;
-        shown.numbers.as_slice(),
-        wanted.numbers.as_slice(),
-        "{cause}"
-    );
-    Ok(())
-}
 
 // done by both, or refused by both with the number of its kind
 fn change_both(
@@ -44,7 +25,7 @@ fn change_both(
     let refused = tables.apply(delta).err();
     let wanted = TableError::BadDelta { cause };
     assert_eq!(rt; refused, (!is_done).then_some(wanted), "{cause}");
-    show(rt, alloc, tables, plain, cause)?;
+    show_the_same(rt, alloc, tables, plain, (IDS, VAULTS), u32::from(cause))?;
     Ok(is_done)
 }
 
@@ -88,7 +69,23 @@ fn start(
     Ok(())
 }
 
-/// Makes random changes of tables without rows, and counts those that are done by their kinds.
+// makes random changes where there are no rows, and counts those that are done by their kinds
+fn follow_both(
+    rt: &impl Abort,
+    alloc: Global,
+    tables: &mut Tables,
+    plain: &mut Plain,
+    draws: &mut Draws,
+    done: &mut [u32; KINDS],
+) -> Result<(), AllocError> {
+    start(rt, alloc, tables, plain)?;
+    for _step in 0..600 {
+        step(rt, alloc, tables, plain, draws, done)?;
+    }
+    Ok(())
+}
+
+/// The same, beside plain rows.
 pub(crate) fn follow(
     rt: &impl Abort,
     alloc: Global,
@@ -98,22 +95,17 @@ pub(crate) fn follow(
 ) -> Result<(), AllocError> {
     let mut draws = Draws::new(seed);
     let mut plain = Plain::empty(alloc);
-    start(rt, alloc, tables, &mut plain)?;
-    for _step in 0..600 {
-        step(rt, alloc, tables, &mut plain, &mut draws, done)?;
-    }
-    Ok(())
+    let result = follow_both(rt, alloc, tables, &mut plain, &mut draws, done);
+    forget(plain);
+    result
 }
 
-// changes of each kind but the first, of which there is one, are done often
 #[test]
 fn random_changes(rt: HostRuntime) -> Result<(), Fail> {
     let mut done = [0; KINDS];
     for seed in 0..60 {
-        try_counted(&rt, rt.alloc(), Part::RandomChanges { seed }, &mut done)?;
+        try_part(&rt, rt.alloc(), Part::RandomChanges { seed }, &mut done)?;
     }
-    for (kind, count) in done.iter().enumerate().skip(2) {
-        assert!(rt; 2 <= *count, "{kind}");
-    }
+    are_done(&rt, &done);
     Ok(())
 }

@@ -1,11 +1,11 @@
 //! All that can be seen of the tables and of the plain rows, as lists of numbers.
 
 use super::changes::{TEXTS, number_of, text};
-use super::draws::{IDS, VAULTS};
 use super::plain::Plain;
 use grid_model::{Item, ItemKind, Level, MemberRow, Path, ResourceKind, Text, UserKind};
 use grid_tables::{Kind, Tables};
 use std::alloc::{AllocError, Global};
+use std::process::Abort;
 
 /// What is not there.
 const NONE: u64 = 99;
@@ -14,7 +14,8 @@ const NONE: u64 = 99;
 pub(crate) struct Seen {
     alloc: Global,
     ids: u32,
-    pub(crate) numbers: Vec<u64>,
+    vaults: u32,
+    numbers: Vec<u64>,
 }
 
 fn level_number(level: Level) -> u64 {
@@ -53,11 +54,12 @@ fn item(kind: ItemKind, id: u32) -> Item {
 }
 
 impl Seen {
-    /// Nothing yet. Ids from this one on are not looked for in tables.
-    pub(crate) fn new(alloc: Global, ids: u32) -> Seen {
+    // Nothing yet. Ids and numbers of replicas from the one on are not looked for, nor vault numbers from the other one on.
+    fn new(alloc: Global, ids: u32, vaults: u32) -> Seen {
         Seen {
             alloc,
             ids,
+            vaults,
             numbers: Vec::new(alloc),
         }
     }
@@ -77,8 +79,8 @@ impl Seen {
         self.add(&[NONE, there.unwrap_or(NONE)])
     }
 
-    /// What the tables show of everything.
-    pub(crate) fn see_tables(&mut self, tables: &Tables) -> Result<(), AllocError> {
+    // What the tables show of everything.
+    fn see_tables(&mut self, tables: &Tables) -> Result<(), AllocError> {
         self.see_counts(tables)?;
         self.see_users(tables)?;
         self.see_resources(tables)?;
@@ -188,12 +190,12 @@ impl Seen {
 }
 
 impl Seen {
-    /// What the plain rows show of everything, in the same order.
-    pub(crate) fn see_plain(&mut self, plain: &Plain) -> Result<(), AllocError> {
+    // What the plain rows show of everything, in the same order.
+    fn see_plain(&mut self, plain: &Plain) -> Result<(), AllocError> {
         self.plain_counts(plain)?;
         self.plain_users(plain)?;
         self.plain_resources(plain)?;
-        for id in 0..IDS {
+        for id in 0..self.ids {
             self.plain_collection(plain, u64::from(id))?;
             self.plain_object(plain, u64::from(id))?;
             for kind in [
@@ -224,7 +226,7 @@ impl Seen {
     }
 
     fn plain_users(&mut self, plain: &Plain) -> Result<(), AllocError> {
-        for id in 0..IDS {
+        for id in 0..self.ids {
             for row in &plain.users {
                 if row.id == id {
                     self.add(&[u64::from(row.id), user_number(row.kind)])?;
@@ -232,8 +234,8 @@ impl Seen {
                 }
             }
         }
-        for group in 0..IDS {
-            for user in 0..IDS {
+        for group in 0..self.ids {
+            for user in 0..self.ids {
                 if plain.is_in(MemberRow { group, user }) {
                     self.add(&[u64::from(group), u64::from(user)])?;
                 }
@@ -243,7 +245,7 @@ impl Seen {
     }
 
     fn plain_resources(&mut self, plain: &Plain) -> Result<(), AllocError> {
-        for id in 0..IDS {
+        for id in 0..self.ids {
             if let Some(row) = plain.resource(id) {
                 self.add(&[u64::from(row.id), resource_number(row.kind)])?;
                 self.add(&[u64::from(row.slot), u64::from(row.parent)])?;
@@ -257,7 +259,7 @@ impl Seen {
     // the names from a collection up to `/`
     fn plain_way(&mut self, plain: &Plain, id: u64) -> Result<(), AllocError> {
         let mut current = id;
-        for _step in 0..IDS {
+        for _step in 0..self.ids {
             if let Some(row) = plain.collection(current) {
                 if current != 0 {
                     self.add(&[u64::from(row.name)])?;
@@ -283,7 +285,7 @@ impl Seen {
             self.plain_way(plain, row.collection)?;
             self.add(&[NONE, id])?;
         }
-        for number in 0..3 {
+        for number in 0..self.ids {
             if let Some(row) = plain.replica_at(id, number) {
                 self.add(&[row.object, u64::from(row.number)])?;
                 self.add(&[u64::from(row.leaf), row.vault])?;
@@ -293,7 +295,7 @@ impl Seen {
     }
 
     fn plain_marks(&mut self, plain: &Plain, kind: ItemKind, id: u64) -> Result<(), AllocError> {
-        for user in 0..IDS {
+        for user in 0..self.ids {
             if let Some(level) = plain.level_of(kind, id, user) {
                 self.add(&[u64::from(user), level_number(level)])?;
             }
@@ -309,7 +311,7 @@ impl Seen {
     }
 
     fn plain_rest(&mut self, plain: &Plain) -> Result<(), AllocError> {
-        for vault in 0..VAULTS {
+        for vault in 0..self.vaults {
             if let Some(slot) = plain.slot_of_orphan(u64::from(vault)) {
                 self.add(&[u64::from(vault), u64::from(slot)])?;
             }
@@ -320,4 +322,25 @@ impl Seen {
         ])?;
         self.add(&[u64::from(plain.stores), plain.next_vault])
     }
+}
+
+/// The tables and the plain rows show the same of ids and of vault numbers below these.
+pub(crate) fn show_the_same(
+    rt: &impl Abort,
+    alloc: Global,
+    tables: &Tables,
+    plain: &Plain,
+    (ids, vaults): (u32, u32),
+    note: u32,
+) -> Result<(), AllocError> {
+    let mut shown = Seen::new(alloc, ids, vaults);
+    shown.see_tables(tables)?;
+    let mut wanted = Seen::new(alloc, ids, vaults);
+    wanted.see_plain(plain)?;
+    assert_eq!(rt;
+        shown.numbers.as_slice(),
+        wanted.numbers.as_slice(),
+        "{note}"
+    );
+    Ok(())
 }

@@ -4,16 +4,24 @@
 ghost use Rattle.std.specs.Prelude.{◌<◌};
 
 use super::changes::{Change, Collection};
-use super::owning::{KINDS, Part, count, see_new_after, try_counted};
-use super::seen::Seen;
+use super::owning::{KINDS, Part, are_done, count, try_part};
+use super::plain::Plain;
+use super::seen::show_the_same;
 use super::steps::{ROUNDS, TURNS, new_row, no_row, other_row};
 use grid_tables::{TableError, Tables};
 use std::alloc::{AllocError, Global};
+use std::mem::forget;
 use std::process::Abort;
 use std::test::Fail;
 
 /// How many changes there are.
 const STEPS: u32 = 3 + 3 * ROUNDS * TURNS;
+
+/// Ids and numbers of replicas are below this.
+const IDS: u32 = ROUNDS + 3;
+
+/// Vault numbers of orphans are below this.
+const VAULTS: u32 = 80;
 
 fn later_change(step: u32) -> Change {
     let round = step / TURNS;
@@ -41,39 +49,20 @@ fn change(step: u32) -> Change {
     }
 }
 
-/// Makes the first changes of tables without rows, and adds what they show then.
-pub(crate) fn see_after(
-    alloc: Global,
-    tables: &mut Tables,
-    steps: u32,
-    seen: &mut Seen,
-) -> Result<(), AllocError> {
-    for step in 0..steps {
-        let delta = change(step).delta(alloc)?;
-        if tables.apply(delta) == Err(TableError::Memory) {
-            return Err(AllocError);
-        }
-    }
-    seen.see_tables(tables)
-}
-
-// They show what the first changes lead to.
+// The tables show what the first so many changes lead to. Plain rows to which so many were made follow.
 fn are_as_after(
     rt: &impl Abort,
     alloc: Global,
     tables: &Tables,
+    plain: &mut Plain,
+    made: &mut u32,
     steps: u32,
 ) -> Result<(), AllocError> {
-    let mut shown = Seen::new(alloc, ROUNDS + 2);
-    shown.see_tables(tables)?;
-    let mut wanted = Seen::new(alloc, ROUNDS + 2);
-    see_new_after(alloc, steps, &mut wanted)?;
-    assert_eq!(rt;
-        shown.numbers.as_slice(),
-        wanted.numbers.as_slice(),
-        "{steps}"
-    );
-    Ok(())
+    for step in *made..steps {
+        plain.apply(change(step))?;
+    }
+    *made = steps;
+    show_the_same(rt, alloc, tables, plain, (IDS, VAULTS), steps)
 }
 
 // Does a change. What is not done for want of memory leaves all as it was, and is then done.
@@ -81,6 +70,8 @@ fn step_on(
     rt: &impl Abort,
     alloc: Global,
     tables: &mut Tables,
+    plain: &mut Plain,
+    made: &mut u32,
     step: u32,
 ) -> Result<bool, AllocError>
     requires { step < STEPS }
@@ -90,37 +81,49 @@ fn step_on(
         Ok(()) => Ok(true),
         Err(TableError::BadDelta { .. }) => Ok(false),
         Err(TableError::Memory) => {
-            are_as_after(rt, alloc, tables, step)?;
+            are_as_after(rt, alloc, tables, plain, made, step)?;
             let again = change(step).delta(alloc)?;
             let is_done = tables.apply(again).is_ok();
-            are_as_after(rt, alloc, tables, step + 1)?;
+            are_as_after(rt, alloc, tables, plain, made, step + 1)?;
             Ok(is_done)
         }
     }
 }
 
-/// Makes all changes of tables without rows, and counts those that are done by their kinds.
-pub(crate) fn walk(
+// Makes all changes where there are no rows, and counts those that are done by their kinds.
+fn walk_both(
     rt: &impl Abort,
     alloc: Global,
     tables: &mut Tables,
+    plain: &mut Plain,
     done: &mut [u32; KINDS],
 ) -> Result<(), AllocError> {
+    let mut made: u32 = 0;
     for step in 0..STEPS {
-        if step_on(rt, alloc, tables, step)? {
+        if step_on(rt, alloc, tables, plain, &mut made, step)? {
             count(done, change(step));
         }
     }
     Ok(())
 }
 
-// changes of each kind but the first, of which there is one, are done more than once
+/// The same, beside plain rows.
+pub(crate) fn walk(
+    rt: &impl Abort,
+    alloc: Global,
+    tables: &mut Tables,
+    done: &mut [u32; KINDS],
+) -> Result<(), AllocError> {
+    let mut plain = Plain::empty(alloc);
+    let result = walk_both(rt, alloc, tables, &mut plain, done);
+    forget(plain);
+    result
+}
+
 #[test]
 fn changes_without_memory(rt: HostRuntime) -> Result<(), Fail> {
     let mut done = [0; KINDS];
-    try_counted(&rt, rt.alloc(), Part::ChangesWithoutMemory, &mut done)?;
-    for (kind, count) in done.iter().enumerate().skip(2) {
-        assert!(rt; 2 <= *count, "{kind}");
-    }
+    try_part(&rt, rt.alloc(), Part::ChangesWithoutMemory, &mut done)?;
+    are_done(&rt, &done);
     Ok(())
 }

@@ -1,7 +1,0 @@
-use Rattle.chain_core.specs.Answers.{IsUsable}
-use Rattle.chain_core.specs.Seen.{rules_of}
-use Rattle.chain_tests.proofs.player.play.Given as goal
-
--- the machine goes on
-abbrev pub invariant-loop : goal.invariant-loop
-invariant-loop l = IsUsable (rules_of l.rules) l.frames

@@ -1,5 +1,0 @@
-use Rattle.std.proofs.Common.{◌+◌, length}
-use Rattle.rule_like.proofs.tests.+plain.Given as goal
-
-abbrev pub decreases-plain : goal.decreases-plain
-decreases-plain l = length l.text.now + length l.pattern.now

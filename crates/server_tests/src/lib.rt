@@ -1,5 +1,0 @@
-//! Tests of `grid_server`, in a crate of their own: a crate with tests is proved once more for them.
-#![tactic(auto)]
-
-#[cfg(test)]
-mod tests;
