@@ -4,7 +4,7 @@ ghost use Rattle.grid_model.specs.Names.{text_cmp};
 use std::cmp::Ordering;
 
 /// How two texts stand to each other, by their bytes. Names differ early, so this looks at one byte after another: what the
-/// library does for long slices costs three times as much here.
+/// library does for long slices costs more here.
 pub(crate) fn text_order(one: &[u8], other: &[u8]) -> Ordering
     ensures { result ≡ text_cmp one.now other.now }
 {
