@@ -42,7 +42,13 @@ pub(crate) fn replay(alloc: Global, records: &[Record]) -> Result<Tables, Replay
 {
     let mut tables = Tables::empty(alloc);
     for logged in records {
-        replay_record(alloc, &mut tables, logged)?;
+        match replay_record(alloc, &mut tables, logged) {
+            Ok(()) => {}
+            Err(error) => {
+                drop(tables);
+                return Err(error);
+            }
+        }
     }
     Ok(tables)
 }
@@ -87,8 +93,15 @@ pub(crate) fn take_each(
 {
     let mut count = 0;
     for delta in deltas.into_vec() {
-        let is_kept = sets_kept_rules(alloc, &delta)?;
+        let is_kept = match sets_kept_rules(alloc, &delta) {
+            Ok(is_kept) => is_kept,
+            Err(AllocError) => {
+                drop(delta);
+                return Err(AllocError);
+            }
+        };
         if !is_kept {
+            drop(delta);
             return Ok(Some(count));
         }
         match tables.apply(delta) {

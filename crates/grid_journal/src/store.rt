@@ -333,7 +333,10 @@ fn read_tables(alloc: Global, log: &FrameLog, records: &Records) -> Result<Table
     match replay(alloc, records.as_slice()) {
         Ok(tables) => match tables.zone() {
             Some(_) => Ok(tables),
-            None => Err(not_at(BASE)),
+            None => {
+                drop(tables);
+                Err(not_at(BASE))
+            }
         },
         Err(ReplayError::Fault { at }) => Err(not_at(at)),
         Err(ReplayError::Memory) => Err(JournalError::Memory),

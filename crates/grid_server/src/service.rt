@@ -17,6 +17,7 @@ use cmd_run::{Ending, Server, ends_input};
 use grid_outside::{Ambient, Disk, Outside, Plugin, Sink, Source, Wear};
 use req_lines::{Heard, Next, ReadError, Requests};
 use std::alloc::{AllocError, Global};
+use std::mem::forget;
 
 /// How many bytes of the source are taken where it goes on past those that are read.
 const TOO_LONG: u64 = 281_474_976_710_657;
@@ -40,11 +41,17 @@ impl Service {
         ensures taken { IfOk result (λ service. service.requests.taken ≡ 0) }
         ensures number { IfOk result (λ service. service.number ≡ 0) }
     {
-        Ok(Service {
-            requests: Requests::new(alloc)?,
-            server,
-            number: 0,
-        })
+        match Requests::new(alloc) {
+            Ok(requests) => Ok(Service {
+                requests,
+                server,
+                number: 0,
+            }),
+            Err(AllocError) => {
+                forget(server);
+                Err(AllocError)
+            }
+        }
     }
 
     /// Reads and answers one request. With no status the run goes on.

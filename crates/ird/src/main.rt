@@ -46,16 +46,16 @@ fn work(rt: HostRuntime) -> Result<(Status, Failures), AllocError> {
     // It is held to the end. Where it cannot be had, no disk can.
     let _guard = StreamGuard::new(&rt);
     let alloc = rt.alloc();
-    let words = program_words(&rt, alloc)?;
     let mut stores: Vec<Box<dyn Plugin>> = Vec::new(alloc);
-    add_store(&mut stores, Box::new(alloc, vault(rt, "vault0")?)?)?;
-    add_store(&mut stores, Box::new(alloc, vault(rt, "vault1")?)?)?;
-    add_store(&mut stores, Box::new(alloc, vault(rt, "vault2")?)?)?;
-    add_store(&mut stores, Box::new(alloc, vault(rt, "vault3")?)?)?;
-    add_store(&mut stores, Box::new(alloc, vault(rt, "vault4")?)?)?;
-    add_store(&mut stores, Box::new(alloc, vault(rt, "vault5")?)?)?;
-    add_store(&mut stores, Box::new(alloc, vault(rt, "vault6")?)?)?;
-    add_store(&mut stores, Box::new(alloc, vault(rt, "vault7")?)?)?;
+    add_store(&mut stores, vault(rt, "vault0")?)?;
+    add_store(&mut stores, vault(rt, "vault1")?)?;
+    add_store(&mut stores, vault(rt, "vault2")?)?;
+    add_store(&mut stores, vault(rt, "vault3")?)?;
+    add_store(&mut stores, vault(rt, "vault4")?)?;
+    add_store(&mut stores, vault(rt, "vault5")?)?;
+    add_store(&mut stores, vault(rt, "vault6")?)?;
+    add_store(&mut stores, vault(rt, "vault7")?)?;
+    let words = program_words(&rt, alloc)?;
     let mut outside = Outside {
         main: FileDisk::new(rt, file_of(Side::Main)),
         spare: FileDisk::new(rt, file_of(Side::Spare)),
@@ -76,8 +76,11 @@ fn work(rt: HostRuntime) -> Result<(Status, Failures), AllocError> {
 }
 
 // The store in the folder of this name.
-fn vault(rt: HostRuntime, name: &str) -> Result<FolderStore, AllocError>
-    ensures { IfOk result (λ store. store.last ≡ 0) }
+fn vault(rt: HostRuntime, name: &str) -> Result<Box<FolderStore>, AllocError>
+    ensures { IfOk result (λ store. store.value.last ≡ 0) }
 {
-    Ok(FolderStore::new(rt, String::from_str(rt.alloc(), name)?))
+    let alloc = rt.alloc();
+    let name = String::from_str(alloc, name)?;
+    let store = Box::new(alloc, FolderStore::new(rt, name))?;
+    Ok(store)
 }

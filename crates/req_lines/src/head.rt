@@ -42,6 +42,9 @@ impl Head {
         match asked {
             Ok(request) => {
                 if have < count {
+                    drop(request);
+                    drop(line);
+                    drop(held);
                     let asked = Err(Refusal::Truncated { have, want: count });
                     return with_nothing(alloc, asked, ends);
                 }
@@ -53,7 +56,11 @@ impl Head {
                     ends,
                 }
             }
-            Err(refusal) => with_nothing(alloc, Err(refusal), ends),
+            Err(refusal) => {
+                drop(line);
+                drop(held);
+                with_nothing(alloc, Err(refusal), ends)
+            }
         }
     }
 }
@@ -81,8 +88,13 @@ pub(crate) fn read_head(alloc: Global, line: &[u8]) -> Result<Head, AllocError>
         Ok(words) => {
             let count = body_count(&words).unwrap_or(0);
             let asked = read_words(alloc, &words)?;
-            let line = kept_line(alloc, &asked, line)?;
-            Ok(Head { asked, count, line })
+            match kept_line(alloc, &asked, line) {
+                Ok(line) => Ok(Head { asked, count, line }),
+                Err(AllocError) => {
+                    drop(asked);
+                    Err(AllocError)
+                }
+            }
         }
         Err(WordError::TooLong) => Ok(refused(alloc, Refusal::TooLong)),
         Err(WordError::Syntax { at }) => Ok(refused(alloc, Refusal::Syntax { at })),

@@ -246,8 +246,16 @@ fn hold_body<S: Source>(
             Ok(Next::Request(head.heard(alloc, have, body, false)))
         }
         Ok(Passed::Short { have }) => Ok(Next::Request(head.heard(alloc, have, body, true))),
-        Ok(Passed::Long) => Ok(Next::Long),
-        Err(error) => Err(error),
+        Ok(Passed::Long) => {
+            drop(head);
+            drop(body);
+            Ok(Next::Long)
+        }
+        Err(error) => {
+            drop(head);
+            drop(body);
+            Err(error)
+        }
     }
 }
 
@@ -278,7 +286,13 @@ fn pass_body<S: Source>(
         Ok(Passed::Short { have }) => {
             Ok(Next::Request(head.heard(alloc, have, Vec::new(alloc), true)))
         }
-        Ok(Passed::Long) => Ok(Next::Long),
-        Err(SourceFault) => Err(ReadError::Source),
+        Ok(Passed::Long) => {
+            drop(head);
+            Ok(Next::Long)
+        }
+        Err(SourceFault) => {
+            drop(head);
+            Err(ReadError::Source)
+        }
     }
 }

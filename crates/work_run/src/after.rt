@@ -163,10 +163,20 @@ fn end_work<D: Disk, K: Sink, A: Ambient, P: Plugin>(
         &mut left,
     ) {
         Ok(outcome) => outcome,
-        Err(ending) => return Err(ending),
+        Err(ending) => {
+            drop(command);
+            drop(frames);
+            drop(env);
+            drop(words);
+            drop(rows);
+            return Err(ending);
+        }
     };
+    drop(frames);
+    drop(env);
     match failure_of(outcome) {
         Some(failure) => {
+            drop(words);
             let end = failed_after(failure);
             let rows = rows_told(alloc, &end, rows);
             conclude(alloc, store, outside, sink, command, rows, end)

@@ -76,10 +76,16 @@ pub fn ask<D: Disk, K: Sink, A: Ambient, P: Plugin>(
     let frames = Frames::new(alloc);
     let text = match Text::copy_of(alloc, text.as_slice()) {
         Ok(text) => text,
-        Err(AllocError) => return Err(Ending::Memory),
+        Err(AllocError) => {
+            drop(command);
+            drop(frames);
+            return Err(Ending::Memory);
+        }
     };
     let verb = Verb::Query { text };
-    begin(
+    let ended = begin(
         alloc, store, outside, sink, frames, rules, command, &verb, b"",
-    )
+    );
+    drop(verb);
+    ended
 }

@@ -102,10 +102,19 @@ pub(crate) fn run_before<D: Disk, K: Sink, A: Ambient, P: Plugin>(
         &mut left,
     ) {
         Ok(outcome) => outcome,
-        Err(ending) => return Err(ending),
+        Err(ending) => {
+            drop(command);
+            drop(frames);
+            drop(env);
+            drop(post);
+            return Err(ending);
+        }
     };
     match failure_of(outcome) {
         Some(failure) => {
+            drop(frames);
+            drop(env);
+            drop(post);
             let end = failed_before(failure);
             conclude(alloc, store, outside, sink, command, no_rows(alloc), end)
         }

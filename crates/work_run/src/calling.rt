@@ -96,7 +96,11 @@ pub(crate) fn call_for<D: Disk, K: Sink, A: Ambient, P: Plugin>(
     works_take_in_order();
     let words = match op_words(alloc, store.tables(), verb) {
         Ok(words) => words,
-        Err(AllocError) => return Err(Ending::Memory),
+        Err(AllocError) => {
+            drop(command);
+            drop(after);
+            return Err(Ending::Memory);
+        }
     };
     let mut command = command;
     match work(alloc, store, outside, sink, &mut command, verb, body) {
@@ -107,9 +111,16 @@ pub(crate) fn call_for<D: Disk, K: Sink, A: Ambient, P: Plugin>(
             )
         }
         Ok(Err(failure)) => {
+            drop(after);
+            drop(words);
             let rows = no_rows(alloc);
             conclude(alloc, store, outside, sink, command, rows, failed(failure))
         }
-        Err(ending) => Err(ending),
+        Err(ending) => {
+            drop(command);
+            drop(after);
+            drop(words);
+            Err(ending)
+        }
     }
 }

@@ -105,6 +105,7 @@ pub(crate) fn get_for<D: Disk, K: Sink, A: Ambient, P: Plugin>(
     let file = match plan_get(store.tables(), command.user, path, asked) {
         Ok(file) => file,
         Err(refusal) => {
+            drop(after);
             let rows = no_rows(alloc);
             return conclude(
                 alloc,
@@ -119,7 +120,11 @@ pub(crate) fn get_for<D: Disk, K: Sink, A: Ambient, P: Plugin>(
     };
     let words = match one_number(alloc, file.number) {
         Ok(words) => words,
-        Err(AllocError) => return Err(Ending::Memory),
+        Err(AllocError) => {
+            drop(command);
+            drop(after);
+            return Err(Ending::Memory);
+        }
     };
     let mut command = command;
     match fetch(
@@ -139,10 +144,17 @@ pub(crate) fn get_for<D: Disk, K: Sink, A: Ambient, P: Plugin>(
             )
         }
         Ok(Err(failure)) => {
+            drop(after);
+            drop(words);
             let rows = no_rows(alloc);
             conclude(alloc, store, outside, sink, command, rows, failed(failure))
         }
-        Err(ending) => Err(ending),
+        Err(ending) => {
+            drop(command);
+            drop(after);
+            drop(words);
+            Err(ending)
+        }
     }
 }
 

@@ -76,7 +76,12 @@ pub(crate) fn do_ruled<D: Disk, K: Sink, A: Ambient, P: Plugin>(
     works_take_in_order();
     let env = match variables_of(alloc, store.tables(), command.user, verb, body) {
         Ok(env) => env,
-        Err(AllocError) => return Err(Ending::Memory),
+        Err(AllocError) => {
+            drop(command);
+            drop(frames);
+            drop(names);
+            return Err(Ending::Memory);
+        }
     };
     run_before(
         alloc, store, outside, sink, frames, rules, env, command, verb, body, names.pre, names.post,

@@ -90,7 +90,11 @@ pub(crate) fn show_for<D: Disk, K: Sink, A: Ambient, P: Plugin>(
     works_take_in_order();
     let answer = match asked_rows(alloc, store, command.user, text) {
         Ok(answer) => answer,
-        Err(AllocError) => return Err(Ending::Memory),
+        Err(AllocError) => {
+            drop(command);
+            drop(after);
+            return Err(Ending::Memory);
+        }
     };
     match answer {
         Answer::Rows(rows) => {
@@ -100,6 +104,7 @@ pub(crate) fn show_for<D: Disk, K: Sink, A: Ambient, P: Plugin>(
             )
         }
         Answer::Refused { at } => {
+            drop(after);
             let rows = no_rows(alloc);
             let end = End::Refused(Refusal::BadQuery { at });
             conclude(alloc, store, outside, sink, command, rows, end)

@@ -81,15 +81,22 @@ pub(crate) fn begin<D: Disk, K: Sink, A: Ambient, P: Plugin>(
     are_kept(command.run, command.number, command.user);
     let names = match names_of(alloc, rules, verb) {
         Ok(names) => names,
-        Err(AllocError) => return Err(Ending::Memory),
+        Err(AllocError) => {
+            drop(command);
+            drop(frames);
+            return Err(Ending::Memory);
+        }
     };
     match names {
         Some(names) => do_ruled(
             alloc, store, outside, sink, frames, rules, command, verb, body, names,
         ),
-        None => do_work(
-            alloc, store, outside, sink, rules, command, verb, body, None,
-        ),
+        None => {
+            drop(frames);
+            do_work(
+                alloc, store, outside, sink, rules, command, verb, body, None,
+            )
+        }
     }
 }
 

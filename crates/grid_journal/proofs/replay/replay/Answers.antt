@@ -16,23 +16,19 @@ replay_record-requires c =
     let at = at_placed c.args.records.now c.loop-logged.logged-index c.logged-item.result c.loop-logged-test.true c.logged-item.is in
     fits_at rs c.loop-logged.logged-index (placed_body c.logged-item.result) c.requires.places c.requires.end at.0 at.1
 
-pub returns-in_err-replay_record : goal.returns-in_err-replay_record
-returns-in_err-replay_record c =
+pub returns-in-Err : goal.returns-in-Err
+returns-in-Err c =
     let rs = map placed_body c.args.records.now in
     let r = placed_body c.logged-item.result in
     let at = at_placed c.args.records.now c.loop-logged.logged-index c.logged-item.result c.loop-logged-test.true c.logged-item.is in
-    let Q : ReplayError → Type 0 = ReplayStopsAt (λ k. Replays empty_cat rs (Err k)) in
-    let stops : Q c.in_err-replay_record.field-0.0 = stops_later (IsAtFault r c.loop-logged.tables) (λ k. Replays empty_cat rs (Err k)) c.in_err-replay_record.field-0.0
-    (λ k h. comes_to_fault rs c.loop-logged.logged-index k r c.loop-logged.tables at.0 at.1 c.loop-logged.invariant h) c.in_err-replay_record.ensures in
-    let p = err_from_is_err_and c.from_residual.result c.from_residual.ensures.1 in
-    let P : Result Cat ReplayError → Type 0 = λ x. MatchResult x (λ tables. Replays empty_cat rs (Ok tables)) Q in
-    subst P (sym p.1) (subst Q (sym p.2) stops)
+    stops_later (IsAtFault r c.loop-logged.tables) (λ k. Replays empty_cat rs (Err k)) c.in-Err.error
+    (λ k h. comes_to_fault rs c.loop-logged.logged-index k r c.loop-logged.tables at.0 at.1 c.loop-logged.invariant h) c.in-Err.ensures
 
 pub loop-logged-preserved : goal.loop-logged-preserved
 loop-logged-preserved c =
     let rs = map placed_body c.args.records.now in
     let at = at_placed c.args.records.now c.loop-logged.logged-index c.logged-item.result c.loop-logged-test.true c.logged-item.is in
-    comes_on rs c.loop-logged.logged-index (placed_body c.logged-item.result) c.loop-logged.tables c.replay_record.new.tables at.0 at.1 c.loop-logged.invariant c.in_ok-replay_record.ensures
+    comes_on rs c.loop-logged.logged-index (placed_body c.logged-item.result) c.loop-logged.tables c.replay_record.new.tables at.0 at.1 c.loop-logged.invariant c.in-Ok.ensures
 
 pub returns : goal.returns
 returns c =

@@ -9,7 +9,7 @@ use Rattle.grid_journal.proofs.replay.take_each.Goals as goal
 pub loop-delta-preserved : goal.loop-delta-preserved
 loop-delta-preserved c = record {
   count_is = omega (arith, length_push c.loop-delta.yielded c.in-Some.delta, c.loop-delta.invariant.count_is);
-  taken = takes_more c.loop-delta.yielded c.in-Some.delta c.args.tables.now c.loop-delta.tables c.apply.new.self c.loop-delta.invariant.taken (c.in_ok-is_kept.ensures.kept c.if-not-is_kept.false) c.in-Ok.ensures.applied;
+  taken = takes_more c.loop-delta.yielded c.in-Some.delta c.args.tables.now c.loop-delta.tables c.apply.new.self c.loop-delta.invariant.taken (c.in-Ok.ensures.kept c.if-not-is_kept.false) c.in-Ok-apply.ensures.applied;
 }
 
 pub returns-then-not-is_kept : goal.returns-then-not-is_kept
@@ -18,7 +18,7 @@ returns-then-not-is_kept c =
     let front = YieldsList-so_far all c.loop-delta.yielded c.loop-delta.delta-iterator c.loop-delta.yielded_by in
     let turn = YieldsList-turn all c.loop-delta.yielded c.loop-delta.delta-iterator c.loop-delta.yielded_by c.next.result c.next.new.self c.in-Some.delta c.in-Some.is c.next.ensures.steps in
     refuses_next c.args.deltas c.loop-delta.yielded c.in-Some.delta c.loop-delta.count c.args.tables.now c.loop-delta.tables (sym (map-id c.loop-delta.yielded) ∙ front) turn
-    c.loop-delta.invariant.count_is c.loop-delta.invariant.taken (inl (c.in_ok-is_kept.ensures.others c.if-not-is_kept.true))
+    c.loop-delta.invariant.count_is c.loop-delta.invariant.taken (inl (c.in-Ok.ensures.others c.if-not-is_kept.true))
 
 pub returns-in-Err-BadDelta : goal.returns-in-Err-BadDelta
 returns-in-Err-BadDelta c =

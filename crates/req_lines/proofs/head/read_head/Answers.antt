@@ -3,10 +3,10 @@ use Rattle.grid_model.specs.declared.refusal.Refusal.TheVariants as refusal
 use Rattle.req_lines.proofs.HeadLemmas.{not_long, head_of, head_long, head_spoilt}
 use Rattle.req_lines.proofs.head.read_head.Goals as goal
 
-pub returns-in_ok-line-in-Ok : goal.returns-in_ok-line-in-Ok
-returns-in_ok-line-in-Ok c =
+pub returns-in-Ok-kept_line : goal.returns-in-Ok-kept_line
+returns-in-Ok-kept_line c =
     head_of c.args.line.now c.in-Ok.words _ _ _ _ (not_long _ (λ lt. let e = c.words.ensures.too_long.1 lt in cc (e, c.in-Ok.is))) c.in-Ok.ensures.words c.in-Ok.ensures.only c.in_ok-asked-in-Ok.ensures
-    c.body_count.ensures.count c.body_count.ensures.none c.unwrap_or-count.ensures c.in_ok-line-in-Ok.ensures
+    c.body_count.ensures.count c.body_count.ensures.none c.unwrap_or-count.ensures c.in-Ok-kept_line.ensures
 
 pub returns-in-Err-TooLong : goal.returns-in-Err-TooLong
 returns-in-Err-TooLong c =

@@ -27,58 +27,58 @@ returns-in-Err-clause-passes g c =
 
 -- ---- it is asked
 
-pub begin-requires-clause-held : goal.begin-requires-clause-held
-begin-requires-clause-held g c = c.requires.held
+pub begin-ended-requires-clause-held : goal.begin-ended-requires-clause-held
+begin-ended-requires-clause-held g c = c.requires.held
 
-pub begin-requires-clause-staged : goal.begin-requires-clause-staged
-begin-requires-clause-staged g c = c.requires.staged
+pub begin-ended-requires-clause-staged : goal.begin-ended-requires-clause-staged
+begin-ended-requires-clause-staged g c = c.requires.staged
 
-pub begin-requires-clause-pending : goal.begin-requires-clause-pending
-begin-requires-clause-pending g c = c.requires.pending
+pub begin-ended-requires-clause-pending : goal.begin-ended-requires-clause-pending
+begin-ended-requires-clause-pending g c = c.requires.pending
 
-pub begin-requires-clause-user : goal.begin-requires-clause-user
-begin-requires-clause-user g c = c.requires.user
+pub begin-ended-requires-clause-user : goal.begin-ended-requires-clause-user
+begin-ended-requires-clause-user g c = c.requires.user
 
-pub begin-requires-clause-line : goal.begin-requires-clause-line
-begin-requires-clause-line g c = c.requires.line
+pub begin-ended-requires-clause-line : goal.begin-ended-requires-clause-line
+begin-ended-requires-clause-line g c = c.requires.line
 
-pub begin-requires-clause-begun : goal.begin-requires-clause-begun
-begin-requires-clause-begun g c = c.requires.begun
+pub begin-ended-requires-clause-begun : goal.begin-ended-requires-clause-begun
+begin-ended-requires-clause-begun g c = c.requires.begun
 
-pub begin-requires-clause-slots : goal.begin-requires-clause-slots
-begin-requires-clause-slots g c = c.requires.slots
+pub begin-ended-requires-clause-slots : goal.begin-ended-requires-clause-slots
+begin-ended-requires-clause-slots g c = c.requires.slots
 
-pub begin-requires-clause-checked : goal.begin-requires-clause-checked
-begin-requires-clause-checked g c = c.requires.checked
+pub begin-ended-requires-clause-checked : goal.begin-ended-requires-clause-checked
+begin-ended-requires-clause-checked g c = c.requires.checked
 
-pub begin-requires-clause-ready : goal.begin-requires-clause-ready
-begin-requires-clause-ready g c = c.requires.ready
+pub begin-ended-requires-clause-ready : goal.begin-ended-requires-clause-ready
+begin-ended-requires-clause-ready g c = c.requires.ready
 
-pub begin-requires-clause-words : goal.begin-requires-clause-words
-begin-requires-clause-words g c = tt
+pub begin-ended-requires-clause-words : goal.begin-ended-requires-clause-words
+begin-ended-requires-clause-words g c = tt
 
-pub begin-requires-clause-verb : goal.begin-requires-clause-verb
-begin-requires-clause-verb g c = tt
+pub begin-ended-requires-clause-verb : goal.begin-ended-requires-clause-verb
+begin-ended-requires-clause-verb g c = tt
 
-pub begin-requires-clause-frames : goal.begin-requires-clause-frames
-begin-requires-clause-frames g c = (c.new-frames.ensures.begun, c.new-frames.ensures.stopped)
+pub begin-ended-requires-clause-frames : goal.begin-ended-requires-clause-frames
+begin-ended-requires-clause-frames g c = (c.new-frames.ensures.begun, c.new-frames.ensures.stopped)
 
 pub returns-clause-executes : goal.returns-clause-executes
 returns-clause-executes g c source at request q asked reads does_so rules_is makes =
-    c.begin.ensures.executes source at request (query q) asked (subst (λ (t : Text). ReadsQuery t q) (sym (c.in-Ok.ensures ∙ c.as_slice.ensures)) reads) does_so rules_is
+    c.begin-ended.ensures.executes source at request (query q) asked (subst (λ (t : Text). ReadsQuery t q) (sym (c.in-Ok.ensures ∙ c.as_slice.ensures)) reads) does_so rules_is
     makes
 
 pub returns-clause-passes : goal.returns-clause-passes
-returns-clause-passes g c = c.begin.ensures.passes
+returns-clause-passes g c = c.begin-ended.ensures.passes
 
 pub returns-clause-idle : goal.returns-clause-idle
-returns-clause-idle g c none = c.begin.ensures.idle none tt
+returns-clause-idle g c none = c.begin-ended.ensures.idle none tt
 
 pub returns-clause-files : goal.returns-clause-files
-returns-clause-files g c place none is = c.begin.ensures.files 0 place none is
+returns-clause-files g c place none is = c.begin-ended.ensures.files 0 place none is
 
 pub returns-clause-drawn : goal.returns-clause-drawn
-returns-clause-drawn g c = omega (arith, c.begin.ensures.drawn (2 ^ 65) many)
+returns-clause-drawn g c = omega (arith, c.begin-ended.ensures.drawn (2 ^ 65) many)
 
 pub returns-clause-few : goal.returns-clause-few
-returns-clause-few g c within = omega (arith, c.begin.ensures.drawn (2 ^ 20) (few within))
+returns-clause-few g c within = omega (arith, c.begin-ended.ensures.drawn (2 ^ 20) (few within))
