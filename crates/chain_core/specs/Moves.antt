@@ -64,6 +64,10 @@ abbrev pub taken_up : Frames → Outcome → List Frame → Frames
 taken_up m o [] = record m { control = Ended o }
 taken_up m o (f ∷ fs) = record m { waiting = fs; control = resumed f o }
 
+-- it waits for this
+abbrev pub under : Frames → Control → Frames
+under m c = record m { control = c }
+
 -- one move that asks for nothing, from this control; where there is none it stays
 abbrev pub move_by : List Rule → Frames → Control → Frames
 move_by rules m (GoesOn f) = elim (nat_lt f.step (length (rule_at rules f.rule).steps)) [

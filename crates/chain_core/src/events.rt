@@ -1,6 +1,6 @@
 //! How the machine takes what came of an action.
 ghost use Rattle.chain_core.specs.Answers.{IsKind, IsUsable};
-ghost use Rattle.chain_core.specs.Moves.{next_by, counted_step, waiting_for};
+ghost use Rattle.chain_core.specs.Moves.{next_by, counted_step, under, waiting_for};
 ghost use Rattle.chain_core.specs.declared.actions.Event.{Event};
 ghost use Rattle.chain_core.specs.declared.actions.Event.TheVariants as event;
 ghost use Rattle.chain_core.specs.declared.frames.Control.TheVariants as control;
@@ -34,13 +34,27 @@ pub fn one_more(begun: u64) -> Result<u64, AllocError>
 }
 
 impl Frames {
+    /// It waits for this from now on.
+    pub(crate) fn set(&mut self, control: Control)
+        ensures { self.new ≡ under self.old control }
+    {
+        drop(mem::replace(&mut self.control, control));
+    }
+
     /// The frame waits for its step.
     fn wait(&mut self, frame: Frame, control: Control) -> Result<(), AllocError>
         ensures { OnOk result (self.new ≡ waiting_for self.old frame control) }
     {
-        self.waiting.push(frame)?;
-        self.control = control;
-        Ok(())
+        match self.waiting.push(frame) {
+            Ok(()) => {
+                self.set(control);
+                Ok(())
+            }
+            Err(AllocError) => {
+                drop(control);
+                Err(AllocError)
+            }
+        }
     }
 
     /// A step of the frame begins, which is counted already.
@@ -65,13 +79,21 @@ impl Frames {
             }
             Kind::Succeed => {
                 cut_calls(alloc, &mut self.undo, frame.base);
-                self.control = Control::Ended(Outcome::EndedWell);
+                self.set(Control::Ended(Outcome::EndedWell));
                 Ok(())
             }
             other => {
-                self.waiting.push(frame)?;
-                self.control = control_of(rules, self.waiting.len(), call, other);
-                Ok(())
+                match self.waiting.push(frame) {
+                    Ok(()) => {
+                        let control = control_of(rules, self.waiting.len(), call, other);
+                        self.set(control);
+                        Ok(())
+                    }
+                    Err(AllocError) => {
+                        drop(call);
+                        Err(AllocError)
+                    }
+                }
             }
         }
     }
@@ -109,10 +131,13 @@ impl Frames {
                 frame.step = 0;
                 frame.base = self.undo.as_slice().len();
                 frame.cut = false;
-                self.control = Control::GoesOn(frame);
+                self.set(Control::GoesOn(frame));
             }
-            Event::Tested(false) => self.control = next_rule(rules, frame, last),
-            _ => self.control = Control::Tests(frame, last),
+            Event::Tested(false) => self.set(next_rule(rules, frame, last)),
+            other => {
+                drop(other);
+                self.set(Control::Tests(frame, last));
+            }
         }
     }
 
@@ -121,13 +146,20 @@ impl Frames {
         ensures { (rules : List Rule) (k : Kind) → self.new ≡ next_by rules self.old (control.Runs call) event k }
     {
         match event {
-            Event::Ran(Ok(())) => self.control = Control::Ended(Outcome::EndedWell),
+            Event::Ran(Ok(())) => {
+                drop(call);
+                self.set(Control::Ended(Outcome::EndedWell));
+            }
             Event::Ran(Err(failure)) => {
+                drop(call);
                 let stopped = is_stopped(&failure) || self.stopped;
                 self.stopped = stopped;
-                self.control = Control::Ended(failed_as(failure, stopped));
+                self.set(Control::Ended(failed_as(failure, stopped)));
             }
-            _ => self.control = Control::Runs(call),
+            other => {
+                drop(other);
+                self.set(Control::Runs(call));
+            }
         }
     }
 
@@ -142,7 +174,7 @@ impl Frames {
     )
         ensures { (rules : List Rule) (k : Kind) → self.new ≡ next_by rules self.old (control.Fails frame failure halts) event.now k }
     {
-        self.control = Control::Fails(frame, failure, halts);
+        self.set(Control::Fails(frame, failure, halts));
         match event {
             Event::Undone(None) => drop_call(alloc, &mut self.undo),
             Event::Undone(Some(refused)) => {
@@ -173,11 +205,12 @@ impl Frames {
             }
             Event::LongText => {
                 self.begun = one_more(self.begun)?;
-                self.control = Control::Fails(frame, Failure::LongText, false);
+                self.set(Control::Fails(frame, Failure::LongText, false));
                 Ok(())
             }
-            _ => {
-                self.control = Control::GoesOn(frame);
+            other => {
+                drop(other);
+                self.set(Control::GoesOn(frame));
                 Ok(())
             }
         }
@@ -208,7 +241,7 @@ impl Frames {
                 Ok(())
             }
             Control::Ended(outcome) => {
-                self.control = Control::Ended(outcome);
+                self.set(Control::Ended(outcome));
                 Ok(())
             }
         }

@@ -25,7 +25,7 @@ impl Frames {
         self.waiting.clear();
         self.undo = Calls::from_vec(Vec::new(alloc));
         self.by_itself = false;
-        self.control = called(rules, 0, Call { name, args });
+        self.set(called(rules, 0, Call { name, args }));
     }
 
     /// The call is done by itself.
@@ -38,9 +38,9 @@ impl Frames {
         self.undo = Calls::from_vec(Vec::new(alloc));
         self.by_itself = true;
         if MOST_STEPS < self.begun {
-            self.control = Control::Ended(Outcome::Halted(Failure::Spent));
+            self.set(Control::Ended(Outcome::Halted(Failure::Spent)));
         } else {
-            self.control = control_of(rules, 0, call, kind);
+            self.set(control_of(rules, 0, call, kind));
         }
         Ok(())
     }

@@ -23,11 +23,11 @@ impl Frames {
         ensures going { result ≡ not (is_settled_by (rules_of rules.now) self.old (control.GoesOn frame)) }
     {
         if frame.step < rules.steps(frame.rule) {
-            self.control = Control::GoesOn(frame);
+            self.set(Control::GoesOn(frame));
             return false;
         }
         cut_calls(alloc, &mut self.undo, frame.base);
-        self.control = Control::Ended(Outcome::EndedWell);
+        self.set(Control::Ended(Outcome::EndedWell));
         true
     }
 
@@ -37,10 +37,10 @@ impl Frames {
         ensures going { result ≡ not (is_settled_by (rules_of rules.now) self.old (control.Fails frame failure halts)) }
     {
         if frame.base < self.undo.as_slice().len() {
-            self.control = Control::Fails(frame, failure, halts);
+            self.set(Control::Fails(frame, failure, halts));
             return false;
         }
-        self.control = rule_failed(rules, frame, failure, halts, self.stopped);
+        self.set(rule_failed(rules, frame, failure, halts, self.stopped));
         true
     }
 
@@ -51,11 +51,11 @@ impl Frames {
     {
         match self.waiting.pop() {
             None => {
-                self.control = Control::Ended(outcome);
+                self.set(Control::Ended(outcome));
                 false
             }
             Some(frame) => {
-                self.control = resumed(frame, outcome);
+                self.set(resumed(frame, outcome));
                 true
             }
         }
@@ -71,7 +71,7 @@ impl Frames {
             Control::Fails(frame, failure, halts) => self.go_back(rules, frame, failure, halts),
             Control::Ended(outcome) => self.take_up(rules, outcome),
             other => {
-                self.control = other;
+                self.set(other);
                 false
             }
         }

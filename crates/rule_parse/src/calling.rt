@@ -81,13 +81,14 @@ impl Calling {
         ensures { IfOk result (λ done. calling_of self.new ≡ calling stage.Named at name.now [] new_reader) }
     {
         let name = Text::copy_of(alloc, name)?;
-        *self = Calling {
+        let begun = Calling {
             stage: CallStage::Named,
             at,
             name,
             args: Vec::new(alloc),
             reader: Reader::new(alloc),
         };
+        drop(mem::replace(self, begun));
         Ok(())
     }
 
@@ -97,7 +98,7 @@ impl Calling {
             (map term_of self.old.args.items ++ term_of arg ∷ []) new_reader) }
     {
         self.args.push(arg)?;
-        self.reader = Reader::new(alloc);
+        self.reader.clear(alloc);
         self.stage = stage;
         Ok(())
     }
@@ -160,10 +161,18 @@ impl Calling {
     fn into_call(self) -> Call0
         ensures { call_of result ≡ record { place = self.at; name = self.name; args = map term_of self.args.items } }
     {
+        let Calling {
+            at,
+            name,
+            args,
+            reader,
+            ..
+        } = self;
+        drop(reader);
         Call0 {
-            name: self.name,
-            args: Exprs::from_vec(self.args),
-            at: self.at,
+            name,
+            args: Exprs::from_vec(args),
+            at,
         }
     }
 
@@ -176,11 +185,15 @@ impl Calling {
                 if is_special(self.name.as_slice()) {
                     Some(self.into_call())
                 } else {
+                    drop(self);
                     None
                 }
             }
             CallStage::Closed => Some(self.into_call()),
-            _ => None,
+            _ => {
+                drop(self);
+                None
+            }
         }
     }
 

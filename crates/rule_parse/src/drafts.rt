@@ -118,12 +118,26 @@ impl Draft {
     fn into_rule(self) -> Rule
         ensures { RuleRead.ends (rule_of result) ≡ whole_rule (draft_of self) }
     {
+        let Draft {
+            at,
+            name,
+            params,
+            cond,
+            steps,
+            reader,
+            first,
+            calling,
+            ..
+        } = self;
+        drop(reader);
+        drop(first);
+        drop(calling);
         Rule {
-            name: self.name,
-            params: Texts::from_vec(self.params),
-            cond: self.cond,
-            steps: Steps::from_vec(self.steps),
-            at: self.at,
+            name,
+            params: Texts::from_vec(params),
+            cond,
+            steps: Steps::from_vec(steps),
+            at,
         }
     }
 
@@ -237,7 +251,7 @@ impl Draft {
     {
         match value {
             Value::Symbol(Symbol::OpenParenthesis) => {
-                self.reader = Reader::new(alloc);
+                self.reader.clear(alloc);
                 self.go(RuleStage::Condition)
             }
             _ => RuleTaken::Refused,
@@ -256,11 +270,14 @@ impl Draft {
     {
         match self.reader.take(alloc, at, value)? {
             Taken::Refused => Ok(RuleTaken::Refused),
-            Taken::Comma(_) => Ok(RuleTaken::Refused),
+            Taken::Comma(arg) => {
+                drop(arg);
+                Ok(RuleTaken::Refused)
+            }
             Taken::Goes => Ok(RuleTaken::Goes),
             Taken::Close(cond) => {
-                self.cond = Some(cond);
-                self.reader = Reader::new(alloc);
+                drop(mem::replace(&mut self.cond, Some(cond)));
+                self.reader.clear(alloc);
                 Ok(self.go(RuleStage::BehindCondition))
             }
         }
@@ -315,7 +332,7 @@ impl Draft {
         match self.calling.finish(alloc) {
             None => RuleTaken::Refused,
             Some(call) => {
-                self.first = Some(call);
+                drop(mem::replace(&mut self.first, Some(call)));
                 RuleTaken::Goes
             }
         }

@@ -80,6 +80,13 @@ impl Reader {
         }
     }
 
+    /// Then nothing is read. It takes no memory.
+    pub fn clear(&mut self, alloc: Global)
+        ensures { reader_of self.new ≡ new_reader }
+    {
+        drop(mem::replace(self, Reader::new(alloc)));
+    }
+
     /// Takes an operand without operators.
     fn hold(&mut self, at: u64, form: Form) -> Taken
         requires { self.old.operand ≡ None }

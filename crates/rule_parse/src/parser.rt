@@ -22,11 +22,19 @@ pub fn rules_from(alloc: Global, tokens: Tokens<'_>, end: usize) -> Result<Rules
     let mut reading = Reading::new(alloc);
     for token in tokens {
         let at = token.at as u64;
-        if !reading.take(alloc, at, token.value)? {
-            return Err(RuleError::BadRule {
-                at,
-                cause: RuleCause::Grammar,
-            });
+        match reading.take(alloc, at, token.value) {
+            Ok(true) => {}
+            Ok(false) => {
+                drop(reading);
+                return Err(RuleError::BadRule {
+                    at,
+                    cause: RuleCause::Grammar,
+                });
+            }
+            Err(error) => {
+                drop(reading);
+                return Err(RuleError::from(error));
+            }
         }
     }
     match reading.finish() {
@@ -47,11 +55,19 @@ pub fn call_from(alloc: Global, tokens: Tokens<'_>, end: usize) -> Result<Call0,
     let mut calling = Calling::new(alloc);
     for token in tokens {
         let at = token.at as u64;
-        if !calling.take(alloc, at, token.value)? {
-            return Err(RuleError::BadRule {
-                at,
-                cause: RuleCause::Grammar,
-            });
+        match calling.take(alloc, at, token.value) {
+            Ok(true) => {}
+            Ok(false) => {
+                drop(calling);
+                return Err(RuleError::BadRule {
+                    at,
+                    cause: RuleCause::Grammar,
+                });
+            }
+            Err(error) => {
+                drop(calling);
+                return Err(RuleError::from(error));
+            }
         }
     }
     match calling.whole() {

@@ -46,9 +46,15 @@ impl Reading {
     pub fn finish(self) -> Option<Rules>
         ensures { option_map (λ rules. map rule_of rules) result ≡ finish (progress_of self) }
     {
-        match self.draft.stage {
-            RuleStage::Start => Some(Rules::from_vec(self.rules)),
-            _ => None,
+        let Reading { rules, draft } = self;
+        let stage = draft.stage;
+        drop(draft);
+        match stage {
+            RuleStage::Start => Some(Rules::from_vec(rules)),
+            _ => {
+                drop(rules);
+                None
+            }
         }
     }
 }

@@ -4,9 +4,10 @@ ghost use Rattle.std.specs.List.{list_all};
 ghost use Rattle.grid_outside.specs.Device.{Between, IsSettled};
 ghost use Rattle.grid_outside.specs.Fault.{Rose};
 ghost use Rattle.grid_outside.specs.Sink.{AddsPart};
+ghost use Rattle.grid_model.specs.Replies.{rest_lines};
 ghost use Rattle.grid_model.specs.Rows.{Cat};
 ghost use Rattle.grid_model.specs.Words.{is_word_byte};
-ghost use Rattle.grid_model.specs.Writable.{is_word, is_writable_end, is_writable_passed};
+ghost use Rattle.grid_model.specs.Writable.{is_word, is_writable, is_writable_end, is_writable_passed};
 ghost use Rattle.grid_journal.specs.Journal.{can_be_kept};
 ghost use Rattle.grid_deed.specs.Held.{IsHeld};
 ghost use Rattle.grid_deed.specs.Safe.{KeepBothWhole};
@@ -63,15 +64,26 @@ pub fn finish<D: Disk, K: Sink, A: Ambient, P: Plugin>(
     };
     if nothing {
         match tell(&mut outside.moments, sink, command.untold.as_slice()) {
-            Ok(()) => return Ok(()),
-            Err(SinkFault) => return Err(Ending::Sink),
+            Ok(()) => {
+                drop(command);
+                return Ok(());
+            }
+            Err(SinkFault) => {
+                drop(command);
+                return Err(Ending::Sink);
+            }
         }
     }
     let deltas = match last_deltas(alloc, store.tables(), number) {
         Ok(deltas) => deltas,
-        Err(AllocError) => return Err(Ending::Memory),
+        Err(AllocError) => {
+            drop(command);
+            return Err(Ending::Memory);
+        }
     };
-    note(alloc, store, outside, sink, &mut command, deltas)
+    let noted = note(alloc, store, outside, sink, &mut command, deltas);
+    drop(command);
+    noted
 }
 
 // Whether nothing is to be kept of the command.
@@ -128,21 +140,58 @@ fn with_rest(alloc: Global, command: Command, rows: Rows, end: End) -> Result<Co
     }) }
 {
     if !are_words(command.passed.as_slice()) {
+        drop(command);
+        drop(rows);
+        drop(end);
         return Err(AllocError);
     }
-    let reply = reply_of(alloc, command.passed, rows, end);
-    let back = rest(alloc, command.number, &reply)?;
-    let mut untold = command.untold.into_vec();
-    untold.extend_from_slice(back.as_slice())?;
-    Ok(Command {
-        run: command.run,
-        number: command.number,
-        user: command.user,
-        line: command.line,
-        marks: command.marks,
-        passed: Passeds::from_vec(Vec::new(alloc)),
-        untold: Text::from_vec(untold),
-    })
+    let Command {
+        run,
+        number,
+        user,
+        line,
+        marks,
+        passed,
+        untold,
+    } = command;
+    let reply = reply_of(alloc, passed, rows, end);
+    match with_reply(alloc, untold, number, &reply) {
+        Ok(untold) => {
+            drop(reply);
+            Ok(Command {
+                run,
+                number,
+                user,
+                line,
+                marks,
+                passed: Passeds::from_vec(Vec::new(alloc)),
+                untold,
+            })
+        }
+        Err(AllocError) => {
+            drop(reply);
+            drop(line);
+            drop(marks);
+            Err(AllocError)
+        }
+    }
+}
+
+// The text with the rest of the reply of the command of this number behind it. Fails for want of memory alone.
+fn with_reply(alloc: Global, untold: Text, number: u64, reply: &Reply) -> Result<Text, AllocError>
+    requires { IsTrue (is_writable reply.now) }
+    ensures { IfOk result (λ told. told ≡ untold ++ rest_lines number reply.now) }
+{
+    let back = match rest(alloc, number, reply) {
+        Ok(back) => back,
+        Err(AllocError) => {
+            drop(untold);
+            return Err(AllocError);
+        }
+    };
+    let mut told = untold.into_vec();
+    told.extend_from_slice(back.as_slice())?;
+    Ok(Text::from_vec(told))
 }
 
 // A reply that has nothing but recoveries that were passed over, rows and its end.

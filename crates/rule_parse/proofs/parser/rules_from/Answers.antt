@@ -10,12 +10,12 @@ use Rattle.rule_parse.proofs.Parsing.{seen, tokens_of, tokens_more, split_more, 
 use Rattle.rule_parse.proofs.Readings.{rules_are_read}
 use Rattle.rule_parse.proofs.parser.rules_from.Goals as goal
 
-pub returns-then-not-branch-clause-stops : goal.returns-then-not-branch-clause-stops
-returns-then-not-branch-clause-stops c = λ at cause is.
+pub returns-in-Ok-false-clause-stops : goal.returns-in-Ok-false-clause-stops
+returns-in-Ok-false-clause-stops c = λ at cause is.
     let next = rw c.in-Some.is at c.next.ensures.steps in
     let x = c.in-Some.token in
     is_stop (cc) (cc)
-    (stops_there read finish new_progress SpellsRules rules_are_read x (progress_of c.loop-token.reading) c.args.end c.loop-token.invariant.split next.0 c.loop-token.invariant.runs (follows_none (progress_of c.take.new.self) c.in_ok-take.field-0 c.if-not-branch.true c.in_ok-take.ensures))
+    (stops_there read finish new_progress SpellsRules rules_are_read x (progress_of c.loop-token.reading) c.args.end c.loop-token.invariant.split next.0 c.loop-token.invariant.runs (follows_none (progress_of c.take.new.self) c.in-Ok-false.field-0 c.in-Ok-false.field-0-test c.in-Ok-false.ensures))
 
 pub loop-token-preserved : goal.loop-token-preserved
 loop-token-preserved c =
@@ -24,7 +24,7 @@ loop-token-preserved c =
     let front = c.loop-token.yielded in
     record {
       runs = ap (run read new_progress) (tokens_more front x)
-          ∙ run_more read new_progress (tokens_of front) (located (rule_token_of x)) (progress_of c.loop-token.reading) (progress_of c.take.new.self) c.loop-token.invariant.runs (follows_some (progress_of c.take.new.self) c.in_ok-take.field-0 c.if-not-branch.false c.in_ok-take.ensures);
+          ∙ run_more read new_progress (tokens_of front) (located (rule_token_of x)) (progress_of c.loop-token.reading) (progress_of c.take.new.self) c.loop-token.invariant.runs (follows_some (progress_of c.take.new.self) c.in-Ok-true.field-0 c.in-Ok-true.field-0-test c.in-Ok-true.ensures);
       split = split_more x c.loop-token.invariant.split next.0 next.1;
     }
 

@@ -111,11 +111,11 @@ returns-in-Err-last_deltas-clause-passes g c =
 
 -- ---- one commit was tried
 
-pub note-requires-clause-held : goal.note-requires-clause-held
-note-requires-clause-held g c = c.requires.held
+pub note-noted-requires-clause-held : goal.note-noted-requires-clause-held
+note-noted-requires-clause-held g c = c.requires.held
 
-pub note-requires-clause-change : goal.note-requires-clause-change
-note-requires-clause-change g c =
+pub note-noted-requires-clause-change : goal.note-noted-requires-clause-change
+note-noted-requires-clause-change g c =
     let cat = c.args.store.now.cat in
     let held = c.requires.held.1 in
     let made = made_more c.requires.held.0 cat c.args.store.now.staged held.made held.staged in
@@ -124,36 +124,36 @@ note-requires-clause-change g c =
     let are = c.in-Ok-last_deltas.ensures.is ∙ ap (λ (t : Cat). end_deltas (is_some t.pending) (record t.numbers { last = n })) c.tables.ensures in
     (ended n cat, applied_end n cat some (is_some cat.pending) refl (record cat.numbers { last = n }) refl c.in-Ok-last_deltas.deltas are, turns_end n cat some)
 
-pub note-requires-clause-spelled : goal.note-requires-clause-spelled
-note-requires-clause-spelled g c = c.in-Ok-last_deltas.ensures.spelled
+pub note-noted-requires-clause-spelled : goal.note-noted-requires-clause-spelled
+note-noted-requires-clause-spelled g c = c.in-Ok-last_deltas.ensures.spelled
 
-pub note-requires-clause-ready : goal.note-requires-clause-ready
-note-requires-clause-ready g c = c.requires.ready
+pub note-noted-requires-clause-ready : goal.note-noted-requires-clause-ready
+note-noted-requires-clause-ready g c = c.requires.ready
 
 pub returns-clause-finishes : goal.returns-clause-finishes
 returns-clause-finishes g c kept held =
     let o = c.args.outside.now in
-    let n = c.note.new.outside in
+    let n = c.note-noted.new.outside in
     let x = c.args.command in
     let cat = c.args.store.now.cat in
     let main = g.D.Disk.disk o.main in
     let after = g.D.Disk.disk n.main in
     let k = g.K.Sink.sink c.args.sink.now in
-    let l = g.K.Sink.sink c.note.new.sink in
+    let l = g.K.Sink.sink c.note-noted.new.sink in
     let made = made_more kept cat c.args.store.now.staged held.made held.staged in
     let some = vault_made made.0 cat made.1 in
     let are = c.in-Ok-last_deltas.ensures.is ∙ ap (λ (t : Cat). end_deltas (is_some t.pending) (record t.numbers { last = x.number })) c.tables.ensures in
     let applied = applied_end x.number cat some (is_some cat.pending) refl (record cat.numbers { last = x.number }) refl c.in-Ok-last_deltas.deltas are in
-    let F : Text → Type 0 = λ t. IsNotedSo main after k l kept (ended x.number cat) o.moments t c.note.result c.note.new.store in
-    kept_all main after k l kept o.moments x.number c.args.store.now x (x.untold ++ rest_text x.number x.passed c.args.rows c.args.end) c.note.new.store
-    c.note.result
-    (subst F (ap (λ (z : Command). z.untold) c.in-Ok.ensures) (c.note.ensures.noted kept (ended x.number cat) held applied))
+    let F : Text → Type 0 = λ t. IsNotedSo main after k l kept (ended x.number cat) o.moments t c.note-noted.result c.note-noted.new.store in
+    kept_all main after k l kept o.moments x.number c.args.store.now x (x.untold ++ rest_text x.number x.passed c.args.rows c.args.end) c.note-noted.new.store
+    c.note-noted.result
+    (subst F (ap (λ (z : Command). z.untold) c.in-Ok.ensures) (c.note-noted.ensures.noted kept (ended x.number cat) held applied))
 
 pub returns-clause-whole : goal.returns-clause-whole
-returns-clause-whole g c = c.note.ensures.whole
+returns-clause-whole g c = c.note-noted.ensures.whole
 
 pub returns-clause-idle : goal.returns-clause-idle
 returns-clause-idle g c nothing = absurd (let on = c.has_nothing-nothing.ensures.1 nothing in let off = c.if-nothing.false in cc (on, off))
 
 pub returns-clause-passes : goal.returns-clause-passes
-returns-clause-passes g c = c.note.ensures.passes
+returns-clause-passes g c = c.note-noted.ensures.passes

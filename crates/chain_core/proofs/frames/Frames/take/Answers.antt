@@ -1,4 +1,4 @@
-use Rattle.std.proofs.Common.{◌∙◌, sym, refl}
+use Rattle.std.proofs.Common.{◌∙◌, sym}
 use Rattle.chain_core.specs.declared.kinds.Kind.TheVariants.{Name}
 use Rattle.chain_core.specs.Seen.{rules_of}
 use Rattle.chain_core.proofs.Taking.{tests_takes, runs_takes, fails_takes, ended_takes}
@@ -18,4 +18,4 @@ returns-in-Fails c =
     (sym c.replace.ensures.value ∙ c.in-Fails.is) (c.went_back.ensures (rules_of c.args.rules.now) Name)
 
 pub returns-in-Ended : goal.returns-in-Ended
-returns-in-Ended c = ended_takes (rules_of c.args.rules.now) c.args.self.now _ c.args.event c.in-Ended.outcome (sym c.replace.ensures.value ∙ c.in-Ended.is) refl
+returns-in-Ended c = ended_takes (rules_of c.args.rules.now) c.args.self.now _ c.args.event c.in-Ended.outcome (sym c.replace.ensures.value ∙ c.in-Ended.is) c.set.ensures
