@@ -3,7 +3,26 @@ use Rattle.std.specs.Prelude.{Result}
 use Rattle.grid_model.specs.declared.refusal.Failure.{Failure}
 use Rattle.chain_core.specs.Answers.{failure_in}
 use Rattle.call_laws.specs.OneCall.{IsShown, cut, passed_over, ran_out}
+use Rattle.undo_run.proofs.Loop.{passes_err, passes_memory, passes_ok}
 use Rattle.undo_run.proofs.passing.undo_one.Goals as goal
+
+pub run_call-requires-clause-held : goal.run_call-requires-clause-held
+run_call-requires-clause-held g c = c.requires.held
+
+pub run_call-requires-clause-user : goal.run_call-requires-clause-user
+run_call-requires-clause-user g c = c.requires.user
+
+pub run_call-requires-clause-words : goal.run_call-requires-clause-words
+run_call-requires-clause-words g c = c.requires.words
+
+pub run_call-requires-clause-spelled : goal.run_call-requires-clause-spelled
+run_call-requires-clause-spelled g c = c.requires.spelled
+
+pub run_call-requires-clause-slots : goal.run_call-requires-clause-slots
+run_call-requires-clause-slots g c = c.requires.slots
+
+pub run_call-requires-clause-ready : goal.run_call-requires-clause-ready
+run_call-requires-clause-ready g c = c.requires.ready
 
 pub returns-in-Ok-Ok-clause-ends : goal.returns-in-Ok-Ok-clause-ends
 returns-in-Ok-Ok-clause-ends g c source kept held = (
@@ -36,6 +55,20 @@ returns-in-Err-pass_over-clause-ends g c source kept held = ran_out c.in-Ok-Err.
 
 pub returns-in-Err-clause-ends : goal.returns-in-Err-clause-ends
 returns-in-Err-clause-ends g c source kept held = cut (c.in-Err.ensures.step source kept held)
+
+-- ---- what its calls pass
+
+pub returns-in-Ok-Ok-clause-passes : goal.returns-in-Ok-Ok-clause-passes
+returns-in-Ok-Ok-clause-passes g c = passes_ok g.D.Disk.disk g.P.Plugin.plugin g.K.Sink.sink _ _ _ _ c.in-Ok-Ok.ensures.passes
+
+pub returns-in-Ok-clause-passes : goal.returns-in-Ok-clause-passes
+returns-in-Ok-clause-passes g c = passes_ok g.D.Disk.disk g.P.Plugin.plugin g.K.Sink.sink _ _ _ _ c.in-Ok-Err.ensures.passes
+
+pub returns-in-Err-pass_over-clause-passes : goal.returns-in-Err-pass_over-clause-passes
+returns-in-Err-pass_over-clause-passes g c = passes_memory g.D.Disk.disk g.P.Plugin.plugin g.K.Sink.sink _ _ _ c.in-Ok-Err.ensures.passes
+
+pub returns-in-Err-clause-passes : goal.returns-in-Err-clause-passes
+returns-in-Err-clause-passes g c = passes_err g.D.Disk.disk g.P.Plugin.plugin g.K.Sink.sink _ _ _ c.in-Err.ensures.passes
 
 -- ---- how many moments it takes
 
