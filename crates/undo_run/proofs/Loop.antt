@@ -133,25 +133,26 @@ passes_err disk plugin sink e a b =
     passes_as disk plugin sink _ _ _ _ a b (same_error e ending.Disk) (same_error e ending.Disk) (same_error e ending.Sink)
 
 -- what succeeded failed in no way
-ok_fails : {A B : Type 0} (a : A) (x : Ending) → IsErrOf {T = A} {E = Ending} (Ok a) x → B
+ok_fails : {T : Type 0} (a : T) (x : Ending) → ¬ (IsErrOf {T = T} {E = Ending} (Ok a) x)
 ok_fails a x is = absurd (cc is)
 
-memory_fails : {A B : Type 0} (x : Ending) → (ending.Memory ≡ x → ⊥) → IsErrOf {T = A} {E = Ending} (Err ending.Memory) x → B
-memory_fails x other is = absurd (other (cc is))
+-- want of memory is no other error
+memory_fails : {T : Type 0} (x : Ending) → (ending.Memory ≡ x → ⊥) → ¬ (IsErrOf {T = T} {E = Ending} (Err ending.Memory) x)
+memory_fails x other is = other (cc is)
 
 -- calls that went well, whatever the answer is
 pub passes_ok : {X Y D A P K : Type 0} (disk : D → DiskState) (plugin : P → StoreState) (sink : K → SinkState) (x : X) (y : Y) (a b : Seen D A P K)
     → CallsPass disk plugin sink (IsErrOf {T = X} {E = Ending} (Ok x) ending.Disk) (IsErrOf {T = X} {E = Ending} (Ok x) ending.Sink) a b
     → CallsPass disk plugin sink (IsErrOf {T = Y} {E = Ending} (Ok y) ending.Disk) (IsErrOf {T = Y} {E = Ending} (Ok y) ending.Sink) a b
 passes_ok disk plugin sink x y a b =
-    passes_as disk plugin sink _ _ _ _ a b (ok_fails x ending.Disk) (ok_fails y ending.Disk) (ok_fails y ending.Sink)
+    passes_well disk plugin sink _ _ _ _ a b (ok_fails x ending.Disk) (ok_fails y ending.Disk) (ok_fails y ending.Sink)
 
 -- calls that went well, where memory ran out behind them
 pub passes_memory : {X Y D A P K : Type 0} (disk : D → DiskState) (plugin : P → StoreState) (sink : K → SinkState) (x : X) (a b : Seen D A P K)
     → CallsPass disk plugin sink (IsErrOf {T = X} {E = Ending} (Ok x) ending.Disk) (IsErrOf {T = X} {E = Ending} (Ok x) ending.Sink) a b
     → CallsPass disk plugin sink (IsErrOf {T = Y} {E = Ending} (Err ending.Memory) ending.Disk) (IsErrOf {T = Y} {E = Ending} (Err ending.Memory) ending.Sink) a b
 passes_memory disk plugin sink x a b =
-    passes_as disk plugin sink _ _ _ _ a b (ok_fails x ending.Disk) (memory_fails ending.Disk (λ e. cc e)) (memory_fails ending.Sink (λ e. cc e))
+    passes_well disk plugin sink _ _ _ _ a b (ok_fails x ending.Disk) (memory_fails ending.Disk (λ e. cc e)) (memory_fails ending.Sink (λ e. cc e))
 
 module _ {D A P K : Type 0} (disk : D → DiskState) (ambient : A → AmbientState) (plugin : P → StoreState) (sink : K → SinkState) (source : SourceState)
     (from : Seen D A P K) where
